@@ -1,0 +1,4 @@
+// zerwydd {
+pub mod path;
+pub mod value;
+// zerwydd }
