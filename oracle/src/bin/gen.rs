@@ -9,11 +9,13 @@ use oracle_core::gen::{cases, sheets, Order, PROFILES, SMALL};
 
 const USAGE: &str = "\
 usage: gen PROFILE --seed S --count N [--max-bytes B] [--small] [--cabinets C] -o FILE
-                          a batch of cases; PROFILE is rich, marks, nest, limits, damaged, json or sheets
-       gen vectors -o FILE    the fixed list of cases with the oracle's answers
-       gen replay FILE        answers a fixed list again and tells what differs
+           writes a batch; PROFILE is rich, marks, nest, limits, damaged, json or sheets
+       gen vectors -o DIR
+           writes the fixed list of cases with the oracle's answers, as DIR/cases-00.bin and so on
+       gen replay FILE...
+           answers the cases of these files again and tells what differs
        gen bounds [--seed S] [--count N]
-                          checks that each limit lies where the paper says
+           checks that each limit lies where the paper says
 ";
 
 type Outcome = Result<(), String>;
@@ -26,7 +28,7 @@ fn main() -> ExitCode {
             Ok(())
         }
         Some("vectors") => Flags::read(&args[1..], &["-o"]).and_then(|f| make_vectors(&f)),
-        Some("replay") if args.len() == 2 => replay(&args[1]),
+        Some("replay") if args.len() >= 2 => args[1..].iter().try_for_each(|file| replay(file)),
         Some("bounds") => Flags::read(&args[1..], &["--seed", "--count"]).and_then(|f| bounds(&f)),
         Some(profile) if PROFILES.contains(&profile) => batch(profile, &args[1..]),
         _ => Err(USAGE.trim_end().to_owned()),
@@ -75,7 +77,8 @@ fn write(file: &str, bytes: &[u8]) -> Outcome {
 }
 
 fn batch(profile: &str, args: &[String]) -> Outcome {
-    let flags = Flags::read(args, &["--seed", "--count", "--max-bytes", "--small", "--cabinets", "-o"])?;
+    let flags =
+        Flags::read(args, &["--seed", "--count", "--max-bytes", "--small", "--cabinets", "-o"])?;
     flags.needed("--seed")?;
     flags.needed("--count")?;
     let file = flags.needed("-o")?;
@@ -97,16 +100,21 @@ fn batch(profile: &str, args: &[String]) -> Outcome {
         made += 1;
     }
     if made < order.count {
-        return Err(format!("only {made} of {} cases are small enough; nothing is written", order.count));
+        return Err(format!(
+            "only {made} of {} cases are small enough; nothing is written",
+            order.count
+        ));
     }
     write(file, &out)
 }
 
 fn make_vectors(flags: &Flags) -> Outcome {
-    let file = flags.needed("-o")?;
+    let folder = flags.needed("-o")?;
     let parts = vectors::make()?;
     let all: Vec<&Vector> = parts.iter().flat_map(|(_, v)| v).collect();
-    write(file, &vectors::write(&all))?;
+    for (k, file) in vectors::write(&all).iter().enumerate() {
+        write(&format!("{folder}/cases-{k:02}.bin"), file)?;
+    }
     print_longest(&all);
     println!("\n| profile | seed | first case | cases |\n|---|---|---|---|");
     let mut first = 1;
@@ -152,7 +160,10 @@ fn replay(file: &str) -> Outcome {
 
 fn bounds(flags: &Flags) -> Outcome {
     let turns = flags.number("--count", 20)?;
-    report(&vectors::bounds(flags.number("--seed", 1)?, turns), &format!("{turns} turns at each limit and past it"))
+    report(
+        &vectors::bounds(flags.number("--seed", 1)?, turns),
+        &format!("{turns} turns at each limit and past it"),
+    )
 }
 
 /// Prints at most 20 of the lines.

@@ -11,8 +11,11 @@ use super::{rich, Case};
 pub fn with_bytes(tree: &Tree, mark: &str, bytes: &[u8]) -> Vec<u8> {
     let mut w = Writer::default();
     w.tree(tree);
-    let spelled: Vec<Field> = w.fields.iter().filter(|f| f.what == What::StringByte).copied().collect();
-    let is_mark = |fields: &[Field]| fields.iter().zip(mark.bytes()).all(|(f, b)| w.field_value(f) == u64::from(b));
+    let spelled: Vec<Field> =
+        w.fields.iter().filter(|f| f.what == What::StringByte).copied().collect();
+    let is_mark = |fields: &[Field]| {
+        fields.iter().zip(mark.bytes()).all(|(f, b)| w.field_value(f) == u64::from(b))
+    };
     let at = spelled.windows(mark.len()).position(is_mark).expect("the mark is in the tree");
     for (f, b) in spelled[at..].iter().zip(bytes) {
         w.set_field(f, (*b).into());
@@ -100,7 +103,15 @@ fn other_count(rng: &mut Rng, w: &mut Writer) {
 }
 
 fn other_tag(rng: &mut Rng, w: &mut Writer) {
-    let tags = [What::Version, What::KindTag, What::ParamTag, What::LocalBit, What::SegTag, What::LiteralTag, What::Padding];
+    let tags = [
+        What::Version,
+        What::KindTag,
+        What::ParamTag,
+        What::LocalBit,
+        What::SegTag,
+        What::LiteralTag,
+        What::Padding,
+    ];
     let what = *rng.pick(&tags);
     if let Some(f) = some_field(rng, w, &[what]) {
         w.set_field(&f, rng.next());
@@ -109,7 +120,8 @@ fn other_tag(rng: &mut Rng, w: &mut Writer) {
 
 fn other_byte(rng: &mut Rng, w: &mut Writer) {
     if let Some(f) = some_field(rng, w, &[What::StringByte]) {
-        let byte = *rng.pick(&[0x80, 0xbf, 0xc0, 0xc3, 0xe2, 0xed, 0xf0, 0xf4, 0xf5, 0xff, 0, 0x7f]);
+        let byte =
+            *rng.pick(&[0x80, 0xbf, 0xc0, 0xc3, 0xe2, 0xed, 0xf0, 0xf4, 0xf5, 0xff, 0, 0x7f]);
         w.set_field(&f, byte);
     }
 }
@@ -134,8 +146,16 @@ fn other_number(rng: &mut Rng, w: &mut Writer) {
 }
 
 fn any_bytes(rng: &mut Rng) -> Vec<u8> {
-    let starts: [&[u8]; 8] =
-        [&[], &[1], &[1, 1], &[1, 1, 0, 0], &[1, 1, 0, 0, 0], &[1, 1, 0, 0, 0, 0], &[1, 64], &[2, 1]];
+    let starts: [&[u8]; 8] = [
+        &[],
+        &[1],
+        &[1, 1],
+        &[1, 1, 0, 0],
+        &[1, 1, 0, 0, 0],
+        &[1, 1, 0, 0, 0, 0],
+        &[1, 64],
+        &[2, 1],
+    ];
     let start = *rng.pick(&starts);
     let mut bytes = start.to_vec();
     if rng.chance(50) {

@@ -241,12 +241,27 @@ fn printer(rng: &mut Rng) -> Tree {
         0 => Tree::main(vec![show_html(this()), raw("|"), show(this())]),
         1 => {
             let member = vec![show(path(&["k"])), raw("="), show_html(path(&["v"])), raw(";")];
-            Tree::main(vec![block_of(calls("each", vec![this()]), &["v", "k"], Some(member), Some(vec![show(this())]))])
+            Tree::main(vec![block_of(
+                calls("each", vec![this()]),
+                &["v", "k"],
+                Some(member),
+                Some(vec![show(this())]),
+            )])
         }
-        2 => Tree::main(vec![show(path(&["a"])), raw(","), show(path(&["a", "0"])), raw(","), show(root(&["obj", "n"]))]),
+        2 => Tree::main(vec![
+            show(path(&["a"])),
+            raw(","),
+            show(path(&["a", "0"])),
+            raw(","),
+            show(root(&["obj", "n"])),
+        ]),
         _ => {
-            let inside = vec![show_html(local(0, "key")), raw(":"), partial(calls("v", vec![])), raw(" ")];
-            let all = vec![show_html(this()), block_of(calls("each", vec![this()]), &[], Some(inside), Some(vec![raw(".")]))];
+            let inside =
+                vec![show_html(local(0, "key")), raw(":"), partial(calls("v", vec![])), raw(" ")];
+            let all = vec![
+                show_html(this()),
+                block_of(calls("each", vec![this()]), &[], Some(inside), Some(vec![raw(".")])),
+            ];
             Tree::new(vec![("main", vec![partial(calls("v", vec![]))]), ("v", all)])
         }
     };

@@ -1,4 +1,4 @@
-//! The limits profile: each refusal 2 to 25 at its limit and one past, with the number that must come.
+//! The limits profile: each refusal 2 to 25 at its limit and one past, with the number due.
 //! Here checks 2 to 10; `limits_draw` has 11 to 20, `limits_room` 21 to 25.
 
 use super::rng::Rng;
@@ -68,7 +68,9 @@ pub fn plain(tree: &Tree, plan: &str) -> Case {
 
 /// As `plain`, numbered, with a comment or a text before the rest of `main` now and then.
 pub fn dressed(rng: &mut Rng, mut tree: Tree, plan: &str) -> Case {
-    if let (Some((_, b)), true) = (tree.templates.iter_mut().find(|t| t.0 == "main"), rng.chance(40)) {
+    if let (Some((_, b)), true) =
+        (tree.templates.iter_mut().find(|t| t.0 == "main"), rng.chance(40))
+    {
         let extra = if rng.chance(50) { raw("- ") } else { comment("a note") };
         b.insert(0, body(vec![extra]).remove(0));
     }
@@ -123,9 +125,10 @@ fn templates(rng: &mut Rng, over: bool) -> Made {
 
 /// A tree with every kind of field.
 pub fn varied() -> Tree {
-    let many = calls("lookup", vec![path(&["a"]), Param::Lit(Lit::Negative(-5)), Param::Lit(Lit::Null)])
-        .with("k", number(7))
-        .with("l", string("s"));
+    let many =
+        calls("lookup", vec![path(&["a"]), Param::Lit(Lit::Negative(-5)), Param::Lit(Lit::Null)])
+            .with("k", number(7))
+            .with("l", string("s"));
     let mut t = Tree::new(vec![
         (
             "main",
@@ -136,8 +139,18 @@ pub fn varied() -> Tree {
                 show(ups(1, &["a", "b"])),
                 show(root(&["a"])),
                 Kind::Expr(many, true),
-                block_of(calls("if", vec![Param::Lit(Lit::True)]), &["x"], Some(vec![raw("y")]), Some(vec![])),
-                block_of(calls("each", vec![Param::Lit(Lit::False)]), &["v", "k"], Some(vec![]), None),
+                block_of(
+                    calls("if", vec![Param::Lit(Lit::True)]),
+                    &["x"],
+                    Some(vec![raw("y")]),
+                    Some(vec![]),
+                ),
+                block_of(
+                    calls("each", vec![Param::Lit(Lit::False)]),
+                    &["v", "k"],
+                    Some(vec![]),
+                    None,
+                ),
                 inline("i", vec![comment("c")]).indented(" ", true),
                 partial(calls("p", vec![sub(calls("if", vec![number(0)]))])).indented("", false),
                 partial_block(calls("p", vec![]), vec![raw("z")]),
@@ -263,7 +276,15 @@ fn distinct_names(rng: &mut Rng, over: bool) -> Made {
 }
 
 fn ascending_keys(rng: &mut Rng, over: bool) -> Made {
-    let up = [["a", "b"], ["", "a"], ["a", "aa"], ["Z", "a"], ["z", "é"], ["\u{ffff}", "\u{10000}"], ["1", "10"]];
+    let up = [
+        ["a", "b"],
+        ["", "a"],
+        ["a", "aa"],
+        ["Z", "a"],
+        ["z", "é"],
+        ["\u{ffff}", "\u{10000}"],
+        ["1", "10"],
+    ];
     let mut pair = *rng.pick(&up);
     if over {
         pair = if rng.chance(50) { [pair[1], pair[0]] } else { [pair[1], pair[1]] };
@@ -307,14 +328,23 @@ fn end(rng: &mut Rng, over: bool) -> Made {
 
 fn first_parameter(rng: &mut Rng, over: bool) -> Made {
     let bad = [path(&["a"]), name("a"), local(0, "index"), path(&[])];
-    let good = [string("a"), number(1), lookup(path(&[]), string("a")), sub(calls("if", vec![path(&["a"])]))];
+    let good = [
+        string("a"),
+        number(1),
+        lookup(path(&[]), string("a")),
+        sub(calls("if", vec![path(&["a"])])),
+    ];
     let first = if over { rng.pick(&bad).clone() } else { rng.pick(&good).clone() };
     let mut params = vec![first];
     if rng.chance(30) {
         params.push(path(&["a"]));
     }
     let c = calls(*rng.pick(&["q", "@partial-block"]), params);
-    let kind = if rng.chance(50) { partial_block(c, vec![raw("in")]) } else { partial(calls("q", c.params)) };
+    let kind = if rng.chance(50) {
+        partial_block(c, vec![raw("in")])
+    } else {
+        partial(calls("q", c.params))
+    };
     // Drawn or not, the check looks at all bodies.
     let mut main = vec![raw("x")];
     let mut other = vec![raw("q")];
@@ -325,7 +355,12 @@ fn first_parameter(rng: &mut Rng, over: bool) -> Made {
         2 => main.push(block_of(calls("unless", vec![number(0)]), &[], None, Some(vec![kind]))),
         3 => main.push(inline("i", vec![kind])),
         4 => main.push(partial_block(calls("q", vec![]), vec![kind])),
-        5 => main.push(block_of(no, &[], Some(vec![block_of(calls("if", vec![]), &[], None, Some(vec![kind]))]), None)),
+        5 => main.push(block_of(
+            no,
+            &[],
+            Some(vec![block_of(calls("if", vec![]), &[], None, Some(vec![kind]))]),
+            None,
+        )),
         _ => other.push(block_of(no, &[], Some(vec![kind]), None)),
     }
     let t = Tree::new(vec![("main", main), ("q", other)]);
@@ -345,11 +380,13 @@ fn starting_name(rng: &mut Rng, over: bool) -> Made {
     for n in &names[1..] {
         t.templates.push(((*n).to_owned(), body(vec![raw(n)])));
     }
-    let absent: [&[u8]; 9] = [b"mai", b"main ", b"Main", b"\0", b"\xc3", b"main23", b"maim", b"\xc3\xa8", b"q"];
+    let absent: [&[u8]; 9] =
+        [b"mai", b"main ", b"Main", b"\0", b"\xc3", b"main23", b"maim", b"\xc3\xa8", b"q"];
     let by = rng.below(t.templates.len());
     t.templates.rotate_left(by);
     let mut case = dressed(rng, t, A);
-    case.start = if over { rng.pick(&absent).to_vec() } else { rng.pick(&names).as_bytes().to_vec() };
+    case.start =
+        if over { rng.pick(&absent).to_vec() } else { rng.pick(&names).as_bytes().to_vec() };
     (case, if over { 6 } else { 0 })
 }
 

@@ -35,7 +35,7 @@ fn a() -> Param {
     root(&["a"])
 }
 
-/// A tree that draws the elements once: in `main`, in a block, a partial, an inline partial or a block text.
+/// A tree that draws the elements once: in `main`, in a block, in a partial or in a block text.
 fn placed(rng: &mut Rng, kinds: Vec<Kind>) -> Tree {
     let mut holder = Vec::new();
     let main = match rng.below(10) {
@@ -61,7 +61,13 @@ fn placed(rng: &mut Rng, kinds: Vec<Kind>) -> Tree {
 }
 
 /// One of the lists of elements, placed anywhere: a bad one past the limit, else a good one.
-fn one_of(rng: &mut Rng, over: bool, number: u32, bad: Vec<Vec<Kind>>, good: Vec<Vec<Kind>>) -> Made {
+fn one_of(
+    rng: &mut Rng,
+    over: bool,
+    number: u32,
+    bad: Vec<Vec<Kind>>,
+    good: Vec<Vec<Kind>>,
+) -> Made {
     let kinds = rng.pick(if over { &bad } else { &good }).clone();
     let t = placed(rng, kinds);
     (dressed(rng, t, PLAN), if over { number } else { 0 })
@@ -147,7 +153,11 @@ fn partial_not_found(rng: &mut Rng, over: bool) -> Made {
         vec![i(), to("in")],
         vec![block("if", vec![number(1)], vec![i()]), to("in")],
         vec![i(), block("each", vec![a()], vec![to("in")])],
-        vec![block("each", vec![a()], vec![block("if", vec![local(0, "first")], vec![i()]), to("in")])],
+        vec![block(
+            "each",
+            vec![a()],
+            vec![block("if", vec![local(0, "first")], vec![i()]), to("in")],
+        )],
         vec![partial_block(calls("nowhere", vec![]), vec![raw("own")])],
         vec![inline("x", vec![i(), to("in")]), to("x")],
         vec![inline("p", vec![raw("other")]), to("p")],
@@ -163,25 +173,51 @@ fn partial_block_not_found(rng: &mut Rng, over: bool) -> Made {
     let block_q = |inside: Vec<Kind>| partial_block(calls("q", vec![]), inside);
     let bad = vec![
         vec![q(vec![text()]), to_q()],
-        vec![q(vec![partial(calls("r", vec![]))]), inline("r", vec![text()]), block_q(vec![raw("x")])],
+        vec![
+            q(vec![partial(calls("r", vec![]))]),
+            inline("r", vec![text()]),
+            block_q(vec![raw("x")]),
+        ],
         vec![partial_block(calls("nowhere", vec![]), vec![text()])],
         vec![q(vec![text()]), block_q(vec![]), to_q()],
         vec![q(vec![partial(call(string("@partial-block"), vec![]).with("a", a()))]), to_q()],
-        vec![q(vec![block("if", vec![number(1)], vec![partial(call(path(&[]), vec![])), text()])]), inline("this", vec![]), to_q()],
+        vec![
+            q(vec![block("if", vec![number(1)], vec![partial(call(path(&[]), vec![])), text()])]),
+            inline("this", vec![]),
+            to_q(),
+        ],
     ];
     let good = vec![
         vec![q(vec![text()]), block_q(vec![raw("x")])],
         vec![q(vec![text()]), block_q(vec![])],
         vec![q(vec![text(), text()]), block_q(vec![raw("<\n")])],
         vec![partial_block(calls("@partial-block", vec![]), vec![raw("fallback")])],
-        vec![q(vec![text()]), inline("r", vec![block_q(vec![text()])]), partial_block(calls("r", vec![]), vec![raw("x")])],
-        vec![q(vec![inline("s", vec![raw("s")]), partial(calls("s", vec![])), text()]), block_q(vec![show(root(&["s"]))])],
+        vec![
+            q(vec![text()]),
+            inline("r", vec![block_q(vec![text()])]),
+            partial_block(calls("r", vec![]), vec![raw("x")]),
+        ],
+        vec![
+            q(vec![inline("s", vec![raw("s")]), partial(calls("s", vec![])), text()]),
+            block_q(vec![show(root(&["s"]))]),
+        ],
     ];
     one_of(rng, over, 13, bad, good)
 }
 
 fn helper_not_found(rng: &mut Rng, over: bool) -> Made {
-    let n = *rng.pick(&["unknown", "If", "helperMissing", "blockHelperMissing", "", "log", "raw", "eq", "inline", "ea"]);
+    let n = *rng.pick(&[
+        "unknown",
+        "If",
+        "helperMissing",
+        "blockHelperMissing",
+        "",
+        "log",
+        "raw",
+        "eq",
+        "inline",
+        "ea",
+    ]);
     let bad = vec![
         expr(n, vec![a()]),
         Kind::Html(calls(n, vec![]).with("k", a()), true),
@@ -201,7 +237,12 @@ fn helper_not_found(rng: &mut Rng, over: bool) -> Made {
         show(string(n)),
         show(lookup(root(&["t"]), string("u"))),
         Kind::Expr(call(lookup(root(&["t"]), string("h")), vec![a()]), false),
-        block_of(call(lookup(root(&["t"]), string("h")), vec![a()]), &[], Some(vec![raw("y")]), None),
+        block_of(
+            call(lookup(root(&["t"]), string("h")), vec![a()]),
+            &[],
+            Some(vec![raw("y")]),
+            None,
+        ),
         Kind::Expr(call(Param::Path { raw: "if".into(), segs: vec![] }, vec![a()]), false),
         Kind::Html(call(string("lookup"), vec![a(), number(0)]), false),
     ];
@@ -248,7 +289,10 @@ fn decorator_not_found(rng: &mut Rng, over: bool) -> Made {
     let good = vec![
         decorator_block(call(lookup(root(&["t"]), string("d")), vec![string("x")]), vec![raw("x")]),
         decorator_block(call(string("inline"), vec![string("x")]), vec![raw("x")]),
-        decorator_block(call(Param::Path { raw: "inline".into(), segs: vec![Seg::Up] }, vec![root(&["s"])]), vec![]),
+        decorator_block(
+            call(Param::Path { raw: "inline".into(), segs: vec![Seg::Up] }, vec![root(&["s"])]),
+            vec![],
+        ),
         block_of(calls("if", vec![number(0)]), &[], Some(vec![decorator(calls(n, vec![]))]), None),
     ];
     one_of(rng, over, 16, each1(bad), each1(good))
@@ -272,12 +316,15 @@ fn cannot_include_self(rng: &mut Rng, over: bool) -> Made {
         vec![partial(call(string(me), vec![]).with("k", a()))],
         vec![again().indented(&" ".repeat(200), true)],
     ];
-    // After a body was drawn the name is gone: the template includes itself until 23, or once by an inline partial.
+    // After a body was drawn the name is gone: the template includes itself until 23.
     let good = vec![
         (23, vec![block_of(yes(), &[], Some(vec![]), None), again()]),
         (23, vec![block("each", vec![root(&["l"])], vec![raw("x")]), again()]),
         (23, vec![block("with", vec![root(&["l"])], vec![again()])]),
-        (0, vec![inline(me, vec![raw("other")]), block_of(yes(), &[], Some(vec![]), None), again()]),
+        (
+            0,
+            vec![inline(me, vec![raw("other")]), block_of(yes(), &[], Some(vec![]), None), again()],
+        ),
         (0, vec![inline(me, vec![raw("other")]), block_of(yes(), &[], Some(vec![again()]), None)]),
         (0, vec![partial(calls("q", vec![]))]),
         (0, vec![block("if", vec![number(0)], vec![again()])]),
@@ -295,7 +342,7 @@ fn cannot_include_self(rng: &mut Rng, over: bool) -> Made {
     (dressed(rng, t, PLAN), number)
 }
 
-/// A template named `@partial-block` that starts the call: 17 is met before the block text is looked for.
+/// The call starts at a template named `@partial-block`: 17 is met before its text is looked for.
 fn named_like_a_text(rng: &mut Rng, q: (&str, Vec<Kind>)) -> Made {
     let me = "@partial-block";
     let kinds = if rng.chance(50) {
@@ -309,16 +356,28 @@ fn named_like_a_text(rng: &mut Rng, q: (&str, Vec<Kind>)) -> Made {
 }
 
 fn invalid_param_type(rng: &mut Rng, over: bool) -> Made {
-    let bad = [number(1), Param::Lit(Lit::Null), Param::Lit(Lit::True), name("x"), a(), root(&["o"]), root(&["gone"]), root(&["z"])];
-    let good = [string("x"), root(&["s"]), lookup(root(&["t"]), string("p")), sub(calls("if", vec![a()]))];
+    let bad = [
+        number(1),
+        Param::Lit(Lit::Null),
+        Param::Lit(Lit::True),
+        name("x"),
+        a(),
+        root(&["o"]),
+        root(&["gone"]),
+        root(&["z"]),
+    ];
+    let good =
+        [string("x"), root(&["s"]), lookup(root(&["t"]), string("p")), sub(calls("if", vec![a()]))];
     let p = if over { rng.pick(&bad).clone() } else { rng.pick(&good).clone() };
     let c = calls("inline", vec![p, number(2)]);
-    let kind = if over && rng.chance(40) { decorator(c) } else { decorator_block(c, vec![raw("x")]) };
+    let kind =
+        if over && rng.chance(40) { decorator(c) } else { decorator_block(c, vec![raw("x")]) };
     one_of(rng, over, 18, vec![vec![kind.clone()]], vec![vec![kind]])
 }
 
 fn block_content_required(rng: &mut Rng, over: bool) -> Made {
-    let good = [string("x"), root(&["s"]), lookup(root(&["t"]), string("p")), sub(calls("if", vec![a()]))];
+    let good =
+        [string("x"), root(&["s"]), lookup(root(&["t"]), string("p")), sub(calls("if", vec![a()]))];
     let c = calls("inline", vec![rng.pick(&good).clone()]).with_pairs(rng.below(3));
     let kind = if over { decorator(c) } else { decorator_block(c, vec![]) };
     let kind = if rng.chance(30) { kind.indented(&wide(), true) } else { kind };
@@ -326,8 +385,24 @@ fn block_content_required(rng: &mut Rng, over: bool) -> Made {
 }
 
 fn invalid_json_index(rng: &mut Rng, over: bool) -> Made {
-    let bad = ["x", "-1", "18446744073709551616", "", "1.0", " 1", "1 ", "++1", "+", "-0", "0x1", "é", "1e1", "99999999999999999999999"];
-    let good = ["0", "1", "2", "+1", "02", "0000000000000000000000001", "18446744073709551615", "+0"];
+    let bad = [
+        "x",
+        "-1",
+        "18446744073709551616",
+        "",
+        "1.0",
+        " 1",
+        "1 ",
+        "++1",
+        "+",
+        "-0",
+        "0x1",
+        "é",
+        "1e1",
+        "99999999999999999999999",
+    ];
+    let good =
+        ["0", "1", "2", "+1", "02", "0000000000000000000000001", "18446744073709551615", "+0"];
     let i = if over { *rng.pick(&bad) } else { *rng.pick(&good) };
     let p = || root(&["a", i]);
     let kinds = vec![
@@ -339,14 +414,24 @@ fn invalid_json_index(rng: &mut Rng, over: bool) -> Made {
         show(root(&["a", i, "deeper"])),
         block_of(calls("with", vec![a()]), &["it"], Some(vec![show(path(&["it", i]))]), None),
         block_of(calls("with", vec![a()]), &[], Some(vec![show(path(&[i]))]), None),
-        block_of(calls("with", vec![a()]), &[], Some(vec![block("if", vec![number(1)], vec![show(ups(9, &[i]))])]), None),
+        block_of(
+            calls("with", vec![a()]),
+            &[],
+            Some(vec![block("if", vec![number(1)], vec![show(ups(9, &[i]))])]),
+            None,
+        ),
         inline("q", vec![show(path(&["k", i]))]),
         partial(calls("p", vec![string("")]).with("k", p())),
         expr("if", vec![sub(calls("lookup", vec![a(), p()]))]),
     ];
     let mut kind = rng.pick(&kinds).clone();
     if let Kind::DecoratorBlock(_) = kind {
-        kind = block_of(calls("if", vec![number(1)]), &[], Some(vec![kind, partial(calls("q", vec![]).with("k", a()))]), None);
+        kind = block_of(
+            calls("if", vec![number(1)]),
+            &[],
+            Some(vec![kind, partial(calls("q", vec![]).with("k", a()))]),
+            None,
+        );
     }
     let (mut case, number) = one_of(rng, over, 20, vec![vec![kind.clone()]], vec![vec![kind]]);
     // Recursive lookup passes over a bad index under a plain name.
@@ -401,7 +486,10 @@ fn partial_order(rng: &mut Rng, over: bool) -> Made {
         (14, partial_block(call(unknown(), vec![few()]), vec![])),
         (20, partial(calls("p", vec![]).with("a", bad()).with("b", unknown()))),
         (20, partial(calls("p", vec![string(""), bad()]))),
-        (20, partial_block(calls("@partial-block", vec![]).with("k", bad()), vec![show(unknown())])),
+        (
+            20,
+            partial_block(calls("@partial-block", vec![]).with("k", bad()), vec![show(unknown())]),
+        ),
         (14, decorator_block(call(unknown(), vec![bad()]), vec![])),
         (20, decorator_block(calls("inline", vec![bad()]).with("k", unknown()), vec![])),
         (20, decorator(calls("unknown", vec![bad()]))),

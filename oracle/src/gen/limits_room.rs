@@ -1,4 +1,4 @@
-//! Refusals 21 to 25: indent, entries, scopes, block texts and the page, filled to the last and one past.
+//! Refusals 21 to 25: indent, entries, scopes, block texts, page, each to the last and one past.
 
 use super::limits::{dressed, limit, Limit, Made};
 use super::rng::Rng;
@@ -85,11 +85,16 @@ fn indent_joined(rng: &mut Rng, over: bool) -> Made {
         left -= part;
         let indent = indent_of(rng, part);
         let to = format!("t{}", i + 1);
-        let inner = if i + 1 == count { indented_kind(rng, &indent) } else { partial(calls(&to, vec![])).indented(&indent, true) };
+        let inner = if i + 1 == count {
+            indented_kind(rng, &indent)
+        } else {
+            partial(calls(&to, vec![])).indented(&indent, true)
+        };
         templates.push((format!("t{i}"), vec![raw("x\n"), inner]));
     }
     templates[0].0 = "main".to_owned();
-    let mut t: Vec<(&str, Vec<Kind>)> = templates.iter().map(|(n, k)| (n.as_str(), k.clone())).collect();
+    let mut t: Vec<(&str, Vec<Kind>)> =
+        templates.iter().map(|(n, k)| (n.as_str(), k.clone())).collect();
     t.push(("q", vec![raw("q")]));
     (dressed(rng, Tree::new(t), r#"{"a":1}"#), number_if(over, 21))
 }
@@ -122,7 +127,12 @@ fn indent_given_back(rng: &mut Rng, over: bool) -> Made {
     let b = indent_of(rng, if over { 57 } else { 56 });
     let inner = partial(calls("q", vec![])).indented(&b, true);
     let outer = |n: &str| partial(calls(n, vec![])).indented(&a, true);
-    let main = vec![outer("q"), outer("q"), partial_block(calls("q", vec![]), vec![inner.clone()]).indented(&a, true), outer("r")];
+    let main = vec![
+        outer("q"),
+        outer("q"),
+        partial_block(calls("q", vec![]), vec![inner.clone()]).indented(&a, true),
+        outer("r"),
+    ];
     let mut t = with_q(main);
     t.templates.push(("r".to_owned(), body(vec![raw("r\n"), inner])));
     (dressed(rng, t, r#"{"a":1}"#), number_if(over, 21))
@@ -182,7 +192,7 @@ fn object_plan(members: usize) -> String {
     format!("{{{}}}", (0..members).map(name).collect::<Vec<_>>().join(","))
 }
 
-/// Each open partial merges the object again, with one key more at the first; the rest are inline partials.
+/// Each open partial merges the object again; inline partials or a string take the rest.
 fn merge_nested(rng: &mut Rng, over: bool) -> Made {
     let members = rng.between(140, 300);
     let each = members + 1;
@@ -196,15 +206,20 @@ fn merge_nested(rng: &mut Rng, over: bool) -> Made {
     if rest >= 60 || over && inside.is_empty() {
         // Another merge, of a string, takes what is left.
         rest += more;
-        inside = vec![partial(calls("s", vec![string(&"x".repeat(rest - 1))]).with("k", number(1)))];
+        inside =
+            vec![partial(calls("s", vec![string(&"x".repeat(rest - 1))]).with("k", number(1)))];
     }
     let mut templates = Vec::new();
     for i in 0..partials {
-        templates.push((format!("t{i}"), vec![partial(calls(&format!("t{}", i + 1), vec![]).with("k", number(1)))]));
+        templates.push((
+            format!("t{i}"),
+            vec![partial(calls(&format!("t{}", i + 1), vec![]).with("k", number(1)))],
+        ));
     }
     templates.push((format!("t{partials}"), inside));
     templates[0].0 = "main".to_owned();
-    let mut t: Vec<(&str, Vec<Kind>)> = templates.iter().map(|(n, k)| (n.as_str(), k.clone())).collect();
+    let mut t: Vec<(&str, Vec<Kind>)> =
+        templates.iter().map(|(n, k)| (n.as_str(), k.clone())).collect();
     t.push(("s", vec![raw("s")]));
     (dressed(rng, Tree::new(t), &object_plan(members)), number_if(over, 22))
 }
@@ -225,7 +240,11 @@ fn merge_replacing(rng: &mut Rng, over: bool) -> Made {
 
 /// Each over a merged object keeps one inline partial for each of its keys.
 fn inline_each() -> Kind {
-    block("each", vec![path(&[])], vec![decorator_block(calls("inline", vec![local(0, "key")]), vec![raw("x")])])
+    block(
+        "each",
+        vec![path(&[])],
+        vec![decorator_block(calls("inline", vec![local(0, "key")]), vec![raw("x")])],
+    )
 }
 
 fn inline_entries(rng: &mut Rng, over: bool) -> Made {
@@ -236,7 +255,10 @@ fn inline_entries(rng: &mut Rng, over: bool) -> Made {
     if let Kind::Block(Block { then: Some(b), .. }) = &mut each {
         b.push(body(vec![block("if", vec![local(0, "last")], vec![again])]).remove(0));
     }
-    let t = Tree::new(vec![("main", vec![partial(calls("q", vec![]).with("a", number(1)))]), ("q", vec![each])]);
+    let t = Tree::new(vec![
+        ("main", vec![partial(calls("q", vec![]).with("a", number(1)))]),
+        ("q", vec![each]),
+    ]);
     (dressed(rng, t, &plan), number_if(over, 22))
 }
 
@@ -244,7 +266,8 @@ fn mixed_entries(rng: &mut Rng, over: bool) -> Made {
     let inlines = rng.between(1, 30);
     let pairs = rng.between(1, 5);
     let chars = ENTRIES - inlines - pairs;
-    let mut main: Vec<Kind> = (0..inlines).map(|i| inline(&format!("i{i}"), vec![raw("i")])).collect();
+    let mut main: Vec<Kind> =
+        (0..inlines).map(|i| inline(&format!("i{i}"), vec![raw("i")])).collect();
     if rng.chance(50) {
         // The same names again in the same scope add nothing.
         main.extend((0..inlines).map(|i| inline(&format!("i{i}"), vec![raw("j")])));
@@ -252,7 +275,11 @@ fn mixed_entries(rng: &mut Rng, over: bool) -> Made {
     main.push(partial(calls("q", vec![]).with_pairs(pairs)));
     let mut q = vec![raw("q")];
     if over {
-        let more = if rng.chance(50) { inline("i0", vec![]) } else { partial(calls("i0", vec![number(1)]).with("k", number(1))) };
+        let more = if rng.chance(50) {
+            inline("i0", vec![])
+        } else {
+            partial(calls("i0", vec![number(1)]).with("k", number(1)))
+        };
         q.push(more);
     } else {
         q.push(partial(calls("i0", vec![])));
@@ -299,7 +326,8 @@ fn entries_order(rng: &mut Rng, over: bool) -> Made {
     // r's merge is of null and one key.
     let mut t = Tree::new(vec![("main", vec![partial(full)]), ("q", q), ("r", vec![raw("r")])]);
     if let Some(Kind::Partial(d)) = t.templates[1].1.get_mut(0).map(|e| &mut e.kind) {
-        if d.call.hash.len() == 1 && matches!(&d.call.name, Param::Name(n) if n != "@partial-block") {
+        if d.call.hash.len() == 1 && matches!(&d.call.name, Param::Name(n) if n != "@partial-block")
+        {
             d.call.params.insert(0, Param::Lit(Lit::Null));
         }
     }
@@ -308,7 +336,7 @@ fn entries_order(rng: &mut Rng, over: bool) -> Made {
 
 // Scopes
 
-/// A tree that draws `tail` with exactly `scopes` scopes open: each, with, partials and inline ones.
+/// A tree that draws `tail` with exactly `scopes` scopes open, by each, with and partials.
 fn nested(rng: &mut Rng, scopes: usize, tail: Vec<Kind>, mix: usize) -> Tree {
     let mut templates: Vec<(String, Vec<Kind>)> = Vec::new();
     let mut inside = tail;
@@ -393,7 +421,11 @@ fn own_recursion(rng: &mut Rng, over: bool) -> Made {
     let next = || partial(calls("p", vec![lookup(path(&[]), string("n"))]));
     let p = vec![raw("p"), block("if", vec![path(&["n"])], vec![next()])];
     let forever = over && rng.chance(40);
-    let p = if forever { vec![block("if", vec![path(&[])], vec![]), partial(calls("p", vec![]))] } else { p };
+    let p = if forever {
+        vec![block("if", vec![path(&[])], vec![]), partial(calls("p", vec![]))]
+    } else {
+        p
+    };
     let t = Tree::new(vec![("main", vec![partial(calls("p", vec![]))]), ("p", p)]);
     (dressed(rng, t, &plan), number_if(over, 23))
 }
@@ -468,7 +500,11 @@ fn nested_texts(rng: &mut Rng, over: bool) -> Made {
             let half = all / 2;
             let mut copy = plain(all - 2 * half);
             copy.push(block_text());
-            Tree::new(vec![("main", vec![to("r", plain(half))]), ("r", vec![to("q", copy)]), q_of(q)])
+            Tree::new(vec![
+                ("main", vec![to("r", plain(half))]),
+                ("r", vec![to("q", copy)]),
+                q_of(q),
+            ])
         }
         // What an inner partial draws goes into the outer text.
         _ => {
@@ -504,15 +540,27 @@ fn written_text(rng: &mut Rng, over: bool) -> Made {
             let left = TEXTS - 200 - 99 * 60;
             let text = vec![raw(&lines), raw(&"c".repeat(left - 60 + more))];
             let r = vec![to_q(text)];
-            Tree::new(vec![("main", vec![partial(calls("r", vec![])).indented(&" ".repeat(60), false)]), ("r", r), q_of(vec![])])
+            Tree::new(vec![
+                ("main", vec![partial(calls("r", vec![])).indented(&" ".repeat(60), false)]),
+                ("r", r),
+                q_of(vec![]),
+            ])
         }
         2 => {
-            let own = partial_block(calls("nowhere", vec![list]), vec![raw(&"d".repeat(TEXTS + 5))]);
-            Tree::new(vec![("main", vec![own, to_q(vec![raw(&"e".repeat(TEXTS + more))])]), q_of(vec![])])
+            let own =
+                partial_block(calls("nowhere", vec![list]), vec![raw(&"d".repeat(TEXTS + 5))]);
+            Tree::new(vec![
+                ("main", vec![own, to_q(vec![raw(&"e".repeat(TEXTS + more))])]),
+                q_of(vec![]),
+            ])
         }
         _ => {
-            let fallback = partial_block(calls("@partial-block", vec![]), vec![raw(&"f".repeat(TEXTS + 5))]);
-            Tree::new(vec![("main", vec![fallback, to_q(vec![raw(&"e".repeat(TEXTS + more))])]), q_of(vec![])])
+            let fallback =
+                partial_block(calls("@partial-block", vec![]), vec![raw(&"f".repeat(TEXTS + 5))]);
+            Tree::new(vec![
+                ("main", vec![fallback, to_q(vec![raw(&"e".repeat(TEXTS + more))])]),
+                q_of(vec![]),
+            ])
         }
     };
     (dressed(rng, t, r#"{"l":[1,2,3,4]}"#), number_if(over, 24))
@@ -531,20 +579,26 @@ fn page(rng: &mut Rng, over: bool) -> Made {
 
 /// The same with indents, block texts and partials; empty writes always fit.
 fn page_pieces(rng: &mut Rng, over: bool) -> Made {
-    let (bytes, main, q) = match rng.below(5) {
-        0 => (0, vec![raw(""), comment("c"), show(root(&["gone"])), partial(calls("q", vec![]))], vec![]),
+    let to_q = |text: Vec<Kind>| partial_block(calls("q", vec![]), text);
+    let (bytes, kinds, q) = match rng.below(6) {
+        0 => (0, vec![raw(""), show(root(&["gone"])), partial(calls("q", vec![]))], vec![]),
         1 => (8, vec![partial(calls("q", vec![])).indented("  ", true)], vec![raw("a\nb\n")]),
-        2 => (4, vec![partial_block(calls("q", vec![]), vec![raw("xy")])], vec![block_text(), block_text()]),
+        2 => (4, vec![to_q(vec![raw("xy")])], vec![block_text(), block_text()]),
         3 => (3, vec![partial_block(calls("@partial-block", vec![]), vec![raw("abc")])], vec![]),
+        4 => (0, vec![to_q(vec![])], vec![block_text(), block_text()]),
         _ => (5, vec![block("if", vec![root(&["v"])], vec![raw("<"), show(root(&["v"]))])], vec![]),
     };
-    let mut main = main;
+    let before = rng.below(6);
+    let mut main = vec![raw(&"b".repeat(before))];
+    main.extend(kinds);
+    main.extend(rng.chance(50).then(|| comment("c")));
+    let bytes = before + bytes;
     if over && bytes == 0 {
         main.push(raw("x"));
     }
     let mut t = Tree::new(vec![("main", main), q_of(q)]);
     t.number_lines();
     let mut case = super::limits::plain(&t, WRITES);
-    case.page = if over && bytes > 0 { bytes - 1 } else { bytes };
+    case.page = if over { bytes.saturating_sub(1) } else { bytes } as u32;
     (case, number_if(over, 25))
 }

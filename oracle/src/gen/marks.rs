@@ -1,4 +1,4 @@
-//! The marks profile: short texts with indents, where every byte hangs on what was written before it.
+//! The marks profile: short texts with indents, where each hangs on what was written before.
 
 use serde_json::{json, Value as Json};
 
@@ -18,7 +18,12 @@ const NAMES: [&str; 4] = ["main", "p", "q", "r"];
 const VALUES: usize = 6;
 
 fn plan() -> Json {
-    json!({"v": ["", "v", "v\n", "\nv", "a\nb", "<\r"], "l": [1, "2\n"], "o": {"k": "x\n", "n": "\n"}, "e": []})
+    json!({
+        "v": ["", "v", "v\n", "\nv", "a\nb", "<\r"],
+        "l": [1, "2\n"],
+        "o": {"k": "x\n", "n": "\n"},
+        "e": [],
+    })
 }
 
 pub fn case(rng: &mut Rng) -> Case {
@@ -35,14 +40,43 @@ pub fn case(rng: &mut Rng) -> Case {
 impl Marks<'_> {
     fn body(&mut self, template: usize, depth: usize) -> Vec<Kind> {
         let count = self.rng.between(usize::from(depth == 1), 4);
-        (0..count).map(|_| self.element(template, depth)).collect()
+        let mut kinds: Vec<Kind> = (0..count).map(|_| self.element(template, depth)).collect();
+        // The block text before anything else: it leaves the marks as the partial found them.
+        if template > 0 && depth == 1 && self.rng.chance(30) {
+            kinds.insert(0, self.block_text());
+        }
+        kinds
+    }
+
+    /// What a partial gets as block text; often nothing, or another block text alone.
+    fn text(&mut self, template: usize, depth: usize) -> Vec<Kind> {
+        match self.rng.below(5) {
+            0 => Vec::new(),
+            1 => vec![self.block_text()],
+            _ => self.body(template, depth + 1),
+        }
+    }
+
+    fn block_text(&mut self) -> Kind {
+        self.finish(partial_block(calls("@partial-block", vec![]), vec![]))
     }
 
     fn element(&mut self, template: usize, depth: usize) -> Kind {
         self.budget = self.budget.saturating_sub(1);
         let bodies = if depth < 4 && self.budget > 0 { 1 } else { 0 };
         let further = if template + 1 < NAMES.len() { 1 } else { 0 };
-        let weights = [24, 14, 4, 18 * bodies, 16 * further, 12 * further * bodies, 6, 4 * bodies, 4 * bodies, 3 * bodies];
+        let weights = [
+            24,
+            14,
+            4,
+            18 * bodies,
+            16 * further,
+            18 * further * bodies,
+            10,
+            4 * bodies,
+            4 * bodies,
+            3 * bodies,
+        ];
         match self.rng.weighted(&weights) {
             0 => raw(*self.rng.pick(&["x", "\n", "x\n", "\nx", "x\ny", "", "x\ny\n", "\r\n", " "])),
             1 => self.value(),
@@ -53,10 +87,10 @@ impl Marks<'_> {
             3 => self.block(template, depth),
             4 => self.partial(template, None),
             5 => {
-                let inside = self.body(template, depth + 1);
+                let inside = self.text(template, depth);
                 self.partial(template, Some(inside))
             }
-            6 => self.finish(partial_block(calls("@partial-block", vec![]), vec![])),
+            6 => self.block_text(),
             7 => {
                 let inside = self.body(template, depth + 1);
                 self.finish(partial_block(calls("@partial-block", vec![]), inside))
@@ -88,7 +122,14 @@ impl Marks<'_> {
 
     fn block(&mut self, template: usize, depth: usize) -> Kind {
         let inside = self.body(template, depth + 1);
-        let (n, over) = *self.rng.pick(&[("if", "l"), ("each", "l"), ("with", "o"), ("unless", "e"), ("each", "o"), ("if", "e")]);
+        let (n, over) = *self.rng.pick(&[
+            ("if", "l"),
+            ("each", "l"),
+            ("with", "o"),
+            ("unless", "e"),
+            ("each", "o"),
+            ("if", "e"),
+        ]);
         let mut kind = block(n, vec![root(&[over])], inside);
         if let Kind::Block(b) = &mut kind {
             b.ibw = self.rng.chance(50);
@@ -108,7 +149,10 @@ impl Marks<'_> {
     fn finish(&mut self, kind: Kind) -> Kind {
         let mut kind = kind;
         if let Kind::Partial(d) | Kind::PartialBlock(d) = &mut kind {
-            d.indent = self.rng.pick(&[None, Some(""), Some(""), Some(">"), Some("--"), Some("é\n")]).map(str::to_owned);
+            d.indent = self
+                .rng
+                .pick(&[None, Some(""), Some(""), Some(">"), Some("--"), Some("é\n")])
+                .map(str::to_owned);
             d.ibw = self.rng.chance(60);
         }
         kind

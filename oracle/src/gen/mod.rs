@@ -9,6 +9,7 @@ pub mod marks;
 pub mod nest;
 mod plan;
 pub mod rich;
+mod rich_fail;
 pub mod rng;
 mod scope;
 pub mod sheets;
@@ -72,7 +73,8 @@ impl Case {
 
     /// The oracle's answer; an error is a fault of the oracle.
     pub fn answer(&self) -> Result<Answer, String> {
-        try_render_call(&self.bundle, &self.plan, &self.start, self.call_options(), self.page as usize)
+        let page = self.page as usize;
+        try_render_call(&self.bundle, &self.plan, &self.start, self.call_options(), page)
     }
 }
 

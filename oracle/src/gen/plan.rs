@@ -15,7 +15,21 @@ pub fn member_name(rng: &mut Rng) -> String {
 }
 
 const TEXTS: [&str; 16] = [
-    "a", "word", "two words", "<b>", "x&y", "\"q\"", "it's", "a=`b`", "line\n", "a\nb", "\n", "\r\n", "é€😀", "0", "",
+    "a",
+    "word",
+    "two words",
+    "<b>",
+    "x&y",
+    "\"q\"",
+    "it's",
+    "a=`b`",
+    "line\n",
+    "a\nb",
+    "\n",
+    "\r\n",
+    "é€😀",
+    "0",
+    "",
     "each",
 ];
 
@@ -68,7 +82,9 @@ fn restyle(v: &Json, rng: &mut Rng) -> Json {
         Json::Number(_) => number(rng),
         Json::String(_) => Json::String(text(rng)),
         Json::Array(a) => Json::Array(a.iter().map(|e| restyle(e, rng)).collect()),
-        Json::Object(m) => Json::Object(m.iter().map(|(k, e)| (k.clone(), restyle(e, rng))).collect()),
+        Json::Object(m) => {
+            Json::Object(m.iter().map(|(k, e)| (k.clone(), restyle(e, rng))).collect())
+        }
         other => other.clone(),
     }
 }
@@ -82,9 +98,15 @@ pub fn rich(rng: &mut Rng, templates: &[String]) -> Json {
     for _ in 0..rng.between(2, 6) {
         root.insert(member_name(rng), value(rng, 4));
     }
-    root.insert("list".to_owned(), Json::Array((0..rng.between(1, 3)).map(|_| value(rng, 2)).collect()));
+    root.insert(
+        "list".to_owned(),
+        Json::Array((0..rng.between(1, 3)).map(|_| value(rng, 2)).collect()),
+    );
     root.insert("obj".to_owned(), json!({"a": value(rng, 1), "n": number(rng), "z": text(rng)}));
-    root.insert("no".to_owned(), rng.pick(&[json!(false), json!([]), json!({}), json!(0), json!(null)]).clone());
+    root.insert(
+        "no".to_owned(),
+        rng.pick(&[json!(false), json!([]), json!({}), json!(0), json!(null)]).clone(),
+    );
     let mut names = Map::new();
     for n in ["each", "with", "if", "unless", "lookup", "inline"] {
         names.insert(n.to_owned(), json!(n));
@@ -148,7 +170,13 @@ impl TextOf<'_> {
         self.space();
     }
 
-    fn list(&mut self, open: char, close: char, count: usize, mut each: impl FnMut(&mut Self, usize)) {
+    fn list(
+        &mut self,
+        open: char,
+        close: char,
+        count: usize,
+        mut each: impl FnMut(&mut Self, usize),
+    ) {
         self.out.push(open);
         for i in 0..count {
             if i > 0 {
@@ -166,7 +194,11 @@ impl TextOf<'_> {
     fn object(&mut self, m: &Map<String, Json>) {
         let mut members: Vec<(&String, Option<&Json>)> = Vec::new();
         for (k, v) in m {
-            let at = if self.style.replaced > 0 { self.rng.below(members.len() + 1) } else { members.len() };
+            let at = if self.style.replaced > 0 {
+                self.rng.below(members.len() + 1)
+            } else {
+                members.len()
+            };
             members.insert(at, (k, Some(v)));
             if self.rng.chance(self.style.replaced) {
                 members.insert(self.rng.below(at + 1), (k, None));
@@ -222,7 +254,8 @@ impl TextOf<'_> {
     }
 
     fn hex(&mut self, unit: u16) {
-        let digits = if self.rng.chance(50) { format!("{unit:04x}") } else { format!("{unit:04X}") };
+        let digits =
+            if self.rng.chance(50) { format!("{unit:04x}") } else { format!("{unit:04X}") };
         self.out.push_str("\\u");
         self.out.push_str(&digits);
     }

@@ -13,12 +13,12 @@ use super::{Case, GUIDE, PAGE, RECURSIVE, STRICT};
 const DEEP: usize = 7;
 
 pub struct Rich<'a> {
-    rng: &'a mut Rng,
-    names: Vec<String>,
+    pub(super) rng: &'a mut Rng,
+    pub(super) names: Vec<String>,
     bodies: Vec<Option<Body>>,
     /// Templates that are being made now, the newest last.
-    open: Vec<usize>,
-    strict: bool,
+    pub(super) open: Vec<usize>,
+    pub(super) strict: bool,
     recursive: bool,
     /// How many elements may still be made.
     budget: usize,
@@ -35,7 +35,8 @@ const NAMES: [&str; 8] = ["p", "row", "cab", "part", "é", "", "a", "if"];
 pub fn case(rng: &mut Rng) -> Case {
     let (tree, plan, options) = parts(rng);
     let style = Style::any(rng);
-    let start = if rng.chance(94) { "main".to_owned() } else { rng.pick(&tree.templates).0.clone() };
+    let start =
+        if rng.chance(94) { "main".to_owned() } else { rng.pick(&tree.templates).0.clone() };
     let page = if rng.chance(6) { rng.below(200) as u32 } else { PAGE };
     let plan = text_of(&plan, rng, style).into_bytes();
     Case { options, start: start.into_bytes(), page, bundle: bundle(&tree), plan }
@@ -137,7 +138,8 @@ impl Rich<'_> {
     }
 
     fn element(&mut self, cx: &mut Scopes, depth: usize, first: bool) -> Kind {
-        let fails = if self.dead { self.rng.chance(20) } else { self.faults > 0 && self.rng.chance(14) };
+        let fails =
+            if self.dead { self.rng.chance(20) } else { self.faults > 0 && self.rng.chance(14) };
         if fails {
             self.faults = self.faults.saturating_sub(1);
             return self.failing(cx, depth, first);
@@ -159,7 +161,21 @@ impl Rich<'_> {
     }
 
     fn raw_text(&mut self) -> String {
-        let pieces = ["x", " ", "\n", "a\nb\n", "\r\n", "\r", "  \n", "<b>&\"'`=</b>", "", "é", "line\n", "\n\n", "; "];
+        let pieces = [
+            "x",
+            " ",
+            "\n",
+            "a\nb\n",
+            "\r\n",
+            "\r",
+            "  \n",
+            "<b>&\"'`=</b>",
+            "",
+            "é",
+            "line\n",
+            "\n\n",
+            "; ",
+        ];
         let count = self.rng.weighted(&[2, 60, 25, 13]);
         (0..count).map(|_| *self.rng.pick(&pieces)).collect()
     }
@@ -167,7 +183,7 @@ impl Rich<'_> {
     // Parameters
 
     /// A path to what is wanted, or one that misses where that does no harm.
-    fn path_to(&mut self, cx: &Scopes, want: Want) -> (Param, Json) {
+    pub(super) fn path_to(&mut self, cx: &Scopes, want: Want) -> (Param, Json) {
         if self.recursive && self.rng.chance(25) {
             if let Some(found) = self.outer_name(cx, want) {
                 return found;
@@ -191,7 +207,7 @@ impl Rich<'_> {
         Some((path(&[n]), v.clone()))
     }
 
-    fn miss(&mut self, cx: &Scopes) -> Param {
+    pub(super) fn miss(&mut self, cx: &Scopes) -> Param {
         let n = member_name(self.rng);
         match self.rng.below(6) {
             0 => name(&n),
@@ -248,7 +264,7 @@ impl Rich<'_> {
     }
 
     /// Any parameter, as a further one or in a hash.
-    fn param(&mut self, cx: &Scopes, want: Want) -> (Param, Json) {
+    pub(super) fn param(&mut self, cx: &Scopes, want: Want) -> (Param, Json) {
         match self.rng.weighted(&[62, 22, 10, 4, 2]) {
             0 => self.path_to(cx, want),
             1 => self.literal(),
@@ -276,7 +292,7 @@ impl Rich<'_> {
     }
 
     /// A helper's or decorator's name in one of the forms that come to the same.
-    fn helper_name(&mut self, cx: &Scopes, n: &str) -> Param {
+    pub(super) fn helper_name(&mut self, cx: &Scopes, n: &str) -> Param {
         let computed = cx.root.get("t").is_some();
         match self.rng.weighted(&[62, 20, 8, if computed { 10 } else { 0 }]) {
             0 => name(n),
@@ -362,7 +378,14 @@ impl Rich<'_> {
     }
 
     /// Both bodies of a block, with the scopes that draw them; a body without scopes is dead.
-    fn finish_block(&mut self, c: Call, names: Vec<String>, then: Option<Scopes>, other: Option<Scopes>, depth: usize) -> Kind {
+    fn finish_block(
+        &mut self,
+        c: Call,
+        names: Vec<String>,
+        then: Option<Scopes>,
+        other: Option<Scopes>,
+        depth: usize,
+    ) -> Kind {
         let guess = then.clone().or(other.clone());
         let then_body = self.half(then, &guess, 94, depth);
         let likely = if other.is_some() { 80 } else { 25 };
@@ -371,7 +394,13 @@ impl Rich<'_> {
         Kind::Block(Block { call: c, names, then: then_body, other: other_body, ibw })
     }
 
-    fn half(&mut self, cx: Option<Scopes>, guess: &Option<Scopes>, likely: usize, depth: usize) -> Option<Body> {
+    fn half(
+        &mut self,
+        cx: Option<Scopes>,
+        guess: &Option<Scopes>,
+        likely: usize,
+        depth: usize,
+    ) -> Option<Body> {
         if !self.rng.chance(likely) {
             return None;
         }
@@ -422,14 +451,18 @@ impl Rich<'_> {
             (p, v) = (number(0), json!(0));
         }
         let mut c = self.call_of(cx, n, vec![p]);
-        if self.rng.chance(if zero { 80 } else { 8 }) && c.hash.iter().all(|h| h.0 != "includeZero") {
+        if self.rng.chance(if zero { 80 } else { 8 }) && c.hash.iter().all(|h| h.0 != "includeZero")
+        {
             let (p, _) = self.literal();
             let p = if self.rng.chance(50) { Param::Lit(Lit::True) } else { p };
             c = c.with("includeZero", p);
         }
         let names = if self.rng.chance(8) { self.block_names(2) } else { vec![] };
-        let (then, other) =
-            if truthy(&v) == (n == "if") { (Some(cx.clone()), None) } else { (None, Some(cx.clone())) };
+        let (then, other) = if truthy(&v) == (n == "if") {
+            (Some(cx.clone()), None)
+        } else {
+            (None, Some(cx.clone()))
+        };
         self.finish_block(c, names, then, other, depth)
     }
 
@@ -481,7 +514,8 @@ impl Rich<'_> {
             _ => pair(self.looked_up(cx)),
         };
         let hash = self.hash(cx, 3);
-        let known: Vec<(String, Json)> = hash.iter().map(|(k, _, v)| (k.clone(), v.clone())).collect();
+        let known: Vec<(String, Json)> =
+            hash.iter().map(|(k, _, v)| (k.clone(), v.clone())).collect();
         let mut own = cx.included(base.as_ref(), &known, cx.block_text);
         let b = with_body.then(|| self.body(&mut own, depth + 1, 4));
         let found = self.target(cx);
@@ -537,7 +571,7 @@ impl Rich<'_> {
         }
     }
 
-    fn partial_name(&mut self, cx: &Scopes, n: &str) -> Param {
+    pub(super) fn partial_name(&mut self, cx: &Scopes, n: &str) -> Param {
         let known = cx.root.get("t").and_then(Json::as_object);
         let key = known.and_then(|t| t.iter().find(|(_, v)| *v == n).map(|(k, _)| k.clone()));
         match (self.rng.weighted(&[50, 20, 15, 15]), key) {
@@ -568,109 +602,6 @@ impl Rich<'_> {
         let n = self.names[me].clone();
         let inside = vec![show(local(0, "index")), partial(calls(&n, vec![])), raw(",")];
         block_of(calls("each", vec![path(&[])]), &[], Some(inside), Some(vec![show(path(&[]))]))
-    }
-
-    // Failures, 11 to 20
-
-    fn failing(&mut self, cx: &Scopes, depth: usize, first: bool) -> Kind {
-        let deep = depth > 12;
-        match self.rng.below(10) {
-            0 if self.strict => self.missing_variable(cx),
-            1 => partial(call(self.partial_name(cx, "nowhere"), vec![])),
-            2 => partial(call(self.partial_name(cx, "@partial-block"), vec![])),
-            3 => self.unknown_helper(cx),
-            4 => self.too_few_params(cx),
-            5 => self.unknown_decorator(cx, deep),
-            6 if first && depth == 1 => self.own_name(),
-            7 => self.wrong_inline(cx),
-            8 => decorator(call(self.helper_name(cx, "inline"), vec![string("x")])),
-            _ => self.wrong_index(cx),
-        }
-    }
-
-    fn missing_variable(&mut self, cx: &Scopes) -> Kind {
-        let p = self.miss(cx);
-        match self.rng.below(6) {
-            0 => show_html(p),
-            1 => block("each", vec![p], vec![raw("x")]),
-            2 => block_of(calls("with", vec![p]), &["x"], None, None),
-            3 => Kind::Expr(calls("lookup", vec![p, string("k")]), false),
-            4 => Kind::Expr(calls("if", vec![lookup(root(&[]), string("gone"))]), false),
-            _ => show(p),
-        }
-    }
-
-    fn unknown_helper(&mut self, cx: &Scopes) -> Kind {
-        let (p, _) = self.param(cx, Want::Any);
-        let n = *self.rng.pick(&["no", "If", "helperMissing", "blockHelperMissing", "eac", "inline", ""]);
-        match self.rng.below(5) {
-            0 => block(n, vec![p], vec![raw("x")]),
-            1 => block(n, vec![], vec![]),
-            2 => show(sub(calls(n, vec![p]))),
-            3 => Kind::Html(calls(n, vec![]).with("a", p), false),
-            _ => Kind::Expr(calls(n, vec![p]), true),
-        }
-    }
-
-    fn too_few_params(&mut self, cx: &Scopes) -> Kind {
-        let n = *self.rng.pick(&["each", "with", "if", "unless", "lookup"]);
-        let (p, _) = self.path_to(cx, Want::Any);
-        match self.rng.below(6) {
-            0 => show(name(n)),
-            1 => show(Param::Path { raw: n.to_owned(), segs: vec![Seg::Named("a".to_owned())] }),
-            2 => block(n, vec![], vec![raw("x")]),
-            3 => Kind::Expr(calls("lookup", vec![p]), false),
-            4 => show(sub(calls(n, vec![]))),
-            _ => decorator_block(call(self.helper_name(cx, "inline"), vec![]), vec![raw("x")]),
-        }
-    }
-
-    fn unknown_decorator(&mut self, cx: &Scopes, deep: bool) -> Kind {
-        let (p, _) = self.param(cx, Want::Any);
-        let n = *self.rng.pick(&["no", "Inline", "each", ""]);
-        if deep || self.rng.chance(50) {
-            decorator(calls(n, vec![p]))
-        } else {
-            decorator_block(calls(n, vec![p]), vec![raw("x")])
-        }
-    }
-
-    fn own_name(&mut self) -> Kind {
-        let me = *self.open.last().unwrap_or(&0);
-        partial(calls(&self.names[me].clone(), vec![]))
-    }
-
-    fn wrong_inline(&mut self, cx: &Scopes) -> Kind {
-        let p = match self.rng.below(4) {
-            0 => number(3),
-            1 => name("x"),
-            2 => self.path_to(cx, Want::Full).0,
-            _ => Param::Lit(Lit::Null),
-        };
-        let c = call(self.helper_name(cx, "inline"), vec![p]);
-        if self.rng.chance(50) {
-            decorator(c)
-        } else {
-            decorator_block(c, vec![raw("x")])
-        }
-    }
-
-    fn wrong_index(&mut self, cx: &Scopes) -> Kind {
-        let bad = *self.rng.pick(&["x", "-1", "18446744073709551616", "", "1.0", " 1", "++1", "+", "é"]);
-        let list = match cx.find(self.rng, Want::Any) {
-            Some((Param::Path { mut segs, .. }, Json::Array(_))) => {
-                segs.push(Seg::Named(bad.to_owned()));
-                of_segs(segs)
-            }
-            _ => root(&["list", bad]),
-        };
-        match self.rng.below(5) {
-            0 => block("each", vec![list], vec![]),
-            1 => Kind::Expr(calls("lookup", vec![number(1), list]), false),
-            2 => block_of(calls("if", vec![number(1)]).with("a", list), &[], None, None),
-            3 => partial(calls("main", vec![string("")]).with("a", list)),
-            _ => show(list),
-        }
     }
 }
 

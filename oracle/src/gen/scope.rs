@@ -121,7 +121,12 @@ impl Scopes {
     }
 
     /// The scope of a partial.
-    pub fn included(&self, base: Option<&Json>, hash: &[(String, Json)], block_text: bool) -> Scopes {
+    pub fn included(
+        &self,
+        base: Option<&Json>,
+        hash: &[(String, Json)],
+        block_text: bool,
+    ) -> Scopes {
         let value = merged(base.unwrap_or(&self.front().value), hash);
         let mut scope = Scope::of(value);
         scope.locals = self.front().locals.clone();
@@ -152,7 +157,7 @@ impl Scopes {
         self.below(rng, want, vec![Seg::Root], &self.root)
     }
 
-    /// Ups, also beyond the scopes, where they fall back to the front; a root after them is ignored.
+    /// Ups, also beyond the scopes, which is the front again; a root after them is ignored.
     fn find_up(&self, rng: &mut Rng, want: Want) -> Option<(Param, Json)> {
         let count = rng.between(1, self.open.len() + 1);
         let scope = self.open.get(count).unwrap_or(&self.open[0]);
@@ -186,7 +191,13 @@ impl Scopes {
     }
 
     /// A value under `base`, whose path begins with `segs`.
-    fn below(&self, rng: &mut Rng, want: Want, segs: Vec<Seg>, base: &Json) -> Option<(Param, Json)> {
+    fn below(
+        &self,
+        rng: &mut Rng,
+        want: Want,
+        segs: Vec<Seg>,
+        base: &Json,
+    ) -> Option<(Param, Json)> {
         let mut all = Vec::new();
         reach(base, &mut Vec::new(), &mut all);
         all.retain(|(_, v)| want.takes(v));
@@ -248,7 +259,9 @@ fn merged(base: &Json, hash: &[(String, Json)]) -> Json {
     let mut m = match base {
         Json::Object(m) => m.clone(),
         Json::Array(a) => a.iter().enumerate().map(|(i, v)| (i.to_string(), v.clone())).collect(),
-        Json::String(s) => s.chars().enumerate().map(|(i, c)| (i.to_string(), json!(c.to_string()))).collect(),
+        Json::String(s) => {
+            s.chars().enumerate().map(|(i, c)| (i.to_string(), json!(c.to_string()))).collect()
+        }
         _ => Map::new(),
     };
     m.extend(hash.iter().cloned());

@@ -36,7 +36,9 @@ fn plan(rng: &mut Rng, cabinets: usize) -> Json {
         let here = left.min(rng.between(6, 36));
         left -= here;
         let name = names[rooms.len() % names.len()];
-        rooms.push(json!({"name": name, "floor": rooms.len() / 3, "runs": runs(rng, here, panels.min(5))}));
+        rooms.push(
+            json!({"name": name, "floor": rooms.len() / 3, "runs": runs(rng, here, panels.min(5))}),
+        );
     }
     json!({
         "number": format!("Q-{}", rng.between(1000, 9999)),
@@ -98,7 +100,10 @@ fn layout() -> (&'static str, Vec<Kind>) {
 }
 
 fn head(title: &str) -> Kind {
-    partial_block(calls("head", vec![]).with("title", string(title)), vec![show(path(&["title"])), raw(" "), show(root(&["number"]))])
+    partial_block(
+        calls("head", vec![]).with("title", string(title)),
+        vec![show(path(&["title"])), raw(" "), show(root(&["number"]))],
+    )
 }
 
 fn notes() -> Kind {
@@ -119,15 +124,36 @@ fn quotation() -> Tree {
     ];
     Tree::new(vec![
         ("main", vec![head("Quotation"), each("rooms", &[], vec![include("room", "")]), notes()]),
-        ("room", vec![raw("Room: "), show(path(&["name"])), raw("\n"), each("runs", &[], vec![include("run", "  ")])]),
-        ("run", vec![raw("Run "), show(path(&["wall"])), raw(":\n"), each("cabinets", &["c", "i"], line)]),
+        (
+            "room",
+            vec![
+                raw("Room: "),
+                show(path(&["name"])),
+                raw("\n"),
+                each("runs", &[], vec![include("run", "  ")]),
+            ],
+        ),
+        (
+            "run",
+            vec![
+                raw("Run "),
+                show(path(&["wall"])),
+                raw(":\n"),
+                each("cabinets", &["c", "i"], line),
+            ],
+        ),
         ("size", size),
         layout(),
     ])
 }
 
 fn cutting_list() -> Tree {
-    let edge = block_of(calls("if", vec![path(&["e"])]), &[], Some(vec![raw(" edged")]), Some(vec![raw(" plain")]));
+    let edge = block_of(
+        calls("if", vec![path(&["e"])]),
+        &[],
+        Some(vec![raw(" edged")]),
+        Some(vec![raw(" plain")]),
+    );
     let panel = vec![
         show(ups(1, &["code"])),
         raw("/"),
@@ -141,10 +167,25 @@ fn cutting_list() -> Tree {
         edge,
         raw("\n"),
     ];
-    let cabinet = vec![block("each", vec![path(&["panels"])], vec![partial(calls("panel", vec![]))])];
-    let run = vec![raw("# "), show(ups(1, &["name"])), raw(", "), show(path(&["wall"])), raw("\n"), each("cabinets", &[], cabinet)];
+    let cabinet =
+        vec![block("each", vec![path(&["panels"])], vec![partial(calls("panel", vec![]))])];
+    let run = vec![
+        raw("# "),
+        show(ups(1, &["name"])),
+        raw(", "),
+        show(path(&["wall"])),
+        raw("\n"),
+        each("cabinets", &[], cabinet),
+    ];
     Tree::new(vec![
-        ("main", vec![inline("panel", panel), head("Cutting list"), each("rooms", &[], vec![each("runs", &[], run)])]),
+        (
+            "main",
+            vec![
+                inline("panel", panel),
+                head("Cutting list"),
+                each("rooms", &[], vec![each("runs", &[], run)]),
+            ],
+        ),
         layout(),
     ])
 }
@@ -164,7 +205,11 @@ fn delivery_note() -> Tree {
             "main",
             vec![
                 head("Delivery note"),
-                each("rooms", &["room"], vec![show(path(&["room", "name"])), raw("\n"), each("runs", &[], runs)]),
+                each(
+                    "rooms",
+                    &["room"],
+                    vec![show(path(&["room", "name"])), raw("\n"), each("runs", &[], runs)],
+                ),
                 notes(),
             ],
         ),

@@ -191,7 +191,12 @@ pub fn block(n: &str, params: Vec<Param>, then: Vec<Kind>) -> Kind {
     block_of(calls(n, params), &[], Some(then), None)
 }
 
-pub fn block_of(call: Call, names: &[&str], then: Option<Vec<Kind>>, other: Option<Vec<Kind>>) -> Kind {
+pub fn block_of(
+    call: Call,
+    names: &[&str],
+    then: Option<Vec<Kind>>,
+    other: Option<Vec<Kind>>,
+) -> Kind {
     Kind::Block(Block {
         call,
         names: names.iter().map(|n| (*n).to_owned()).collect(),
@@ -228,7 +233,11 @@ pub fn partial_block(call: Call, inside: Vec<Kind>) -> Kind {
 impl Kind {
     /// The element with its indent set; only partials and decorators have one.
     pub fn indented(mut self, indent: &str, ibw: bool) -> Kind {
-        if let Kind::Decorator(d) | Kind::DecoratorBlock(d) | Kind::Partial(d) | Kind::PartialBlock(d) = &mut self {
+        if let Kind::Decorator(d)
+        | Kind::DecoratorBlock(d)
+        | Kind::Partial(d)
+        | Kind::PartialBlock(d) = &mut self
+        {
             d.indent = Some(indent.to_owned());
             d.ibw = ibw;
         }
@@ -243,7 +252,8 @@ pub fn body(kinds: Vec<Kind>) -> Body {
 
 impl Tree {
     pub fn new(templates: Vec<(&str, Vec<Kind>)>) -> Tree {
-        let templates = templates.into_iter().map(|(n, kinds)| (n.to_owned(), body(kinds))).collect();
+        let templates =
+            templates.into_iter().map(|(n, kinds)| (n.to_owned(), body(kinds))).collect();
         Tree { templates }
     }
 

@@ -1,11 +1,11 @@
-//! The fixed list: cases with the oracle's answers, in a form that a reader without seeking can take.
+//! The fixed list: cases with the oracle's answers, in a form to be read front to back.
 //! `vectors/README.md` states the form.
 
 use std::collections::{BTreeMap, HashSet};
 
+use super::rng::Rng;
 use super::{cases, limits, Case, Order};
 use crate::call::{with_big_stack, Answer};
-use super::rng::Rng;
 
 /// One case of the list.
 #[derive(Clone, Debug, PartialEq, Eq)]
@@ -41,7 +41,13 @@ impl Vector {
 
     pub fn said(&self) -> String {
         let name = String::from_utf8_lossy(&self.template);
-        format!("{} {name:?} {}:{} text of {}", self.number, self.line, self.column, self.text.len())
+        format!(
+            "{} {name:?} {}:{} text of {}",
+            self.number,
+            self.line,
+            self.column,
+            self.text.len()
+        )
     }
 }
 
@@ -58,7 +64,13 @@ pub struct Part {
     pub most_of_one: usize,
 }
 
-const fn part(profile: &'static str, seed: u64, count: usize, max_bytes: usize, most_of_one: usize) -> Part {
+const fn part(
+    profile: &'static str,
+    seed: u64,
+    count: usize,
+    max_bytes: usize,
+    most_of_one: usize,
+) -> Part {
     Part { profile, seed, count, max_bytes, cabinets: 0, most_of_one }
 }
 
@@ -135,7 +147,8 @@ const MOST: usize = 65_535;
 fn copy_at(bytes: &[u8], at: usize) -> Option<(usize, usize)> {
     let mut best = None;
     for back in 1..=BACK.min(at) {
-        let same = (at..bytes.len()).take(MOST).take_while(|i| bytes[*i] == bytes[*i - back]).count();
+        let same =
+            (at..bytes.len()).take(MOST).take_while(|i| bytes[*i] == bytes[*i - back]).count();
         if same >= LEAST && best.is_none_or(|(_, n)| same > n) {
             best = Some((back, same));
         }
@@ -163,22 +176,38 @@ fn put_string(bytes: &[u8], out: &mut Vec<u8>) {
     }
 }
 
-pub fn write(vectors: &[&Vector]) -> Vec<u8> {
-    let mut out = Vec::new();
-    put_number(vectors.len() as u32, &mut out);
+fn put_vector(v: &Vector, out: &mut Vec<u8>) {
+    out.push(v.case.options);
+    put_string(&v.case.start, out);
+    put_number(v.case.page, out);
+    put_string(&v.case.bundle, out);
+    put_string(&v.case.plan, out);
+    out.push(v.number);
+    put_string(&v.template, out);
+    put_number(v.line, out);
+    put_number(v.column, out);
+    put_string(&v.text, out);
+}
+
+/// No file of the list is longer, so that a program reads each whole into a buffer of this size.
+const FILE: usize = 262_144;
+
+/// The list as files: each has the number of its cases and then the cases.
+pub fn write(vectors: &[&Vector]) -> Vec<Vec<u8>> {
+    let mut files: Vec<(u32, Vec<u8>)> = Vec::new();
     for v in vectors {
-        out.push(v.case.options);
-        put_string(&v.case.start, &mut out);
-        put_number(v.case.page, &mut out);
-        put_string(&v.case.bundle, &mut out);
-        put_string(&v.case.plan, &mut out);
-        out.push(v.number);
-        put_string(&v.template, &mut out);
-        put_number(v.line, &mut out);
-        put_number(v.column, &mut out);
-        put_string(&v.text, &mut out);
+        let mut one = Vec::new();
+        put_vector(v, &mut one);
+        match files.last_mut() {
+            Some((count, cases)) if 4 + cases.len() + one.len() <= FILE => {
+                *count += 1;
+                cases.append(&mut one);
+            }
+            _ => files.push((1, one)),
+        }
     }
-    out
+    let whole = |(count, cases): &(u32, Vec<u8>)| [&count.to_le_bytes()[..], cases].concat();
+    files.iter().map(whole).collect()
 }
 
 struct Reader<'a> {
@@ -190,7 +219,8 @@ impl<'a> Reader<'a> {
     fn take(&mut self, count: usize) -> Result<&'a [u8], String> {
         let end = self.at + count;
         let found = self.bytes.get(self.at..end);
-        let found = found.ok_or_else(|| format!("byte {}: {count} bytes are wanted, the file ends", self.at))?;
+        let found = found
+            .ok_or_else(|| format!("byte {}: {count} bytes are wanted, the file ends", self.at))?;
         self.at = end;
         Ok(found)
     }
@@ -218,7 +248,10 @@ impl<'a> Reader<'a> {
             s.extend_from_slice(self.take(plain)?);
             let count = self.short()?;
             let back = self.short()?;
-            if plain + count == 0 || s.len() + count > length || count > 0 && (back == 0 || back > s.len()) {
+            if plain + count == 0
+                || s.len() + count > length
+                || count > 0 && (back == 0 || back > s.len())
+            {
                 return Err(format!("byte {at}: a piece of a string is wrong"));
             }
             for _ in 0..count {
@@ -275,8 +308,8 @@ pub fn replay(vectors: &[Vector]) -> Vec<String> {
     })
 }
 
-/// Runs each maker of the limits profile so often on both sides; the lines tell where the number is not
-/// the one that the maker expects.
+/// Runs each maker of the limits profile on both sides; the lines tell where the number is not the
+/// one that the maker expects.
 pub fn bounds(seed: u64, turns: u64) -> Vec<String> {
     with_big_stack(|| {
         let mut lines = Vec::new();
@@ -292,7 +325,10 @@ pub fn bounds(seed: u64, turns: u64) -> Vec<String> {
                 };
                 if said != number.to_string() {
                     let side = if over { "past" } else { "at" };
-                    lines.push(format!("{} {:?} turn {turn} ({side} the limit): {said} instead of {number}", l.number, l.name));
+                    lines.push(format!(
+                        "{} {:?} turn {turn} ({side} the limit): {said} instead of {number}",
+                        l.number, l.name
+                    ));
                 }
             }
         }

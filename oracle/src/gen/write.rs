@@ -91,7 +91,10 @@ impl Writer {
                 self.put(What::Indented, (*ibw).into(), 1);
             }
             Kind::Block(b) => self.block(b),
-            Kind::Decorator(d) | Kind::DecoratorBlock(d) | Kind::Partial(d) | Kind::PartialBlock(d) => self.deco(d),
+            Kind::Decorator(d)
+            | Kind::DecoratorBlock(d)
+            | Kind::Partial(d)
+            | Kind::PartialBlock(d) => self.deco(d),
         }
     }
 
@@ -207,7 +210,8 @@ impl Writer {
     }
 
     pub fn bytes(&self) -> Vec<u8> {
-        let byte = |bits: &[bool]| bits.iter().fold(0u8, |n, b| n << 1 | u8::from(*b)) << (8 - bits.len());
+        let byte =
+            |bits: &[bool]| bits.iter().fold(0u8, |n, b| n << 1 | u8::from(*b)) << (8 - bits.len());
         self.bits.chunks(8).map(byte).collect()
     }
 

@@ -1,0 +1,114 @@
+-- Fields put together from bytes by shifts, and cut out of a word.
+use Prim.Native.Nat.{ℕ, _+_, _-_, _*_, _/_, _%_, _^_, _≤_, _<_}
+use mathlib.Core.Path.{_≡_, sym, ap, ap₂, _∙_}
+use native.Mathlib.Nat.{add-mul, mul-assoc, mul-one, mod-eq-of-lt, zero-div}
+use native.Mathlib.Omega.{arith}
+use lib.Bits.{bitOr, or-shifted, or-zero-r}
+use lib.ListN.{length, getD, List·getD-eq-default}
+use lib.Pow.{pow-add, pow-mono, shl-lt, shl-exact}
+use Rattle.rules.specs.Bytes.{Bytes}
+use Rattle.rules.specs.Bits.{Bits, bits}
+use Rattle.rules.specs.Layout.{field}
+use Rattle.rules.specs.LayoutLaws.{Binary, field-lt}
+use Rattle.rules.specs.BundleLaws.{bits-binary}
+use Rattle.bits.specs.Fields.{field-append, field-first, field-middle, field-shifted, field-byte}
+
+pub byte-read : (s : Bytes) (k : ℕ) → getD s k 0 < 256 → getD s k 0 ≡ field (bits s) 8 (8 * k)
+byte-read s k h = sym (field-byte s k ∙ mod-eq-of-lt h)
+
+pub byte-past : (s : Bytes) (k : ℕ) → length s ≤ k → 0 ≡ field (bits s) 8 (8 * k)
+byte-past s k h = sym (field-byte s k ∙ ap (λ (x : ℕ). x % 256) (List·getD-eq-default s 0 h))
+
+pub byte-lt : (s : Bytes) (q : ℕ) → field (bits s) 8 q < 256
+byte-lt s q = field-lt (bits s) (bits-binary s) 8 q
+
+module _ (b : Bits) (bin : Binary b) where
+  -- one byte more: x has the bits before it, shifted so far that it fits behind them
+  more : (w k p x y z : ℕ) → x ≡ field b w p * 2 ^ (8 + k) → y ≡ field b 8 (p + w) → z ≡ y * 2 ^ k → bitOr x z ≡ field b (w + 8) p * 2 ^ k
+  more w k p x y z e f g =
+      let h : y < 2 ^ 8 = rw f (field-lt b bin 8 (p + w)) in
+      let d : field b w p * 2 ^ (8 + k) ≡ field b w p * 2 ^ 8 * 2 ^ k = rw (pow-add, ← mul-assoc) in
+      let r : field b (w + 8) p ≡ field b w p * 2 ^ 8 + y = field-append b w 8 p ∙ ap (λ (n : ℕ). field b w p * 2 ^ 8 + n) (sym f) in
+      rw (e, g, or-shifted (field b w p) (8 + k) (y * 2 ^ k) (shl-lt 8 k h), d, r, add-mul)
+
+  shifted : (k q y : ℕ) → 8 + k ≤ 64 → y ≡ field b 8 q → y * 2 ^ k % 2 ^ 64 ≡ y * 2 ^ k
+  shifted k q y h e = shl-exact 8 k 64 (rw e (field-lt b bin 8 q)) h
+
+  behind : (k j y : ℕ) → y ≡ field b 8 (8 * (k + j)) → y ≡ field b 8 (8 * k + 8 * j)
+  behind k j y e = e ∙ ap (field b 8) (omega arith)
+
+  -- eight bytes in a row
+  pub word-of : (k t u v w x y z r : ℕ)
+      → t ≡ field b 8 (8 * k) → u ≡ field b 8 (8 * (k + 1)) → v ≡ field b 8 (8 * (k + 2)) → w ≡ field b 8 (8 * (k + 3))
+      → x ≡ field b 8 (8 * (k + 4)) → y ≡ field b 8 (8 * (k + 5)) → z ≡ field b 8 (8 * (k + 6)) → r ≡ field b 8 (8 * (k + 7))
+      → bitOr (bitOr (bitOr (bitOr (bitOr (bitOr (bitOr (t * 2 ^ 56 % 2 ^ 64) (u * 2 ^ 48 % 2 ^ 64)) (v * 2 ^ 40 % 2 ^ 64)) (w * 2 ^ 32 % 2 ^ 64))
+      (x * 2 ^ 24 % 2 ^ 64)) (y * 2 ^ 16 % 2 ^ 64)) (z * 2 ^ 8 % 2 ^ 64)) r ≡ field b 64 (8 * k)
+  word-of k t u v w x y z r e0 e1 e2 e3 e4 e5 e6 e7 =
+      more 56 0 (8 * k) _ r r
+      (more 48 8 (8 * k) _ z _
+      (more 40 16 (8 * k) _ y _
+      (more 32 24 (8 * k) _ x _
+      (more 24 32 (8 * k) _ w _
+      (more 16 40 (8 * k) _ v _
+      (more 8 48 (8 * k) _ u _
+      (shifted 56 (8 * k) t (omega arith) e0 ∙ ap (λ (n : ℕ). n * 2 ^ 56) e0)
+      (behind k 1 u e1) (shifted 48 _ u (omega arith) e1))
+      (behind k 2 v e2) (shifted 40 _ v (omega arith) e2))
+      (behind k 3 w e3) (shifted 32 _ w (omega arith) e3))
+      (behind k 4 x e4) (shifted 24 _ x (omega arith) e4))
+      (behind k 5 y e5) (shifted 16 _ y (omega arith) e5))
+      (behind k 6 z e6) (shifted 8 _ z (omega arith) e6))
+      (behind k 7 r e7) (sym (mul-one r))
+      ∙ mul-one (field b 64 (8 * k))
+
+  -- the o bits that a shift took off in front are those that come in behind
+  joined : (o v u p x y : ℕ) → x ≡ field b (o + v) p → y ≡ field b (o + u) (p + (o + v)) → bitOr (x * 2 ^ o % 2 ^ (o + v)) (y / 2 ^ u) ≡ field b (v + o) (p + o)
+  joined o v u p x y e f =
+      let g : p + (o + v) ≡ p + o + v = omega arith in
+      let m : x * 2 ^ o % 2 ^ (o + v) ≡ field b v (p + o) * 2 ^ o = ap (λ (n : ℕ). n * 2 ^ o % 2 ^ (o + v)) e ∙ field-shifted b bin o v p in
+      let n : y / 2 ^ u ≡ field b o (p + o + v) = ap (λ (n : ℕ). n / 2 ^ u) f ∙ field-first b bin o u (p + (o + v)) ∙ ap (field b o) g in
+      rw (m, n) (or-shifted (field b v (p + o)) o (field b o (p + o + v)) (field-lt b bin o (p + o + v)) ∙ sym (field-append b v o (p + o)))
+
+  window-at : (o p x y : ℕ) → o ≤ 8 → x ≡ field b 64 p → y ≡ field b 8 (p + 64) → bitOr (x * 2 ^ o % 2 ^ 64) (y / 2 ^ (8 - o)) ≡ field b 64 (p + o)
+  window-at o p x y h e f =
+      let v : o + (64 - o) ≡ 64 = omega arith in
+      let u : o + (8 - o) ≡ 8 = omega arith in
+      let w : 64 - o + o ≡ 64 = omega arith in
+      rw (v, w) at (joined o (64 - o) (8 - o) p x y (rw v e) (rw (u, v) f))
+
+  byte-in : (o p x y : ℕ) → o ≤ 8 → x ≡ field b 8 p → y ≡ field b 8 (p + 8) → (x * 256 + y) / 2 ^ (8 - o) % 256 ≡ field b 8 (p + o)
+  byte-in o p x y h e f =
+      let v : o + 8 + (8 - o) ≡ 16 = omega arith in
+      let g : x * 256 + y ≡ field b 16 p = ap₂ (λ (m n : ℕ). m * 256 + n) e f ∙ sym (field-append b 8 8 p) in
+      rw g (rw v at (field-middle b bin o 8 (8 - o) p))
+
+  module _ (p : ℕ) where
+    here : 8 * (p / 8) + p % 8 ≡ p
+    here = omega arith
+
+    pub window-of : {x y : ℕ} → x ≡ field b 64 (8 * (p / 8)) → y ≡ field b 8 (8 * (p / 8 + 8)) → bitOr (x * 2 ^ (p % 8) % 2 ^ 64) (y / 2 ^ (8 - p % 8)) ≡ field b 64 p
+    window-of {x} {y} e f = window-at (p % 8) (8 * (p / 8)) x y (omega arith) e (behind (p / 8) 8 y f) ∙ ap (field b 64) here
+
+    -- where the ninth byte is zero
+    pub window-end : {x : ℕ} → x ≡ field b 64 (8 * (p / 8)) → 0 ≡ field b 8 (8 * (p / 8 + 8)) → x * 2 ^ (p % 8) % 2 ^ 64 ≡ field b 64 p
+    window-end {x} e f =
+        let z : 0 / 2 ^ (8 - p % 8) ≡ 0 = zero-div (2 ^ (8 - p % 8)) in
+        sym (or-zero-r (x * 2 ^ (p % 8) % 2 ^ 64)) ∙ rw z at (window-of e f)
+
+    pub byte-of : {x y : ℕ} → x ≡ field b 8 (8 * (p / 8)) → y ≡ field b 8 (8 * (p / 8 + 1)) → (x * 256 + y) / 2 ^ (8 - p % 8) % 256 ≡ field b 8 p
+    byte-of {x} {y} e f = byte-in (p % 8) (8 * (p / 8)) x y (omega arith) e (behind (p / 8) 1 y f) ∙ ap (field b 8) here
+
+  -- i bytes are passed, and x is the next
+  module _ (k i v x : ℕ) (e : v ≡ field b (8 * i) (8 * k)) where
+    pub bytes-more : x ≡ field b 8 (8 * (k + i)) → v * 256 + x ≡ field b (8 * (i + 1)) (8 * k)
+    bytes-more f =
+        let w : 8 * (i + 1) ≡ 8 * i + 8 = omega arith in
+        rw w (ap₂ (λ (m n : ℕ). m * 256 + n) e (behind k i x f) ∙ sym (field-append b (8 * i) 8 (8 * k)))
+
+    pub bytes-lt : i < 8 → v < 2 ^ 56
+    bytes-lt h = let g : 2 ^ (8 * i) ≤ 2 ^ 56 = pow-mono {j = 56} (omega arith) in omega (arith, e, field-lt b bin (8 * i) (8 * k))
+
+  pub first-of : (w p x : ℕ) → w ≤ 64 → x ≡ field b 64 p → x / 2 ^ (64 - w) ≡ field b w p
+  first-of w p x h e =
+      let v : w + (64 - w) ≡ 64 = omega arith in
+      rw e (rw v at (field-first b bin w (64 - w) p))

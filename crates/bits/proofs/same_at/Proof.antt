@@ -1,0 +1,90 @@
+use Prim.Native.Nat.{_-_, _≤_}
+use mathlib.Core.Path.{_≡_, refl, sym, _∙_}
+use native.Mathlib.Omega.{arith}
+use borrow.Author.Needs.{needs}
+use Rattle.rules.specs.Bytes.{same}
+use Rattle.rules.specs.Bits.{bits}
+use Rattle.bits.specs.Packed.{bytes-at, bytes-length, bytes-hold}
+use Rattle.bits.specs.Compare.{SameFrom, same-lengths, same-end, same-differ, same-more}
+use Rattle.bits.proofs.same_at.Statement.{statement}
+use Rattle.bits.proofs.same_at.Tie as tie
+
+abbrev Inv-loop : tie.InvT-loop
+Inv-loop s p n q m i₀ i = (i ≤ n) × (SameFrom (bytes-at (bits s) p n) (bytes-at (bits s) q m) i ≡ same (bytes-at (bits s) p n) (bytes-at (bits s) q m))
+
+abbrev μ-loop : tie.MeasureT-loop
+μ-loop s p n q m i₀ i = n - i
+
+returns : tie.Need-returns Inv-loop μ-loop
+returns c =
+    let a = c .before .before .args in
+    let b = bits (a .s .now) in
+    same-lengths (bytes-at b (a .p) (a .n)) (bytes-at b (a .q) (a .m)) (λ e. c .if1 .taken (sym (bytes-length b (a .p) (a .n)) ∙ e ∙ bytes-length b (a .q) (a .m)))
+
+loop-holds : tie.Need-loop-holds Inv-loop μ-loop
+loop-holds c = (omega arith, refl)
+
+mul-byte : tie.Need-mul-byte Inv-loop μ-loop
+mul-byte c = search needs
+
+add-byte : tie.Need-add-byte Inv-loop μ-loop
+add-byte c = search needs
+
+byte-requires : tie.Need-byte-requires Inv-loop μ-loop
+byte-requires c κs = search needs
+
+mul-byte-2 : tie.Need-mul-byte-2 Inv-loop μ-loop
+mul-byte-2 c = search needs
+
+add-byte-2 : tie.Need-add-byte-2 Inv-loop μ-loop
+add-byte-2 c = search needs
+
+byte-requires-2 : tie.Need-byte-requires-2 Inv-loop μ-loop
+byte-requires-2 c κs = search needs
+
+returns-2 : tie.Need-returns-2 Inv-loop μ-loop
+returns-2 c =
+    let a = c .before .before .before .before .before .before .before .args in
+    let b = bits (a .s .now) in
+    let l = c .before .before .before .before .loop in
+    same-differ (bytes-hold b (a .p) (a .n) (l .i) (omega arith) (c .before .before .byte .ensures)) (bytes-hold b (a .q) (a .m) (l .i) (omega arith) (c .before .byte2 .ensures)) (c .if2 .taken) ∙ l .inv .1
+
+add-i : tie.Need-add-i Inv-loop μ-loop
+add-i c = search needs
+
+loop-less : tie.Need-loop-less Inv-loop μ-loop
+loop-less c = search needs
+
+loop-again : tie.Need-loop-again Inv-loop μ-loop
+loop-again c =
+    let a = c .before .before .before .before .before .before .before .args in
+    let b = bits (a .s .now) in
+    let l = c .before .before .before .before .loop in
+    (omega arith, same-more (bytes-hold b (a .p) (a .n) (l .i) (omega arith) (c .before .before .byte .ensures)) (bytes-hold b (a .q) (a .m) (l .i) (omega arith) (c .before .byte2 .ensures)) (c .if2 .left) ∙ l .inv .1)
+
+returns-3 : tie.Need-returns-3 Inv-loop μ-loop
+returns-3 c =
+    let a = c .before .before .before .before .args in
+    let b = bits (a .s .now) in
+    let l = c .before .loop in
+    same-end (bytes-at b (a .p) (a .n)) (bytes-at b (a .q) (a .m)) (l .i) (omega (arith, bytes-length b (a .p) (a .n))) (omega (arith, bytes-length b (a .q) (a .m))) ∙ l .inv .1
+
+pub same-at-spec : {M : Type 1} → statement M
+same-at-spec =
+    tie.close
+    (tie.spec
+    Inv-loop
+    μ-loop
+    returns
+    loop-holds
+    mul-byte
+    add-byte
+    byte-requires
+    mul-byte-2
+    add-byte-2
+    byte-requires-2
+    returns-2
+    add-i
+    loop-less
+    loop-again
+    returns-3)

@@ -1,0 +1,143 @@
+// Fields of up to 64 bits at any bit of a bundle, the most significant bit first, and packed strings.
+// Past the bundle's end every bit is 0, as the definition has it, so a place needs no bound. A width is one of the layout's, at most 64.
+// Where a string's end has to fit a usize, it does: a bundle has at most 65,536 bytes.
+ghost use mathlib.Core.Path.{_≡_};
+ghost use Prim.Native.Nat.{_+_, _*_, _^_, _≤_, _<_};
+ghost use lib.ListN.{length};
+ghost use Rattle.rules.specs.Bytes.{same, before};
+ghost use Rattle.rules.specs.Bits.{bits};
+ghost use Rattle.rules.specs.Layout.{field};
+ghost use Rattle.bits.specs.Packed.{bytes-at};
+
+// The byte at k, as the 8 bits that it is.
+fn byte_at(s: &[u8], k: usize) -> u64
+    requires { ⌜ k < length (now s) ⌝ }
+    ensures { λ r. ⌜ r ≡ field (bits (now (s .entry))) 8 (8 * k) ⌝ }
+{
+    s[k] as u64
+}
+
+// The same, or 0 past the end.
+fn byte_or_zero(s: &[u8], k: usize) -> u64
+    ensures { λ r. ⌜ r ≡ field (bits (now (s .entry))) 8 (8 * k) ⌝ }
+{
+    if k < s.len() { byte_at(s, k) } else { 0 }
+}
+
+// The 8 bytes from k on. The compiler makes one load of this row of `<<` and `|`.
+fn word(s: &[u8], k: usize) -> u64
+    requires { ⌜ k + 8 ≤ length (now s) ⌝ }
+    ensures { λ r. ⌜ r ≡ field (bits (now (s .entry))) 64 (8 * k) ⌝ }
+{
+    (byte_at(s, k) << 56)
+        | (byte_at(s, k + 1) << 48)
+        | (byte_at(s, k + 2) << 40)
+        | (byte_at(s, k + 3) << 32)
+        | (byte_at(s, k + 4) << 24)
+        | (byte_at(s, k + 5) << 16)
+        | (byte_at(s, k + 6) << 8)
+        | byte_at(s, k + 7)
+}
+
+// The n bytes from k on, those past the end as 0. It calls itself, so that the compiler keeps it out of its callers.
+fn bytes_or_zero(s: &[u8], k: usize, n: usize) -> u64
+    requires { ⌜ (n ≤ 8) × (k < 2 ^ 61) ⌝ }
+    ensures { λ r. ⌜ r ≡ field (bits (now (s .entry))) (8 * n) (8 * k) ⌝ }
+{
+    if n == 0 {
+        return 0;
+    }
+    let i = n - 1;
+    bytes_or_zero(s, k, i) * 256 + byte_or_zero(s, k + i)
+}
+
+// The 64 bits from p on: 8 bytes, and of the ninth as many bits as p is off. Near the end there is no ninth.
+fn window(s: &[u8], p: usize) -> u64
+    ensures { λ r. ⌜ r ≡ field (bits (now (s .entry))) 64 p ⌝ }
+{
+    let k = p / 8;
+    let off = p % 8;
+    if k + 8 < s.len() {
+        return (word(s, k) << off) | (byte_at(s, k + 8) >> (8 - off));
+    }
+    bytes_or_zero(s, k, 8) << off
+}
+
+// The w bits from p on, as a number.
+pub fn field(s: &[u8], p: usize, w: usize) -> u64
+    requires { ⌜ w ≤ 64 ⌝ }
+    ensures { λ r. ⌜ r ≡ field (bits (now (s .entry))) w p ⌝ }
+{
+    if w == 0 {
+        return 0;
+    }
+    window(s, p) >> (64 - w)
+}
+
+// The 8 bits from p on: a byte of a packed string. Two bytes hold them.
+pub fn byte(s: &[u8], p: usize) -> u8
+    ensures { λ r. ⌜ r ≡ field (bits (now (s .entry))) 8 p ⌝ }
+{
+    let k = p / 8;
+    if k + 1 < s.len() {
+        let both = byte_at(s, k) * 256 + byte_at(s, k + 1);
+        return ((both >> (8 - p % 8)) % 256) as u8;
+    }
+    (window(s, p) >> 56) as u8
+}
+
+// Whether the n packed bytes at p are those of t.
+pub fn same_bytes(s: &[u8], p: usize, n: usize, t: &[u8]) -> bool
+    requires { ⌜ p + 8 * n < 2 ^ 64 ⌝ }
+    ensures { λ r. ⌜ r ≡ same (bytes-at (bits (now (s .entry))) p n) (now (t .entry)) ⌝ }
+{
+    if n != t.len() {
+        return false;
+    }
+    let mut i: usize = 0;
+    while i < n {
+        if byte(s, p + 8 * i) != t[i] {
+            return false;
+        }
+        i += 1;
+    }
+    true
+}
+
+// Whether the n packed bytes at p are the m packed bytes at q.
+pub fn same_at(s: &[u8], p: usize, n: usize, q: usize, m: usize) -> bool
+    requires { ⌜ (p + 8 * n < 2 ^ 64) × (q + 8 * m < 2 ^ 64) ⌝ }
+    ensures { λ r. ⌜ r ≡ same (bytes-at (bits (now (s .entry))) p n) (bytes-at (bits (now (s .entry))) q m) ⌝ }
+{
+    if n != m {
+        return false;
+    }
+    let mut i: usize = 0;
+    while i < n {
+        if byte(s, p + 8 * i) != byte(s, q + 8 * i) {
+            return false;
+        }
+        i += 1;
+    }
+    true
+}
+
+// Whether the n packed bytes at p come before the m packed bytes at q.
+pub fn before_at(s: &[u8], p: usize, n: usize, q: usize, m: usize) -> bool
+    requires { ⌜ (p + 8 * n < 2 ^ 64) × (q + 8 * m < 2 ^ 64) ⌝ }
+    ensures { λ r. ⌜ r ≡ before (bytes-at (bits (now (s .entry))) p n) (bytes-at (bits (now (s .entry))) q m) ⌝ }
+{
+    let mut i: usize = 0;
+    while i < m {
+        if n <= i {
+            return true;
+        }
+        let x = byte(s, p + 8 * i);
+        let y = byte(s, q + 8 * i);
+        if x != y {
+            return x < y;
+        }
+        i += 1;
+    }
+    false
+}

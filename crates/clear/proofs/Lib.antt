@@ -1,0 +1,2 @@
+-- What the proofs of the clearing loops share.
+mod Clearing
