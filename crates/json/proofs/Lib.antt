@@ -1,0 +1,5 @@
+pub mod Stored
+pub mod Opens
+mod Values
+mod Items
+mod Verdict

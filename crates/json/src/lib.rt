@@ -1,0 +1,264 @@
+// The plan reader: one pass over the text of a plan, which numbers its values in the order in which they start.
+ghost use mathlib.Core.Path.{_≡_};
+ghost use Prim.Native.Nat.{suc, _+_, _≤_, _<_};
+ghost use lib.ListN.{length, set};
+ghost use Rattle.rules.specs.Scan.{scalar-end};
+ghost use Rattle.rules.specs.Tree.{leaf, colon-end, name-end, item-place, item-name, items, is-open, value-of};
+ghost use Rattle.rules.specs.Plan.{answer};
+ghost use Rattle.json.specs.Table.{entry, table};
+ghost use Rattle.json.specs.Reading.{Meets, MeetsAll, judged};
+use clear::clear_u64;
+use scan::byte;
+use scan::spaces_end;
+
+// What was read: the place behind it (0 for nothing), the values numbered so far, and how many numbers check 9 refuses.
+pub struct Read {
+    pub at: usize,
+    pub count: usize,
+    pub bad: usize,
+}
+
+// A value's entry. Every place of a text fits 16 bits.
+fn entry_of(start: usize, name: usize, next: usize) -> u64
+    requires { ⌜ (start < 65536) × (name < 65536) × (next ≤ 65537) ⌝ }
+    ensures { λ r. ⌜ r ≡ entry start name next ⌝ }
+{
+    (start as u64) + 65536 * ((name as u64) + 65536 * (next as u64))
+}
+
+// Stores an entry where there is room: a plan of more values than the table has entries is refused, and the table cleared.
+fn put(tab: &mut [u64], n: usize, e: u64)
+    ensures { λ _. ⌜ now (tab .exit) ≡ set (now (tab .entry)) n e ⌝ }
+{
+    if n < tab.len() {
+        tab[n] = e;
+    }
+}
+
+// The place behind the value at i, which is no array and no object.
+fn scalar_end(s: &[u8], i: usize) -> usize
+    requires { ⌜ (i ≤ length (now s)) × (length (now s) ≤ 65536) ⌝ }
+    ensures { λ r. ⌜ r ≡ scalar-end (now (s .entry)) i ⌝ }
+{
+    let c = byte(s, i);
+    if c == 34 {
+        return strings::string_end(s, i + 1);
+    }
+    if c == 116 {
+        return scan::word_end(b"true", s, i);
+    }
+    if c == 102 {
+        return scan::word_end(b"false", s, i);
+    }
+    if c == 110 {
+        return scan::word_end(b"null", s, i);
+    }
+    scan::number_end(s, i)
+}
+
+// A value without others in it; its own number is n.
+fn read_leaf(s: &[u8], tab: &mut [u64], i: usize, name: usize, n: usize, bad: usize) -> Read
+    requires { ⌜ (i ≤ length (now s)) × (length (now s) ≤ 65536) × (name < 65536) × (n ≤ i) × (bad ≤ n) ⌝ }
+    ensures { λ r. ⌜ Meets (now (s .entry)) i n bad (now (tab .entry)) (leaf (now (s .entry)) i name) r (now (tab .exit)) ⌝ }
+{
+    let e = scalar_end(s, i);
+    if e == 0 {
+        return Read {
+            at: 0,
+            count: n,
+            bad: bad,
+        };
+    }
+    let b = scan::refused_at(s, i);
+    put(tab, n, entry_of(i, name, n + 1));
+    Read {
+        at: e,
+        count: n + 1,
+        bad: bad + b,
+    }
+}
+
+// The place of the value behind a colon at i, 0 for none.
+fn colon_end(s: &[u8], i: usize) -> usize
+    requires { ⌜ i ≤ 65536 ⌝ }
+    ensures { λ r. ⌜ r ≡ colon-end (now (s .entry)) i ⌝ }
+{
+    if byte(s, i) == 58 {
+        return spaces_end(s, i + 1);
+    }
+    0
+}
+
+// The place of the value behind a name at i and its colon, 0 for none.
+fn name_end(s: &[u8], i: usize) -> usize
+    requires { ⌜ (i ≤ length (now s)) × (length (now s) ≤ 65536) ⌝ }
+    ensures { λ r. ⌜ r ≡ name-end (now (s .entry)) i ⌝ }
+{
+    if byte(s, i) != 34 {
+        return 0;
+    }
+    let e = strings::string_end(s, i + 1);
+    if e == 0 {
+        return 0;
+    }
+    colon_end(s, spaces_end(s, e))
+}
+
+// The place of the value of the item at i, 0 for none. `close` is the byte that ends the items.
+fn item_place(s: &[u8], close: u8, i: usize) -> usize
+    requires { ⌜ (i ≤ length (now s)) × (length (now s) ≤ 65536) ⌝ }
+    ensures { λ r. ⌜ r ≡ item-place (now (s .entry)) close i ⌝ }
+{
+    if close == 125 {
+        return name_end(s, i);
+    }
+    i
+}
+
+// Where the name of the item at i starts, 0 in an array.
+fn item_name(close: u8, i: usize) -> usize
+    ensures { λ r. ⌜ r ≡ item-name close i ⌝ }
+{
+    if close == 125 {
+        return i;
+    }
+    0
+}
+
+// `[` and `{`.
+fn is_open(c: u8) -> bool
+    ensures { λ r. ⌜ r ≡ is-open c ⌝ }
+{
+    (c == 91) | (c == 123)
+}
+
+// The value at i, of depth `left` at most; its own number is n.
+fn read_value(
+    s: &[u8],
+    tab: &mut [u64],
+    i: usize,
+    name: usize,
+    left: usize,
+    n: usize,
+    bad: usize,
+) -> Read
+    requires { ⌜ (i ≤ length (now s)) × (length (now s) ≤ 65536) × (name < 65536) × (n ≤ i) × (bad ≤ n) ⌝ }
+    ensures { λ r. ⌜ Meets (now (s .entry)) i n bad (now (tab .entry)) (value-of (now (s .entry)) left i name) r (now (tab .exit)) ⌝ }
+{
+    let c = byte(s, i);
+    if !is_open(c) {
+        return read_leaf(s, tab, i, name, n, bad);
+    }
+    if left == 0 {
+        return Read {
+            at: 0,
+            count: n,
+            bad: bad,
+        };
+    }
+    let j = spaces_end(s, i + 1);
+    let close = c + 2;
+    if byte(s, j) == close {
+        put(tab, n, entry_of(i, name, n + 1));
+        return Read {
+            at: j + 1,
+            count: n + 1,
+            bad: bad,
+        };
+    }
+    let r = read_items(s, tab, close, j, left - 1, n + 1, bad);
+    if r.at == 0 {
+        return r;
+    }
+    put(tab, n, entry_of(i, name, r.count));
+    r
+}
+
+// The items from i on, up to what closes them; the first one's number is n.
+fn read_items(
+    s: &[u8],
+    tab: &mut [u64],
+    close: u8,
+    i: usize,
+    left: usize,
+    n: usize,
+    bad: usize,
+) -> Read
+    requires { ⌜ (i ≤ length (now s)) × (length (now s) ≤ 65536) × (n ≤ i) × (bad ≤ n) × (0 < close) ⌝ }
+    ensures { λ r. ⌜ MeetsAll (now (s .entry)) i n bad (now (tab .entry)) (items (now (s .entry)) (value-of (now (s .entry)) left) close (suc (length (now (s .entry)))) i) r (now (tab .exit)) ⌝ }
+{
+    let mut j = i;
+    let mut m = n;
+    let mut b = bad;
+    loop {
+        let p = item_place(s, close, j);
+        if p == 0 {
+            return Read {
+                at: 0,
+                count: m,
+                bad: b,
+            };
+        }
+        let r = read_value(s, tab, p, item_name(close, j), left, m, b);
+        if r.at == 0 {
+            return r;
+        }
+        let at = r.at;
+        let e = spaces_end(s, at);
+        let c = byte(s, e);
+        if c == close {
+            return Read {
+                at: e + 1,
+                count: r.count,
+                bad: r.bad,
+            };
+        }
+        if c != 44 {
+            return Read {
+                at: 0,
+                count: m,
+                bad: b,
+            };
+        }
+        j = spaces_end(s, e + 1);
+        m = r.count;
+        b = r.bad;
+    }
+}
+
+// The number that the whole text gets: 8, then 9, then 10.
+fn judge(s: &[u8], r: Read) -> u8
+    ensures { λ v. ⌜ v ≡ judged (now (s .entry)) r ⌝ }
+{
+    let at = r.at;
+    if at == 0 {
+        return 8;
+    }
+    if spaces_end(s, at) != s.len() {
+        return 8;
+    }
+    if r.bad != 0 {
+        return 9;
+    }
+    if 4096 < r.count {
+        return 10;
+    }
+    0
+}
+
+// Reads the plan s: the number of the answer, and the table of the plan's values, which is all zero after a refusal.
+pub fn read_plan(s: &[u8], tab: &mut [u64]) -> u8
+    ensures { λ r. ⌜ r ≡ answer (now (s .entry)) ⌝ }
+    ensures { λ _. ⌜ now (tab .exit) ≡ table (length (now (tab .entry))) (now (s .entry)) ⌝ }
+{
+    clear_u64(tab);
+    if 65536 < s.len() {
+        return 7;
+    }
+    let r = read_value(s, tab, spaces_end(s, 0), 0, 32, 0, 0);
+    let v = judge(s, r);
+    if v != 0 {
+        clear_u64(tab);
+    }
+    v
+}

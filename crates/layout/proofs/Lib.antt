@@ -1,0 +1,6 @@
+mod Parts
+mod Entries
+mod Calls
+mod Bodies
+mod Distinct
+mod Whole

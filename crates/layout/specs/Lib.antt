@@ -1,0 +1,6 @@
+pub mod Walk
+pub mod WalkLaws
+pub mod Text
+pub mod Arms
+pub mod Names
+pub mod Verdict

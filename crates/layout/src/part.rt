@@ -1,0 +1,212 @@
+// The parts of a bundle that hold neither a call nor a body.
+ghost use mathlib.Core.Path.{_≡_};
+ghost use Prim.Native.Nat.{_+_, _*_, _≤_};
+ghost use lib.ListN.{length};
+ghost use Rattle.rules.specs.Utf8.{utf8};
+ghost use Rattle.rules.specs.Bits.{bits};
+ghost use Rattle.rules.specs.Layout.{_then_};
+ghost use Rattle.rules.specs.Bundle.{string, flag, seg, segs, level, path, below-zero, literal, block-names, indent};
+ghost use Rattle.bits.specs.Packed.{bytes-at};
+ghost use Rattle.layout.specs.Walk.{after, number-at, ahead, marked};
+use crate::Place;
+
+// The w bits at p as a number, those past the end as 0.
+pub fn number(b: &[u8], p: Place, w: usize) -> usize
+    requires { ⌜ w ≤ 64 ⌝ }
+    ensures { λ r. ⌜ r ≡ number-at (bits (now (b .entry))) w p ⌝ }
+{
+    let Place::At(at, _) = p else {
+        return 0;
+    };
+    bits::field(b, at, w) as usize
+}
+
+// The place n bits on.
+pub fn ahead(b: &[u8], p: Place, n: usize) -> Place
+    requires { ⌜ length (now b) ≤ 65536 ⌝ }
+    ensures { λ r. ⌜ r ≡ ahead (bits (now (b .entry))) n p ⌝ }
+{
+    let Place::At(at, mark) = p else {
+        return Place::Broken;
+    };
+    let end = 8 * b.len();
+    if end < n {
+        return Place::Broken;
+    }
+    if end - n < at {
+        return Place::Broken;
+    }
+    Place::At(at + n, mark)
+}
+
+// The same place with the mark set.
+pub fn marked(p: Place) -> Place
+    ensures { λ r. ⌜ r ≡ marked p ⌝ }
+{
+    let Place::At(at, _) = p else {
+        return Place::Broken;
+    };
+    Place::At(at, true)
+}
+
+// A bit.
+pub fn flag(b: &[u8], p: Place) -> Place
+    requires { ⌜ length (now b) ≤ 65536 ⌝ }
+    ensures { λ r. ⌜ r ≡ after flag (bits (now (b .entry))) p ⌝ }
+{
+    ahead(b, p, 1)
+}
+
+// Whether the n bytes from the bit at on are UTF-8.
+fn utf8_at(b: &[u8], at: usize, n: usize) -> bool
+    requires { ⌜ (at ≤ 524288) × (n ≤ 65536) ⌝ }
+    ensures { λ r. ⌜ r ≡ utf8 (bytes-at (bits (now (b .entry))) at n) ⌝ }
+{
+    let mut u = utf8::start();
+    let mut i: usize = 0;
+    while i < n {
+        u = utf8::step(u, bits::byte(b, at + 8 * i));
+        i += 1;
+    }
+    utf8::is_done(u)
+}
+
+// String: byte count (16), UTF-8 bytes.
+pub fn string(b: &[u8], p: Place) -> Place
+    requires { ⌜ length (now b) ≤ 65536 ⌝ }
+    ensures { λ r. ⌜ r ≡ after string (bits (now (b .entry))) p ⌝ }
+{
+    let n = number(b, p, 16);
+    let q = ahead(b, p, 16);
+    let Place::At(at, _) = q else {
+        return Place::Broken;
+    };
+    if utf8_at(b, at, n) {
+        return ahead(b, q, 8 * n);
+    }
+    Place::Broken
+}
+
+// Segment (2): 0 Named string, 1 root, 2 up.
+fn segment(b: &[u8], p: Place) -> Place
+    requires { ⌜ length (now b) ≤ 65536 ⌝ }
+    ensures { λ r. ⌜ r ≡ after seg (bits (now (b .entry))) p ⌝ }
+{
+    let k = number(b, p, 2);
+    let q = ahead(b, p, 2);
+    if k == 0 {
+        return string(b, q);
+    }
+    if k <= 2 {
+        return q;
+    }
+    Place::Broken
+}
+
+// Segment count (8) and segments.
+fn segments(b: &[u8], p: Place) -> Place
+    requires { ⌜ length (now b) ≤ 65536 ⌝ }
+    ensures { λ r. ⌜ r ≡ after segs (bits (now (b .entry))) p ⌝ }
+{
+    let n = number(b, p, 8);
+    let mut cur = ahead(b, p, 8);
+    let mut i: usize = 0;
+    while i < n {
+        cur = segment(b, cur);
+        i += 1;
+    }
+    cur
+}
+
+// Level (8), name.
+fn level(b: &[u8], p: Place) -> Place
+    requires { ⌜ length (now b) ≤ 65536 ⌝ }
+    ensures { λ r. ⌜ r ≡ after level (bits (now (b .entry))) p ⌝ }
+{
+    string(b, ahead(b, p, 8))
+}
+
+// Path: raw string, local bit; if 1: level and name; if 0: segments.
+pub fn path(b: &[u8], p: Place) -> Place
+    requires { ⌜ length (now b) ≤ 65536 ⌝ }
+    ensures { λ r. ⌜ r ≡ after path (bits (now (b .entry))) p ⌝ }
+{
+    let raw = string(b, p);
+    let k = number(b, raw, 1);
+    let q = ahead(b, raw, 1);
+    if k == 0 {
+        return segments(b, q);
+    }
+    if k == 1 {
+        return level(b, q);
+    }
+    Place::Broken
+}
+
+// A negative number: 64 bits, two's complement, the top bit set.
+fn negative(b: &[u8], p: Place) -> Place
+    requires { ⌜ length (now b) ≤ 65536 ⌝ }
+    ensures { λ r. ⌜ r ≡ after below-zero (bits (now (b .entry))) p ⌝ }
+{
+    if 9223372036854775808 <= number(b, p, 64) {
+        return ahead(b, p, 64);
+    }
+    Place::Broken
+}
+
+// Literal (3): 0 null, 1 false, 2 true, 3 unsigned (64), 4 negative, 5 string.
+pub fn literal(b: &[u8], p: Place) -> Place
+    requires { ⌜ length (now b) ≤ 65536 ⌝ }
+    ensures { λ r. ⌜ r ≡ after literal (bits (now (b .entry))) p ⌝ }
+{
+    let k = number(b, p, 3);
+    let q = ahead(b, p, 3);
+    if k <= 2 {
+        return q;
+    }
+    if k == 3 {
+        return ahead(b, q, 64);
+    }
+    if k == 4 {
+        return negative(b, q);
+    }
+    if k == 5 {
+        return string(b, q);
+    }
+    Place::Broken
+}
+
+// Block names (2): 0 none, 1 one string, 2 two.
+pub fn block_names(b: &[u8], p: Place) -> Place
+    requires { ⌜ length (now b) ≤ 65536 ⌝ }
+    ensures { λ r. ⌜ r ≡ after block-names (bits (now (b .entry))) p ⌝ }
+{
+    let k = number(b, p, 2);
+    let q = ahead(b, p, 2);
+    if k == 0 {
+        return q;
+    }
+    if k == 1 {
+        return string(b, q);
+    }
+    if k == 2 {
+        return string(b, string(b, q));
+    }
+    Place::Broken
+}
+
+// The indent bit, the indent if it is 1, and the `indent_before_write` bit: the end of decorators and partials.
+pub fn tail(b: &[u8], p: Place) -> Place
+    requires { ⌜ length (now b) ≤ 65536 ⌝ }
+    ensures { λ r. ⌜ r ≡ after (indent then flag) (bits (now (b .entry))) p ⌝ }
+{
+    let k = number(b, p, 1);
+    let q = ahead(b, p, 1);
+    if k == 0 {
+        return flag(b, q);
+    }
+    if k == 1 {
+        return flag(b, string(b, q));
+    }
+    Place::Broken
+}

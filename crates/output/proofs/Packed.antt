@@ -1,0 +1,20 @@
+-- Parts of packed strings.
+use mathlib.Core.Path.{_≡_, refl, sym, ap, _∙_}
+use Prim.Native.Nat.{ℕ, _+_, _-_, _*_, _≤_, _<_}
+use native.Mathlib.Omega.{arith}
+use mathlib.Core.List.{_++_}
+use lib.ListN.{length, take, drop}
+use lib.Seq.{take-at, drop-at}
+use Rattle.rules.specs.Bytes.{Bytes}
+use Rattle.rules.specs.Bits.{Bits}
+use Rattle.bits.specs.Packed.{bytes-at, bytes-length, bytes-append}
+
+module _ (b : Bits) (p n k : ℕ) (h : k ≤ n) where
+  parts : bytes-at b p n ≡ bytes-at b p k ++ bytes-at b (p + 8 * k) (n - k)
+  parts = let e : n ≡ k + (n - k) = omega arith in ap (bytes-at b p) e ∙ bytes-append b p k (n - k)
+
+  pub take-packed : take k (bytes-at b p n) ≡ bytes-at b p k
+  take-packed = ap (take k) parts ∙ take-at (bytes-at b p k) (bytes-at b (p + 8 * k) (n - k)) k (bytes-length b p k)
+
+  pub drop-packed : drop k (bytes-at b p n) ≡ bytes-at b (p + 8 * k) (n - k)
+  drop-packed = ap (drop k) parts ∙ drop-at (bytes-at b p k) (bytes-at b (p + 8 * k) (n - k)) k (bytes-length b p k)

@@ -1,0 +1,6 @@
+pub mod Picks
+pub mod Runs
+pub mod Bounds
+mod Words
+mod Decimal
+mod Numbers

@@ -1,0 +1,261 @@
+// support.rs, and render.rs: `indent_aware_write`. A text is fed to a writer byte by byte or run by run, so that every
+// source of text (plan, bundle, number, fixed or lent bytes) ends in the same place, and nothing is copied on the way:
+// `begin`, any number of feeds, `finish`.
+ghost use mathlib.Core.Bool.{true};
+ghost use mathlib.Core.Path.{_≡_};
+ghost use Prim.Native.Nat.{_+_, _≤_, _<_, min};
+ghost use lib.ListN.{length, drop, getD};
+ghost use Rattle.rules.specs.Bytes.{run};
+ghost use Rattle.rules.specs.Support.{newline-matcher};
+ghost use Rattle.output.specs.Writer.{output, all-put};
+ghost use Rattle.support.specs.Feed.{begun, finished, wants-indent, indent-before as before, emitted, all-emitted, entity-or, escaped};
+ghost use Rattle.support.specs.Runs.{calm, quiet-byte};
+ghost use Rattle.support.specs.Table.{table, row-of, row-bytes};
+use output::Writer;
+
+// A row for each character that is escaped: the character, the length of its entity, and the entity.
+const ENTITIES: [u8; 56] = [
+    60,
+    4,
+    38,
+    108,
+    116,
+    59,
+    0,
+    0,
+    62,
+    4,
+    38,
+    103,
+    116,
+    59,
+    0,
+    0,
+    34,
+    6,
+    38,
+    113,
+    117,
+    111,
+    116,
+    59,
+    38,
+    5,
+    38,
+    97,
+    109,
+    112,
+    59,
+    0,
+    39,
+    6,
+    38,
+    35,
+    120,
+    50,
+    55,
+    59,
+    96,
+    6,
+    38,
+    35,
+    120,
+    54,
+    48,
+    59,
+    61,
+    6,
+    38,
+    35,
+    120,
+    51,
+    68,
+    59,
+];
+
+fn wide(x: u8) -> usize
+    ensures { λ r. ⌜ (r ≡ x) × (r < 256) ⌝ }
+{
+    x as usize
+}
+
+fn least(a: usize, b: usize) -> usize
+    ensures { λ r. ⌜ r ≡ min a b ⌝ }
+{
+    if a < b { a } else { b }
+}
+
+fn newline_matcher(c: usize) -> bool
+    ensures { λ r. ⌜ r ≡ newline-matcher c ⌝ }
+{
+    if c == 10 {
+        return true;
+    }
+    c == 13
+}
+
+// Behind a line feed, or in front of a text that does not start with a newline.
+fn wants_indent(w: Writer, c: u8) -> bool
+    ensures { λ r. ⌜ r ≡ wants-indent c w ⌝ }
+{
+    if !w.has_indent {
+        return false;
+    }
+    if w.pen != 0 {
+        return w.pen == 11;
+    }
+    if newline_matcher(wide(c)) {
+        return false;
+    }
+    w.indent_before_write
+}
+
+fn indent_before(out: &mut [u8], indent: &[u8], w: Writer, c: u8) -> Writer
+    ensures { λ r. ⌜ output r (now (out .exit)) ≡ all-put (before (now (indent .entry)) c w) (output w (now (out .entry))) ⌝ }
+{
+    if wants_indent(w, c) {
+        let n = least(w.indent, indent.len());
+        return output::write(out, w, &indent[..n]);
+    }
+    w
+}
+
+// `indent_aware_write` begins: no byte of the text is fed yet.
+pub fn begin(w: Writer) -> Writer
+    ensures { λ r. ⌜ r ≡ begun w ⌝ }
+{
+    let mut q = w;
+    q.pen = 0;
+    q
+}
+
+// The next byte of a text that `indent_aware_write` writes: the indent where it is due, and the byte.
+pub fn feed(out: &mut [u8], indent: &[u8], w: Writer, c: u8) -> Writer
+    ensures { λ r. ⌜ output r (now (out .exit)) ≡ emitted (now (indent .entry)) c (output w (now (out .entry))) ⌝ }
+{
+    let q = indent_before(out, indent, w, c);
+    let mut r = output::put(out, q, c);
+    r.pen = wide(c) + 1;
+    r
+}
+
+// The next bytes, at once: an indent follows none of them but the last.
+fn feed_run(out: &mut [u8], indent: &[u8], w: Writer, v: &[u8]) -> Writer
+    requires { ⌜ calm (w .«has_indent») (now v) ≡ true ⌝ }
+    ensures { λ r. ⌜ output r (now (out .exit)) ≡ all-emitted (now (indent .entry)) (now (v .entry)) (output w (now (out .entry))) ⌝ }
+{
+    let n = v.len();
+    if n == 0 {
+        return w;
+    }
+    let q = indent_before(out, indent, w, v[0]);
+    let mut r = output::write(out, q, v);
+    r.pen = wide(v[n - 1]) + 1;
+    r
+}
+
+// It ends: the marks are set if anything was fed.
+pub fn finish(w: Writer) -> Writer
+    ensures { λ r. ⌜ r ≡ finished w ⌝ }
+{
+    let mut q = w;
+    let pen = q.pen;
+    if pen != 0 {
+        let newline = newline_matcher(pen - 1);
+        q.content_produced = true;
+        q.trailing_newline = newline;
+        q.indent_before_write = newline;
+    }
+    q
+}
+
+fn entry(k: usize) -> u8
+    requires { ⌜ k < 56 ⌝ }
+    ensures { λ r. ⌜ r ≡ getD table k 0 ⌝ }
+{
+    ENTITIES[k]
+}
+
+// The row of a character in the table; 7 where it has none.
+fn row(c: u8) -> usize
+    ensures { λ r. ⌜ r ≡ row-of c ⌝ }
+{
+    let mut k = 0;
+    while k < 7 {
+        if entry(k * 8) == c {
+            return k;
+        }
+        k += 1;
+    }
+    k
+}
+
+fn feed_entity(out: &mut [u8], indent: &[u8], w: Writer, k: usize) -> Writer
+    requires { ⌜ k < 7 ⌝ }
+    ensures { λ r. ⌜ output r (now (out .exit)) ≡ all-emitted (now (indent .entry)) (row-bytes k) (output w (now (out .entry))) ⌝ }
+{
+    let n = wide(entry(k * 8 + 1));
+    let t = ENTITIES;
+    let a = k * 8 + 2;
+    let e = a + n;
+    feed_run(out, indent, w, &t[a..e])
+}
+
+// A byte, or its entity.
+pub fn feed_escaped(out: &mut [u8], indent: &[u8], w: Writer, c: u8, escape: bool) -> Writer
+    ensures { λ r. ⌜ output r (now (out .exit)) ≡ all-emitted (now (indent .entry)) (entity-or escape c) (output w (now (out .entry))) ⌝ }
+{
+    if escape {
+        let k = row(c);
+        if k < 7 {
+            return feed_entity(out, indent, w, k);
+        }
+    }
+    feed(out, indent, w, c)
+}
+
+// Whether nothing comes behind a byte or in its place.
+fn is_quiet(c: u8, has_indent: bool, escape: bool) -> bool
+    ensures { λ r. ⌜ r ≡ quiet-byte «has_indent» escape c ⌝ }
+{
+    if c == b'\n' {
+        return !has_indent;
+    }
+    if !escape {
+        return true;
+    }
+    7 <= row(c)
+}
+
+// Where the quiet bytes from i on end.
+fn quiet(v: &[u8], i: usize, has_indent: bool, escape: bool) -> usize
+    requires { ⌜ i ≤ length (now v) ⌝ }
+    ensures { λ r. ⌜ (r ≡ i + run (quiet-byte «has_indent» escape) (drop i (now (v .entry)))) × (r ≤ length (now (v .entry))) ⌝ }
+{
+    let mut j = i;
+    while j < v.len() {
+        if !is_quiet(v[j], has_indent, escape) {
+            return j;
+        }
+        j += 1;
+    }
+    j
+}
+
+// All of a lent text, by runs: what needs no indent and no entity is copied at once.
+pub fn feed_bytes(out: &mut [u8], indent: &[u8], w: Writer, v: &[u8], escape: bool) -> Writer
+    ensures { λ r. ⌜ output r (now (out .exit)) ≡ all-emitted (now (indent .entry)) (escaped escape (now (v .entry))) (output w (now (out .entry))) ⌝ }
+{
+    let mut q = w;
+    let mut i = 0;
+    while i < v.len() {
+        let n = quiet(v, i, q.has_indent, escape);
+        q = feed_run(out, indent, q, &v[i..n]);
+        if v.len() <= n {
+            return q;
+        }
+        q = feed_escaped(out, indent, q, v[n], escape);
+        i = n + 1;
+    }
+    q
+}
