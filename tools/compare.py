@@ -7,7 +7,7 @@ The declarations go into the specs of a crate of their own, outside any reposito
   --rlib DIR       the proved crates rules and siblings (target/rlib beside this file's folder: run rt check first)
   --work DIR       where the crate of cases is written (a temporary folder)
   --limits S,I,E,T scopes, indent, entries, texts (32,256,4096,16384: those of the paper)
-  --from N --count N   which cases of the batch
+  --from N --count N   which cases of the batch, counted from 0, as in messages
   --max-bytes N    leave out cases whose bundle and plan together are larger (3000)
   --min-bytes N    leave out smaller ones (0)
   --max-text N     leave out cases whose text is longer (600)
@@ -15,33 +15,57 @@ The declarations go into the specs of a crate of their own, outside any reposito
   --chunk N        cases to a check (1000)
   --bytes          hand the rules the bytes of bundle and plan, so that checks 2 to 10 are compared too; without it Python
                    decodes them, which is faster, and cases that those checks refuse are left out
+
+Ends with 0 if no case differs, with 1 if one does, with 2 and a message where its input is bad, nothing is left to compare, or the check fails.
 """
 import argparse, json, os, re, struct, subprocess, sys, tempfile, time
 
-KIT = os.environ.get("RATTLE_HOME") or os.path.dirname(os.path.dirname(subprocess.run(["rt", "doc"], check=True, capture_output=True, text=True).stdout.strip()))
+
+def fail(message):
+    print("compare.py: " + message, file=sys.stderr)
+    sys.exit(2)
+
+
+def output(command):
+    """what a command prints; its failure is ours"""
+    try:
+        r = subprocess.run(command, capture_output=True, text=True)
+    except OSError as e:
+        fail("%s: %s" % (command[0], e.strerror))
+    if r.returncode != 0:
+        fail("%s ended with %d: %s" % (" ".join(command), r.returncode, r.stderr.strip()))
+    return r.stdout
+
+
+def toolchain():
+    return os.environ.get("RATTLE_HOME") or os.path.dirname(os.path.dirname(output(["rt", "doc"]).strip()))
 
 
 def read_batch(path):
-    data = open(path, "rb").read()
+    try:
+        data = open(path, "rb").read()
+    except OSError as e:
+        fail("%s: %s" % (path, e.strerror))
     at = 0
     cases = []
 
-    def u32():
+    def take(n):
         nonlocal at
-        v = struct.unpack_from("<I", data, at)[0]
-        at += 4
-        return v
+        if n > len(data) - at:
+            fail("%s: case %d: byte %d: %d bytes are wanted, but %d are left" % (path, len(cases), at, n, len(data) - at))
+        at += n
+        return data[at - n:at]
+
+    def u32():
+        return struct.unpack("<I", take(4))[0]
 
     def blob():
-        nonlocal at
-        n = u32()
-        v = data[at:at + n]
-        at += n
-        return v
+        return take(u32())
 
     while at < len(data):
-        options = data[at]
-        at += 1
+        options = take(1)[0]
+        if options > 7:
+            fail("%s: case %d: byte %d: options %d are more than three bits" % (path, len(cases), at - 1, options))
         name = blob()
         page = u32()
         bundle = blob()
@@ -275,27 +299,49 @@ def declaration(i, case, answer, limits, by_bytes):
     return "c%d : %s ≡ %s\nunfolding %s\nc%d = refl\n\n" % (i, given, want, how, i)
 
 
+def natural(s):
+    if not s.isdecimal():
+        raise argparse.ArgumentTypeError("%r is no number from 0 on" % s)
+    return int(s)
+
+
+def positive(s):
+    if natural(s) == 0:
+        raise argparse.ArgumentTypeError("at least 1 is wanted")
+    return int(s)
+
+
+def four(s):
+    if not re.fullmatch(r"\d+,\d+,\d+,\d+", s):
+        raise argparse.ArgumentTypeError("four numbers S,I,E,T are wanted, not %r" % s)
+    return [int(x) for x in s.split(",")]
+
+
 def main():
     a = argparse.ArgumentParser()
     a.add_argument("oracle")
     a.add_argument("batch")
     a.add_argument("--rlib", default=os.path.join(os.path.dirname(os.path.abspath(__file__)), "..", "target", "rlib"))
     a.add_argument("--work")
-    a.add_argument("--limits", default="32,256,4096,16384")
-    a.add_argument("--from", dest="first", type=int, default=0)
-    a.add_argument("--count", type=int, default=10**9)
-    a.add_argument("--max-bytes", type=int, default=3000)
-    a.add_argument("--min-bytes", type=int, default=0)
-    a.add_argument("--max-text", type=int, default=600)
-    a.add_argument("--per-module", type=int, default=100)
-    a.add_argument("--chunk", type=int, default=1000)
+    a.add_argument("--limits", type=four, default="32,256,4096,16384")
+    a.add_argument("--from", dest="first", type=natural, default=0)
+    a.add_argument("--count", type=natural, default=10**9)
+    a.add_argument("--max-bytes", type=natural, default=3000)
+    a.add_argument("--min-bytes", type=natural, default=0)
+    a.add_argument("--max-text", type=natural, default=600)
+    a.add_argument("--per-module", type=positive, default=100)
+    a.add_argument("--chunk", type=positive, default=1000)
     a.add_argument("--bytes", action="store_true")
     o = a.parse_args()
-    limits = [int(x) for x in o.limits.split(",")]
     rlib = os.path.abspath(o.rlib)
+    for crate in ("rules", "siblings"):
+        if not os.path.exists("%s/%s.rlib" % (rlib, crate)):
+            fail("%s/%s.rlib is missing: run `rt check %s` first, or name the folder by --rlib" % (rlib, crate, crate))
+    kit = toolchain()
     cases = read_batch(o.batch)
-    answers = [l.split(" ") for l in subprocess.run([o.oracle, "--batch", o.batch], check=True, capture_output=True, text=True).stdout.splitlines()]
-    assert len(cases) == len(answers), (len(cases), len(answers))
+    answers = [l.split(" ") for l in output([o.oracle, "--batch", o.batch]).splitlines()]
+    if len(cases) != len(answers) or any(len(l) != 6 for l in answers):
+        fail("%s: %d cases, but %s gives %d answers or other lines" % (o.batch, len(cases), o.oracle, len(answers)))
     chosen, large, front, gave_up = [], 0, 0, 0
     for i in range(o.first, min(len(cases), o.first + o.count)):
         n = answers[i][0]
@@ -307,6 +353,9 @@ def main():
             large += 1
         else:
             chosen.append(i)
+    if not chosen:
+        fail("%s: no case is left to compare: %d cases, left out %d refused by checks 2 to 10, %d by size, %d without an answer" % (
+            o.batch, len(cases), front, large, gave_up))
     numbers = {}
     for i in chosen:
         numbers[answers[i][0]] = numbers.get(answers[i][0], 0) + 1
@@ -327,13 +376,13 @@ def main():
             with open("%s/specs/%s.antt" % (crate, mod), "w") as f:
                 f.write(HEAD)
                 for i in part[m:m + o.per_module]:
-                    f.write(declaration(i, cases[i], answers[i], limits, o.bytes))
+                    f.write(declaration(i, cases[i], answers[i], o.limits, o.bytes))
         open(crate + "/specs/Lib.antt", "w").write("".join("pub mod %s\n" % m for m in mods))
-        own = os.path.join(KIT, "on", os.uname().machine)
+        own = os.path.join(kit, "on", os.uname().machine)
         t = time.time()
         r = subprocess.run([os.path.join(own, "bin", "rattle"), "check", "--crate-name", "cases", crate + "/src/lib.rt",
                             "--extern", "std=%s/rlib/std.rlib" % own, "--extern", "rules=" + rlib + "/rules.rlib", "--extern", "siblings=" + rlib + "/siblings.rlib", "-L", "dependency=%s/rlib" % own, "-L", "dependency=" + rlib,
-                            "--antt-project", KIT + "/logic/antt-project.json", "--logic-built", own + "/logic-built"],
+                            "--antt-project", kit + "/logic/antt-project.json", "--logic-built", own + "/logic-built"],
                            capture_output=True, text=True)
         spent += time.time() - t
         out = r.stdout + r.stderr
@@ -352,8 +401,7 @@ def main():
     print("cases %d: compared %d, left out %d refused by checks 2 to 10, %d by size, %d without an answer" % (
         min(len(cases) - o.first, o.count), len(chosen), front, large, gave_up))
     print("numbers: " + " ".join("%s:%d" % (n, numbers[n]) for n in sorted(numbers, key=int)))
-    if chosen:
-        print("%.1f s in checks, %.1f cases a second; %.1f s in all" % (spent, len(chosen) / max(spent, 0.001), time.time() - started))
+    print("%.1f s in checks, %.1f cases a second; %.1f s in all" % (spent, len(chosen) / max(spent, 0.001), time.time() - started))
     if undecided:
         print("past antt's limits of steps or memory, so not compared: %d %s" % (len(undecided), " ".join(map(str, undecided[:50]))))
     print("differ: %d %s" % (len(differ), " ".join(map(str, differ[:50]))))

@@ -144,35 +144,41 @@ pub fn self_check(case: &Case<'_>, counts: &mut Counts) -> Result<(), String> {
             return Err("the bundle is not written again to the same bytes".to_owned());
         }
     }
-    check_serde(case.plan, counts)
+    check_serde(&mut check_plan, case.plan, counts)
 }
 
-fn check_serde(plan: &[u8], counts: &mut Counts) -> Result<(), String> {
-    let own = check_plan(plan);
-    let place = [0, 7, 8, 9, 10].iter().position(|n| *n == own);
-    counts.plans[place.ok_or_else(|| format!("the own check gives {own}"))?] += 1;
-    if own == 7 {
+/// Whether `check`, which gives 0, 7, 8, 9 or 10, agrees with serde_json about `plan`.
+pub fn check_serde(
+    check: &mut dyn FnMut(&[u8]) -> u32,
+    plan: &[u8],
+    counts: &mut Counts,
+) -> Result<(), String> {
+    let number = check(plan);
+    let place = [0, 7, 8, 9, 10].iter().position(|n| *n == number);
+    counts.plans[place.ok_or_else(|| format!("the check gives {number}"))?] += 1;
+    if number == 7 {
         return Ok(());
     }
     let serde = serde_json::from_slice(plan);
     counts.compared += 1;
-    if agree(plan, &serde) {
-        counts.only_too_deep += usize::from(own == 8 && serde.is_ok());
+    if agree(number, plan, &serde) {
+        counts.only_too_deep += usize::from(number == 8 && serde.is_ok());
         return Ok(());
     }
     let plan = shorten(plan);
-    if own != 0 && agree(&plan, &serde_json::from_slice(&plan)) {
+    if number != 0 && agree(check(&plan), &plan, &serde_json::from_slice(&plan)) {
         counts.misread += 1;
         return Ok(());
     }
-    Err(format!("the own check gives {own}, serde_json {serde:?}"))
+    let serde = serde.map(|_| "reads it").map_err(|e| e.to_string());
+    Err(format!("the check gives {number}, serde_json {serde:?}"))
 }
 
 /// Both speak at 0 and 10, where serde_json must read the plan; at 8, where it must refuse it,
 /// unless the plan is only too deep (serde_json reads 127 levels); and at 9, where it must read
 /// the plan, unless a number passes its floats.
-fn agree(plan: &[u8], serde: &serde_json::Result<Json>) -> bool {
-    match (check_plan(plan), serde) {
+fn agree(number: u32, plan: &[u8], serde: &serde_json::Result<Json>) -> bool {
+    match (number, serde) {
         (0 | 9 | 10, Ok(_)) | (8, Err(_)) => true,
         (8, Ok(_)) => depth(plan) > MAX_DEPTH,
         (9, Err(e)) => e.to_string().starts_with("number out of range"),

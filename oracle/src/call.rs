@@ -106,13 +106,7 @@ fn checked(
     start: &[u8],
     options: Options,
 ) -> Result<(Bundle, String, Json), u32> {
-    if bundle.len() > MAX_BUNDLE {
-        return Err(2);
-    }
-    let bundle = decode(bundle).map_err(|()| 3_u32)?;
-    if bundle.templates.iter().any(|(_, t)| has_partial_path(t)) {
-        return Err(4);
-    }
+    let bundle = checked_bundle(bundle)?;
     if options.strict && options.guide_truth {
         return Err(5);
     }
@@ -124,6 +118,23 @@ fn checked(
     }
     let plan = serde_json::from_slice(plan).expect("a plan that passed checks 7 to 10");
     Ok((bundle, start, plan))
+}
+
+/// Checks 2 to 4: the bundle, or the refusal.
+fn checked_bundle(bundle: &[u8]) -> Result<Bundle, u32> {
+    if bundle.len() > MAX_BUNDLE {
+        return Err(2);
+    }
+    let bundle = decode(bundle).map_err(|()| 3_u32)?;
+    if bundle.templates.iter().any(|(_, t)| has_partial_path(t)) {
+        return Err(4);
+    }
+    Ok(bundle)
+}
+
+/// 0, or the first of 2, 3 and 4 that refuses `bundle`.
+pub fn check_bundle(bundle: &[u8]) -> u32 {
+    checked_bundle(bundle).err().unwrap_or(0)
 }
 
 /// Check 4, in all bodies, whatever the partial's name.

@@ -80,9 +80,13 @@ pub enum Literal {
 
 /// A bundle from its text form. The message of an error tells line and column.
 pub fn parse(text: &str) -> Result<Vec<u8>, String> {
-    lex::tree(text)
-        .and_then(|nodes| write::bundle(&nodes))
-        .map_err(|e| e.to_string())
+    let nodes = lex::tree(text).map_err(|e| e.to_string())?;
+    if nodes.is_empty() {
+        // an empty file is more likely a slip than a bundle without templates
+        let wanted = "a template is wanted here; `version` alone makes a bundle without one";
+        return Err(format!("line 1, column 1: {wanted}"));
+    }
+    write::bundle(&nodes).map_err(|e| e.to_string())
 }
 
 /// The text form of any bytes. What does not read as layout is shown as bits.

@@ -37,6 +37,7 @@ mod util;
 pub mod batch;
 pub mod bundle;
 pub mod call;
+pub mod compare;
 pub mod form;
 pub mod gen;
 mod limits;

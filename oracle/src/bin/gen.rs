@@ -10,6 +10,8 @@ use oracle_core::gen::{cases, sheets, Order, PROFILES, SMALL};
 const USAGE: &str = "\
 usage: gen PROFILE --seed S --count N [--max-bytes B] [--small] [--cabinets C] -o FILE
            writes a batch; PROFILE is rich, marks, nest, limits, damaged, json or sheets
+       gen plan --seed S [--indented] -o FILE
+           writes a plan of rooms and cabinets, 65,536 bytes long, for measuring
        gen vectors -o DIR
            writes the fixed list of cases with the oracle's answers, as DIR/cases-00.bin and so on
        gen replay FILE...
@@ -23,9 +25,12 @@ type Outcome = Result<(), String>;
 fn main() -> ExitCode {
     let args: Vec<String> = std::env::args().skip(1).collect();
     let result = match args.first().map(String::as_str) {
-        Some("--help") => {
+        Some("--help") if args.len() == 1 => {
             print!("{USAGE}");
             Ok(())
+        }
+        Some("plan") => {
+            Flags::read(&args[1..], &["--seed", "--indented", "-o"]).and_then(|f| large_plan(&f))
         }
         Some("vectors") => Flags::read(&args[1..], &["-o"]).and_then(|f| make_vectors(&f)),
         Some("replay") if args.len() >= 2 => args[1..].iter().try_for_each(|file| replay(file)),
@@ -42,7 +47,7 @@ fn main() -> ExitCode {
     }
 }
 
-/// The flags of a command with their values; `--small` has none.
+/// The flags of a command with their values; `--small` and `--indented` have none.
 struct Flags(BTreeMap<String, String>);
 
 impl Flags {
@@ -53,9 +58,12 @@ impl Flags {
             if !known.contains(&flag.as_str()) {
                 return Err(format!("{flag}: unknown here\n{}", USAGE.trim_end()));
             }
-            let value = if flag == "--small" { Some(String::new()) } else { args.next().cloned() };
+            let alone = ["--small", "--indented"].contains(&flag.as_str());
+            let value = if alone { Some(String::new()) } else { args.next().cloned() };
             let value = value.ok_or_else(|| format!("{flag}: its value is missing"))?;
-            found.insert(flag.clone(), value);
+            if found.insert(flag.clone(), value).is_some() {
+                return Err(format!("{flag}: given twice"));
+            }
         }
         Ok(Flags(found))
     }
@@ -90,6 +98,9 @@ fn batch(profile: &str, args: &[String]) -> Outcome {
         max_bytes: flags.number("--max-bytes", most as u64)? as usize,
         cabinets: flags.number("--cabinets", 12)? as usize,
     };
+    if profile != "sheets" && flags.0.contains_key("--cabinets") {
+        return Err("--cabinets: only of sheets".to_owned());
+    }
     if order.cabinets > sheets::MOST_CABINETS {
         return Err(format!("--cabinets: at most {} fit a plan", sheets::MOST_CABINETS));
     }
@@ -106,6 +117,13 @@ fn batch(profile: &str, args: &[String]) -> Outcome {
         ));
     }
     write(file, &out)
+}
+
+fn large_plan(flags: &Flags) -> Outcome {
+    flags.needed("--seed")?;
+    let file = flags.needed("-o")?;
+    let seed = flags.number("--seed", 0)?;
+    write(file, sheets::large_plan(seed, flags.0.contains_key("--indented")).as_bytes())
 }
 
 fn make_vectors(flags: &Flags) -> Outcome {

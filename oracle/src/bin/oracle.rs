@@ -34,6 +34,7 @@ fn main() -> ExitCode {
         ["check-plan", file] => {
             read(file).and_then(|plan| print(format!("{}\n", check_plan(&plan)).as_bytes()))
         }
+        ["asm" | "dump" | "check-plan"] => Err(USAGE.trim_end().to_owned()),
         [dir] if !dir.starts_with('-') => page(Path::new(dir)),
         _ => Err(USAGE.trim_end().to_owned()),
     };

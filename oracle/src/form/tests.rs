@@ -133,6 +133,8 @@ fn errors_tell_the_place() {
         ("template \"a\"\n    raw 1:1 \"x\"", "line 2, column 1: indented deeper than one level below the line above"),
         ("template \"a\"\n  row 1:1 \"x\"", "line 2, column 3: an element is wanted here"),
         ("template \"a\"\n  raw 1:1 \"\\q\"", "line 2, column 12: an escape is one of \\n \\r \\t \\\\ \\\" \\xNN"),
+        ("", "line 1, column 1: a template is wanted here; `version` alone makes a bundle without one"),
+        ("# nothing\n", "line 1, column 1: a template is wanted here; `version` alone makes a bundle without one"),
         ("tmplate \"a\"", "line 1, column 1: a template is wanted here"),
         ("template \"a\"\n  raw 1:1 \"x\" 7", "line 2, column 15: nothing more is wanted on this line"),
         ("template \"a\"\n  expr 1:1 n\"x\" a=1 2", "line 2, column 21: parameters stand before the hash pairs"),

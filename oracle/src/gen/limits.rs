@@ -235,6 +235,11 @@ fn parameter_depth(rng: &mut Rng, over: bool) -> Made {
     (dressed(rng, t, A), if over { 3 } else { 0 })
 }
 
+/// Bundles and plans as deep as they may be, or one deeper, with their numbers: bodies, parameters, lists and objects.
+pub fn deepest(rng: &mut Rng, over: bool) -> [Made; 3] {
+    [body_depth(rng, over), parameter_depth(rng, over), plan_depth(rng, over)]
+}
+
 /// The first and last bytes of each length, and what is next to them.
 const UTF8: [(&[u8], &[u8]); 9] = [
     (b"\xc2\x80!!", b"\xc1\xbf!!"),

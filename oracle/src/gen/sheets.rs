@@ -7,6 +7,7 @@ use super::rng::Rng;
 use super::tree::*;
 use super::write::bundle;
 use super::Case;
+use crate::plan::MAX_BYTES;
 
 /// More cabinets than this do not fit the plan's 4,096 values, even without panels.
 pub const MOST_CABINETS: usize = 650;
@@ -48,6 +49,39 @@ fn plan(rng: &mut Rng, cabinets: usize) -> Json {
         "rooms": rooms,
         "notes": ["Oak fronts = solid", "Handles \"bar\" 160"],
     })
+}
+
+/// A plan of exactly 65,536 bytes, without spaces or by lines with indents: cabinets as far as they fit, then notes.
+pub fn large_plan(seed: u64, indented: bool) -> String {
+    let write = if indented { serde_json::to_string_pretty } else { serde_json::to_string };
+    let text = |plan: &Json| write(plan).expect("a text of a plan");
+    let mut cabinets = 130;
+    loop {
+        let mut plan = plan(&mut Rng::of_case(seed, "sheets", 0), cabinets);
+        if text(&plan).len() + 200 <= MAX_BYTES {
+            fill_notes(&mut plan, &text);
+            return text(&plan);
+        }
+        cabinets -= 1;
+    }
+}
+
+/// Adds notes of 80 bytes, and a last one of what is left.
+fn fill_notes(plan: &mut Json, text: &dyn Fn(&Json) -> String) {
+    let line = "Check the width on site, and scribe the filler to the wall before it is fixed. ";
+    let add = |plan: &mut Json, bytes: usize| {
+        let note: String = line.chars().cycle().take(bytes).collect();
+        plan["notes"].as_array_mut().expect("a list of notes").push(Json::String(note));
+    };
+    let mut left = MAX_BYTES - text(plan).len();
+    while left > 200 {
+        add(plan, 80);
+        left = MAX_BYTES - text(plan).len();
+    }
+    add(plan, 0);
+    let left = MAX_BYTES - text(plan).len();
+    plan["notes"].as_array_mut().expect("a list of notes").pop();
+    add(plan, left);
 }
 
 fn runs(rng: &mut Rng, cabinets: usize, panels: usize) -> Vec<Json> {
