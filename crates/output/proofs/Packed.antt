@@ -18,3 +18,7 @@ module _ (b : Bits) (p n k : ℕ) (h : k ≤ n) where
 
   pub drop-packed : drop k (bytes-at b p n) ≡ bytes-at b (p + 8 * k) (n - k)
   drop-packed = ap (drop k) parts ∙ drop-at (bytes-at b p k) (bytes-at b (p + 8 * k) (n - k)) k (bytes-length b p k)
+
+-- m bytes from the byte k on
+pub part-packed : (b : Bits) (p n k m : ℕ) → k + m ≤ n → take m (drop k (bytes-at b p n)) ≡ bytes-at b (p + 8 * k) m
+part-packed b p n k m h = ap (take m) (drop-packed b p n k (omega arith)) ∙ take-packed b (p + 8 * k) (n - k) m (omega arith)

@@ -11,7 +11,7 @@ use lib.ListN.{length, getD, take, drop, drop-of-length-le}
 use lib.Seq.{drop-cons, getD-take, length-take-le}
 use Rattle.rules.specs.Bytes.{Bytes, pick}
 use Rattle.output.specs.declared.Writer.{Writer}
-use Rattle.output.specs.Writer.{Output, over, stored, filled, place-of, limit-of, put, all-put}
+use Rattle.output.specs.Writer.{Output, over, moved, advanced, stored, filled, place-of, limit-of, put, all-put}
 
 -- one byte, plainly
 module _ (c : ℕ) (o : Output) where
@@ -29,6 +29,14 @@ limit-by false h n = omega arith
 
 pub limit-le : (w : Writer) (n : ℕ) → limit-of w n ≤ n
 limit-le w n = limit-by (w .«block_text») (w .high) n
+
+-- one byte more of the output in force is taken; k is its place
+module _ (w : Writer) (k : ℕ) (e : k ≡ place-of w) where
+  pub low-more : w .«block_text» ≡ true → moved (w .written) (k + 1) (w .full) w ≡ advanced 1 w
+  low-more t = rw (e, t)
+
+  pub written-more : w .«block_text» ≡ false → moved (k + 1) (w .low) (w .full) w ≡ advanced 1 w
+  written-more t = rw (e, t)
 
 -- a list of bytes
 pub all-put-append : (u v : Bytes) (o : Output) → all-put (u ++ v) o ≡ all-put v (all-put u o)

@@ -24,14 +24,15 @@ pub struct Writer {
     // the last byte of the text being fed, plus one; 0 before its first byte. (One number, as wide as the others: flags
     // that change with each byte made feeding slower.)
     pub pen: usize,
+    // (The flags that feeding reads or sets stand side by side, so that each goes through memory as one byte.)
+    // a write did not fit
+    pub full: bool,
     pub has_indent: bool,
     // the output in force is a block text, and not the page
     pub block_text: bool,
-    // a write did not fit
-    pub full: bool,
+    pub indent_before_write: bool,
     pub trailing_newline: bool,
     pub content_produced: bool,
-    pub indent_before_write: bool,
 }
 
 pub fn new() -> Writer
@@ -111,16 +112,23 @@ fn fill(w: Writer, n: usize, of: usize) -> Writer
     q
 }
 
-// One byte written plainly.
+// One byte written plainly. (The writer is changed in place: to choose between two finished ones costs more than the byte.)
 pub fn put(out: &mut [u8], w: Writer, c: u8) -> Writer
     ensures { λ r. ⌜ output r (now (out .exit)) ≡ put-byte c (output w (now (out .entry))) ⌝ }
 {
     let at = place(w);
+    let mut q = w;
     if at < limit(w, out.len()) {
         out[at] = c;
-        return advance(w, 1);
+        if q.block_text {
+            q.low = at + 1;
+        } else {
+            q.written = at + 1;
+        }
+    } else {
+        q.full = true;
     }
-    fill(w, 0, 1)
+    q
 }
 
 fn copy(out: &mut [u8], at: usize, v: &[u8], n: usize)

@@ -7,7 +7,7 @@ use native.Mathlib.Nat.{min-comm}
 use native.Mathlib.Omega.{arith}
 use borrow.Author.Tests.{lt-ltb, le-ltb, le-leb, lt-leb, ltb-true, ltb-false, eqb-true, not-true}
 use lib.Dec.{T, eqb, ltb, leb}
-use lib.ListN.{length, getD, take, drop, take-append-drop}
+use lib.ListN.{length, getD, take, drop, take-append-drop, length-drop, drop-of-length-le}
 use lib.Seq.{drop-cons, drop-drop}
 use Rattle.rules.specs.Bytes.{Bytes, pick, run}
 use Rattle.rules.specs.Support.{entity, entities, escape-html}
@@ -139,3 +139,22 @@ line-some true l h = omega arith
 pub line-le : (has : Bool) (l : Bytes) → line-length has l ≤ length l
 line-le false l = omega arith
 line-le true l = omega arith
+
+-- the line from i on: the bytes from i to j are passed
+module _ (has : Bool) (l : Bytes) (i j : ℕ) (t : has ≡ true) (p : i ≤ j) (h : i + run inner-byte (drop i l) ≡ j + run inner-byte (drop j l)) where
+  pub line-found : j < length l → inner-byte (getD l j 0) ≡ false → j + 1 ≡ i + line-length has (drop i l)
+  line-found k e =
+      let z : run inner-byte (drop j l) ≡ 0 = run-end inner-byte l j k e in
+      let d = length-drop i l in
+      rw t (omega arith)
+
+  pub line-last : j ≡ length l → j ≡ i + line-length has (drop i l)
+  unfolding run
+  line-last e =
+      let k : length l ≤ j = omega arith in
+      let z : run inner-byte (drop j l) ≡ 0 = rw (drop-of-length-le l k) in
+      let d = length-drop i l in
+      rw t (omega arith)
+
+pub line-all : (has : Bool) (l : Bytes) (i : ℕ) → has ≡ false → i ≤ length l → length l ≡ i + line-length has (drop i l)
+line-all has l i t h = let d = length-drop i l in rw t (omega arith)

@@ -3,13 +3,15 @@
 // `begin`, any number of feeds, `finish`.
 ghost use mathlib.Core.Bool.{true};
 ghost use mathlib.Core.Path.{_≡_};
-ghost use Prim.Native.Nat.{_+_, _≤_, _<_, min};
+ghost use Prim.Native.Nat.{_+_, _*_, _^_, _≤_, _<_, min};
 ghost use lib.ListN.{length, drop, getD};
 ghost use Rattle.rules.specs.Bytes.{run};
+ghost use Rattle.rules.specs.Bits.{bits};
 ghost use Rattle.rules.specs.Support.{newline-matcher};
+ghost use Rattle.bits.specs.Packed.{bytes-at};
 ghost use Rattle.output.specs.Writer.{output, all-put};
 ghost use Rattle.support.specs.Feed.{begun, finished, wants-indent, indent-before as before, emitted, all-emitted, entity-or, escaped};
-ghost use Rattle.support.specs.Runs.{calm, quiet-byte};
+ghost use Rattle.support.specs.Runs.{calm, quiet-byte, line-length};
 ghost use Rattle.support.specs.Table.{table, row-of, row-bytes};
 use output::Writer;
 
@@ -256,6 +258,54 @@ pub fn feed_bytes(out: &mut [u8], indent: &[u8], w: Writer, v: &[u8], escape: bo
         }
         q = feed_escaped(out, indent, q, v[n], escape);
         i = n + 1;
+    }
+    q
+}
+
+// Where a line of a packed string ends: behind its line feed. Without an indent all is one line.
+fn line_end(s: &[u8], p: usize, i: usize, n: usize, has_indent: bool) -> usize
+    requires { ⌜ (p + 8 * n < 2 ^ 64) × (i ≤ n) ⌝ }
+    ensures { λ r. ⌜ r ≡ i + line-length «has_indent» (drop i (bytes-at (bits (now (s .entry))) p n)) ⌝ }
+{
+    if !has_indent {
+        return n;
+    }
+    let mut j = i;
+    while j < n {
+        if bits::byte(s, p + 8 * j) == b'\n' {
+            return j + 1;
+        }
+        j += 1;
+    }
+    n
+}
+
+// The next bytes, of a packed string, at once: as `feed_run`.
+fn feed_packed_run(out: &mut [u8], indent: &[u8], w: Writer, s: &[u8], p: usize, n: usize) -> Writer
+    requires { ⌜ (p + 8 * n < 2 ^ 64) × (calm (w .«has_indent») (bytes-at (bits (now s)) p n) ≡ true) ⌝ }
+    ensures { λ r. ⌜ output r (now (out .exit)) ≡ all-emitted (now (indent .entry)) (bytes-at (bits (now (s .entry))) p n) (output w (now (out .entry))) ⌝ }
+{
+    if n == 0 {
+        return w;
+    }
+    let q = indent_before(out, indent, w, bits::byte(s, p));
+    let mut r = output::write_packed(out, q, s, p, n);
+    r.pen = wide(bits::byte(s, p + 8 * (n - 1))) + 1;
+    r
+}
+
+// All of a packed string as it is, line by line: raw text of a bundle, which is never escaped.
+// (Strings lie within a bundle, so the sum fits. A packed string that may be escaped is fed byte by byte.)
+pub fn feed_packed(out: &mut [u8], indent: &[u8], w: Writer, s: &[u8], p: usize, n: usize) -> Writer
+    requires { ⌜ p + 8 * n < 2 ^ 64 ⌝ }
+    ensures { λ r. ⌜ output r (now (out .exit)) ≡ all-emitted (now (indent .entry)) (bytes-at (bits (now (s .entry))) p n) (output w (now (out .entry))) ⌝ }
+{
+    let mut q = w;
+    let mut i = 0;
+    while i < n {
+        let e = line_end(s, p, i, n, q.has_indent);
+        q = feed_packed_run(out, indent, q, s, p + 8 * i, e - i);
+        i = e;
     }
     q
 }

@@ -134,6 +134,49 @@ fn plain(vector: usize, written: usize) {
     show(vector, r, &out);
 }
 
+// A packed string, `a\nbc\n\n\r\n<d`, from the bit 3 on; behind it the first five bits of `@`, whose others are past the end.
+const PACKED: [u8; 11] = [172, 33, 76, 76, 97, 65, 65, 161, 71, 140, 136];
+
+// Its n bytes from the byte i on, fed line by line, into an output of 20 bytes; and written plainly.
+fn packed(vector: usize, w: Writer, i: usize, n: usize) {
+    let s = PACKED;
+    let mut out = [46u8; 20];
+    if 16 < i {
+        return;
+    }
+    if 16 < n {
+        return;
+    }
+    let r = support::finish(support::feed_packed(
+        &mut out,
+        b"  ",
+        support::begin(w),
+        &s,
+        3 + 8 * i,
+        n,
+    ));
+    show(vector, r, &out);
+    let mut plain = [46u8; 20];
+    let q = output::write_packed(&mut plain, w, &s, 3 + 8 * i, n);
+    show(vector, q, &plain);
+}
+
+// None, some and all of it; indented and not; a page that is exactly full and one short; a block text.
+fn packed_strings() {
+    packed(40, at(0), 0, 0);
+    packed(41, at(0), 0, 10);
+    packed(42, indenting(0, 2), 0, 10);
+    packed(43, indenting(0, 2), 1, 5);
+    packed(44, indenting(0, 0), 0, 10);
+    packed(45, at(10), 0, 10);
+    packed(46, at(11), 0, 10);
+    packed(47, indenting(14, 2), 2, 3);
+    packed(48, indenting(15, 2), 2, 3);
+    packed(49, drawing(4, 9), 4, 6);
+    packed(50, at(18), 8, 2);
+    packed(51, at(0), 9, 2);
+}
+
 // A finished block text moves to the high end.
 fn move_text(vector: usize, begin: usize, high: usize) {
     let mut buffer = *b"abcdef......";
@@ -200,4 +243,5 @@ fn main() {
     move_text(33, 2, 6);
     move_text(33, 6, 12);
     finished_texts();
+    packed_strings();
 }

@@ -12,9 +12,9 @@ use lib.ListN.{length, drop, take, drop-of-length-le, List·getD-eq-default}
 use lib.Seq.{drop-cons, drop-drop}
 use borrow.Author.Tests.{ltb-true, ltb-false, leb-true, lt-ltb, le-ltb, le-leb, lt-leb, ne-eqb}
 use Rattle.rules.specs.Bytes.{Bytes, pick, byte-at, between}
-use Rattle.rules.specs.Utf8.{Wants, wants, bad, lead, more, done, follows, utf8, never-follows, tails, length-by, utf8-length}
+use Rattle.rules.specs.Utf8.{Wants, wants, bad, lead, more, done, follows, utf8, never-follows, tails, length-by, utf8-length, length-inside}
 use Rattle.rules.specs.Context.{chars, goes-on, on-head}
-use Rattle.utf8.specs.Machine.{begun, after, length-at, Run, end, one}
+use Rattle.utf8.specs.Machine.{begun, after, Run, end, one}
 use Rattle.utf8.proofs.Steps.{lead-sane, Sane}
 
 -- Bytes fed one by one
@@ -116,8 +116,7 @@ follows-tails (suc k) low high s j p = go (follows-tails k 128 191 s (j + 1) (om
 
 -- THE TIE: where a text has bytes left, it goes on with a character, and the text behind that character
 pub utf8-at : (s : Bytes) (i : ℕ) → i < length s → utf8 (drop i s) ≡ pick (eqb (utf8-length s i) 0) false (utf8 (drop (i + utf8-length s i) s))
-unfolding utf8-length
-utf8-at s i h = first (lead (byte-at s i)) (lead-sane (byte-at s i)) refl
+utf8-at s i h = rw (length-inside s i h) (first (lead (byte-at s i)) (lead-sane (byte-at s i)) refl)
   where
     by : (k low high : ℕ) → follows (drop (i + 1) s) (wants k low high) ≡ pick (tails k low high s (i + 1)) (utf8 (drop (i + 1 + k) s)) false → (tails k low high s (i + 1) ≡ true) ⊎ (tails k low high s (i + 1) ≡ false) → follows (drop (i + 1) s) (wants k low high) ≡ pick (eqb (length-by (wants k low high) s i) 0) false (utf8 (drop (i + length-by (wants k low high) s i) s))
     by k low high e (inl t) =
@@ -130,15 +129,6 @@ utf8-at s i h = first (lead (byte-at s i)) (lead-sane (byte-at s i)) refl
         follows-next s i begun h ∙ rw e (by k low high (follows-tails k low high s (i + 1) (omega arith)) (known (tails k low high s (i + 1))))
     first bad sane e = follows-next s i begun h ∙ rw e (never-follows (drop (i + 1) s))
 
--- in the text, the rules' length is the one that the code gives
-pub length-inside : (s : Bytes) (i : ℕ) → i < length s → length-at s i ≡ utf8-length s i
-unfolding length-at
-length-inside s i h = rw (lt-ltb i (length s) h)
-
-pub length-outside : (s : Bytes) (i : ℕ) → length s ≤ i → length-at s i ≡ 0
-unfolding length-at
-length-outside s i h = rw (le-ltb i (length s) h)
-
 -- a reader that has seen a byte other than 0 is inside
 pub seen-inside : (s : Bytes) (i : ℕ) → 0 < byte-at s i → i < length s
 seen-inside s i p = go (known (ltb i (length s)))
@@ -149,8 +139,12 @@ seen-inside s i p = go (known (ltb i (length s)))
 
 pub length-few : (s : Bytes) (i : ℕ) → utf8-length s i ≤ 4
 unfolding utf8-length
-length-few s i = go (lead (byte-at s i)) (lead-sane (byte-at s i))
+length-few s i = within (ltb i (length s)) (go (lead (byte-at s i)) (lead-sane (byte-at s i)))
   where
+    within : (b : Bool) {n : ℕ} → n ≤ 4 → pick b n 0 ≤ 4
+    within true h = h
+    within false h = omega arith
+
     chosen : (b : Bool) (k : ℕ) → k ≤ 3 → pick b (suc k) 0 ≤ 4
     chosen true k h = omega arith
     chosen false k h = omega arith
@@ -178,8 +172,7 @@ tails-inside (suc k) low high s j p h e =
 
 -- a character that stands somewhere stands there whole
 pub length-fits : (s : Bytes) (i : ℕ) → i < length s → i + utf8-length s i ≤ length s
-unfolding utf8-length
-length-fits s i h = go (lead (byte-at s i)) (lead-sane (byte-at s i))
+length-fits s i h = rw (length-inside s i h) (go (lead (byte-at s i)) (lead-sane (byte-at s i)))
   where
     chosen : (k low high : ℕ) → 128 ≤ low → (tails k low high s (i + 1) ≡ true) ⊎ (tails k low high s (i + 1) ≡ false) → i + pick (tails k low high s (i + 1)) (suc k) 0 ≤ length s
     chosen k low high l (inl t) = let m = tails-inside k low high s (i + 1) (omega arith) (omega arith) t in rw t (omega arith)
@@ -204,18 +197,11 @@ character s i h e = go (utf8-length s i) (length-few s i) (length-fits s i h) (s
     go (suc n) f g t = record { some = omega arith; few = f; fits = g; rest = sym (rw (ne-eqb (suc n) 0 (λ z. omega arith)) at t) }
 
 -- the same by what the code gives: a loop from character to character
-pub utf8-stop : (s : Bytes) (i : ℕ) → i < length s → length-at s i ≡ 0 → utf8 (drop i s) ≡ false
-utf8-stop s i h e =
-    let n : utf8-length s i ≡ 0 = sym (length-inside s i h) ∙ e in
-    utf8-at s i h ∙ rw n
+pub utf8-stop : (s : Bytes) (i : ℕ) → i < length s → utf8-length s i ≡ 0 → utf8 (drop i s) ≡ false
+utf8-stop s i h e = utf8-at s i h ∙ rw e
 
-pub utf8-go : (s : Bytes) (i : ℕ) → i < length s → (length-at s i ≡ 0 → ⊥) → utf8 (drop i s) ≡ utf8 (drop (i + length-at s i) s)
-utf8-go s i h e =
-    let n = length-inside s i h in
-    utf8-at s i h ∙ rw (← n, ne-eqb (length-at s i) 0 e)
-
-pub length-at-fits : (s : Bytes) (i : ℕ) → i < length s → i + length-at s i ≤ length s
-length-at-fits s i h = rw (length-inside s i h) (length-fits s i h)
+pub utf8-go : (s : Bytes) (i : ℕ) → i < length s → (utf8-length s i ≡ 0 → ⊥) → utf8 (drop i s) ≡ utf8 (drop (i + utf8-length s i) s)
+utf8-go s i h e = utf8-at s i h ∙ rw (ne-eqb (utf8-length s i) 0 e)
 
 -- A valid text is a run of characters, and only that
 
@@ -270,8 +256,7 @@ chars-first (suc k) low high c (d ∷ t) l h e = go (chars-first k 128 191 d t (
     go rest (inr b) = never (follows (d ∷ t) (wants (suc k) low high)) (ap (follows t) (wanted-out k low high d b) ∙ never-follows t) e
 
 pub chars-at : (s : Bytes) (i : ℕ) → i < length s → utf8 (drop i s) ≡ true → chars (drop i s) ≡ take (utf8-length s i) (drop i s) ∷ chars (drop (i + utf8-length s i) s)
-unfolding utf8-length
-chars-at s i h e = go (lead (byte-at s i)) (lead-sane (byte-at s i)) (sym (follows-next s i begun h) ∙ e)
+chars-at s i h e = rw (length-inside s i h) (go (lead (byte-at s i)) (lead-sane (byte-at s i)) (sym (follows-next s i begun h) ∙ e))
   where
     by : (k low high : ℕ) → 128 ≤ low → high ≤ 191 → follows (drop (i + 1) s) (wants k low high) ≡ true → (tails k low high s (i + 1) ≡ true) ⊎ (tails k low high s (i + 1) ≡ false) → chars (drop i s) ≡ take (length-by (wants k low high) s i) (drop i s) ∷ chars (drop (i + length-by (wants k low high) s i) s)
     by k low high l m f (inl t) =

@@ -1,4 +1,3 @@
 -- Laws that belong to no one function.
-mod Picks
 mod Steps
 pub mod Laws

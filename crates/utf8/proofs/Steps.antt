@@ -7,8 +7,7 @@ use lib.Dec.{ltb, eqb}
 use lib.ListN.{length, List·getD-eq-default}
 use borrow.Author.Tests.{lt-ltb, le-ltb, lt-leb, ne-eqb}
 use Rattle.rules.specs.Bytes.{Bytes, pick, byte-at, between}
-use Rattle.rules.specs.Utf8.{Wants, wants, bad, lead, more, done, tails, utf8-length}
-use Rattle.utf8.specs.Machine.{length-at}
+use Rattle.rules.specs.Utf8.{Wants, wants, bad, lead, more, done, tails, utf8-length, length-inside}
 
 -- What a first byte can ask for
 
@@ -38,17 +37,11 @@ lead-few c k low high e = rw (← e) at (lead-sane c)
 
 -- The length of a character, by what its first byte asks for
 
-pub length-is : (s : Bytes) (i k m low high : ℕ) (b : Bool) → i < length s → wants k low high ≡ lead (byte-at s i) → k ≡ m → tails m low high s (i + 1) ≡ b → pick b (suc m) 0 ≡ length-at s i
-unfolding length-at utf8-length
-length-is s i k m low high b h e z t = rw (lt-ltb i (length s) h, ← e, z, t)
+pub length-is : (s : Bytes) (i k m low high : ℕ) (b : Bool) → i < length s → wants k low high ≡ lead (byte-at s i) → k ≡ m → tails m low high s (i + 1) ≡ b → pick b (suc m) 0 ≡ utf8-length s i
+length-is s i k m low high b h e z t = rw (length-inside s i h, ← e, z, t)
 
-pub length-none : (s : Bytes) (i : ℕ) → i < length s → bad ≡ lead (byte-at s i) → 0 ≡ length-at s i
-unfolding length-at utf8-length
-length-none s i h e = rw (lt-ltb i (length s) h, ← e)
-
-pub length-past : (s : Bytes) (i : ℕ) → length s ≤ i → 0 ≡ length-at s i
-unfolding length-at
-length-past s i h = rw (le-ltb i (length s) h)
+pub length-none : (s : Bytes) (i : ℕ) → i < length s → bad ≡ lead (byte-at s i) → 0 ≡ utf8-length s i
+length-none s i h e = rw (length-inside s i h, ← e)
 
 pub tails-no : (s : Bytes) (j k low high : ℕ) → between low high (byte-at s j) ≡ false → tails (suc k) low high s j ≡ false
 tails-no s j k low high e = rw e

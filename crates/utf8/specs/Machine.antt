@@ -1,10 +1,9 @@
--- The machine of the rules, fed one byte at a time, as the code holds it; and the length of the character at a place.
+-- The machine of the rules, fed one byte at a time, as the code holds it; and a text as a run of characters.
 use Prim.Native.Nat.{ℕ, suc, _+_, _<_}
 use mathlib.Core.List.{[], _∷_}
 use mathlib.Core.Path.{_≡_}
-use lib.Dec.{ltb}
 use lib.ListN.{length}
-use Rattle.rules.specs.Bytes.{Bytes, pick}
+use Rattle.rules.specs.Bytes.{Bytes}
 use Rattle.rules.specs.Utf8.{Wants, wants, bad, more, utf8-length}
 use Rattle.utf8.specs.declared.Utf.{Utf}
 use Rattle.utf8.specs.declared.Utf.the-variants.{Wants as Wanting, Bad}
@@ -16,10 +15,6 @@ wanted Bad = bad
 -- before the first byte, and between two characters
 abbrev pub begun : Wants
 begun = wants 0 128 191
-
--- the rules read a zero past the end, which would be a character; here none stands there
-unfoldable pub length-at : Bytes → ℕ → ℕ
-length-at s i = pick (ltb i (length s)) (utf8-length s i) 0
 
 -- what is wanted after these bytes
 abbrev pub after : Wants → Bytes → Wants

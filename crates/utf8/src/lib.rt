@@ -3,8 +3,8 @@
 ghost use mathlib.Core.Path.{_≡_};
 ghost use Prim.Native.Nat.{_<_};
 ghost use Rattle.rules.specs.Bytes.{byte-at, between};
-ghost use Rattle.rules.specs.Utf8.{lead, more, done, utf8};
-ghost use Rattle.utf8.specs.Machine.{wanted, begun, length-at};
+ghost use Rattle.rules.specs.Utf8.{lead, more, done, utf8, utf8-length};
+ghost use Rattle.utf8.specs.Machine.{wanted, begun};
 
 // What is still wanted: this many bytes of a character, the next from the first bound to the second.
 pub enum Utf {
@@ -12,7 +12,7 @@ pub enum Utf {
     Bad,
 }
 
-// What a first byte asks for.
+// What is wanted behind a first byte: Bad where no character starts with it.
 fn lead(c: u8) -> Utf
     ensures { λ r. ⌜ wanted r ≡ lead c ⌝ }
 {
@@ -98,7 +98,7 @@ fn stands(s: &[u8], i: usize, low: u8, high: u8) -> bool
 
 // The length of the character at i, from 1 to 4; 0 where none stands, and past the end.
 pub fn utf8_length(s: &[u8], i: usize) -> usize
-    ensures { λ r. ⌜ r ≡ length-at (now (s .entry)) i ⌝ }
+    ensures { λ r. ⌜ r ≡ utf8-length (now (s .entry)) i ⌝ }
 {
     if s.len() <= i {
         return 0;

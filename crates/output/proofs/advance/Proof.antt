@@ -3,22 +3,16 @@ use Prim.Native.Nat.{_+_, _<_, _^_}
 use borrow.Author.Needs.{needs}
 use Rattle.output.proofs.advance.Statement.{statement}
 use Rattle.output.proofs.advance.Tie as tie
-use Rattle.output.proofs.advance.Reads as reads
-use Rattle.output.proofs.advance.Lts as lts
 
--- src/lib.rt:113:17
 add-q : tie.Need-add-q
 add-q c = let h : c .before .before .args .w .low + c .before .before .args .n < 2 ^ 64 = rw (c .before .if1 .taken) at (c .before .before .pre) in omega arith
 
--- src/lib.rt:115:21
 add-q-2 : tie.Need-add-q-2
 add-q-2 c = let h : c .before .before .args .w .written + c .before .before .args .n < 2 ^ 64 = rw (c .before .if1 .left) at (c .before .before .pre) in omega arith
 
--- src/lib.rt:107:1
 returns : tie.Need-returns
 returns c = rw (c .before .if1 .taken)
 
--- src/lib.rt:107:1
 returns-2 : tie.Need-returns-2
 returns-2 c = rw (c .before .if1 .left)
 

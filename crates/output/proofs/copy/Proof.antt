@@ -8,8 +8,6 @@ use Rattle.output.proofs.Texts.{copy-more}
 use borrow.Author.Needs.{needs}
 use Rattle.output.proofs.copy.Statement.{statement}
 use Rattle.output.proofs.copy.Tie as tie
-use Rattle.output.proofs.copy.Reads as reads
-use Rattle.output.proofs.copy.Lts as lts
 
 abbrev Inv-loop : tie.InvT-loop
 Inv-loop out₀ at v n i₀ out i = (i ≤ n) × (out ≡ sets out₀ at (take i v))
@@ -17,42 +15,33 @@ Inv-loop out₀ at v n i₀ out i = (i ≤ n) × (out ≡ sets out₀ at (take i
 abbrev μ-loop : tie.MeasureT-loop
 μ-loop out₀ at v n i₀ out i = n - i
 
--- src/lib.rt:139:5
 loop-holds : tie.Need-loop-holds Inv-loop μ-loop
 loop-holds c = search needs
 
--- src/lib.rt:140:23
 shared-slice-read-out : tie.Need-shared-slice-read-out Inv-loop μ-loop
 shared-slice-read-out c = search needs
 
--- src/lib.rt:140:13
 add-out : tie.Need-add-out Inv-loop μ-loop
 add-out c = let l = c .before .before .loop in omega arith
 
--- src/lib.rt:140:9
 slice-write-out : tie.Need-slice-write-out Inv-loop μ-loop
 slice-write-out c = let a = c .before .before .before .args in let l = c .before .before .loop in let e : length (l .out) ≡ length (a .out .now) = ap length (l .inv .1) ∙ length-sets (a .out .now) (a .at) (take (l .i) (a .v .now)) in omega arith
 
--- src/lib.rt:141:9
 add-i : tie.Need-add-i Inv-loop μ-loop
 add-i c = search needs
 
--- src/lib.rt:139:5
 loop-less : tie.Need-loop-less Inv-loop μ-loop
 loop-less c = search needs
 
--- src/lib.rt:139:5
 loop-again : tie.Need-loop-again Inv-loop μ-loop
 loop-again c =
     let a = c .before .before .before .args in
     let l = c .before .before .loop in
     (search needs, ap (λ (x : Bytes). set x (a .at + l .i) (getD (a .v .now) (l .i) 0)) (l .inv .1) ∙ copy-more (a .out .now) (a .v .now) (a .at) (l .i) (omega arith))
 
--- src/lib.rt:134:1
 same-length : tie.Need-same-length Inv-loop μ-loop
 same-length c = let a = c .before .before .args in let l = c .before .loop in ap length (l .inv .1) ∙ length-sets (a .out .now) (a .at) (take (l .i) (a .v .now))
 
--- src/lib.rt:134:1
 returns : tie.Need-returns Inv-loop μ-loop
 returns c = let a = c .before .before .args in let l = c .before .loop in let e : l .i ≡ a .n = omega arith in rw e at (l .inv .1)
 

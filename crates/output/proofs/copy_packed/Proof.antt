@@ -10,9 +10,6 @@ use Rattle.output.proofs.Texts.{copy-more}
 use borrow.Author.Needs.{needs}
 use Rattle.output.proofs.copy_packed.Statement.{statement}
 use Rattle.output.proofs.copy_packed.Tie as tie
-use Rattle.output.proofs.copy_packed.Reads as reads
-use Rattle.output.proofs.copy_packed.Lts as lts
-use Rattle.bits.proofs.byte.Reads as byte-reads
 
 abbrev Inv-loop : tie.InvT-loop
 Inv-loop out₀ at s p n i₀ out i = (i ≤ n) × (out ≡ sets out₀ at (take i (bytes-at (bits s) p n)))
@@ -20,39 +17,30 @@ Inv-loop out₀ at s p n i₀ out i = (i ≤ n) × (out ≡ sets out₀ at (take
 abbrev μ-loop : tie.MeasureT-loop
 μ-loop out₀ at s p n i₀ out i = n - i
 
--- src/lib.rt:147:5
 loop-holds : tie.Need-loop-holds Inv-loop μ-loop
 loop-holds c = search needs
 
--- src/lib.rt:148:41
 mul-byte : tie.Need-mul-byte Inv-loop μ-loop
 mul-byte c = search needs
 
--- src/lib.rt:148:37
 add-byte : tie.Need-add-byte Inv-loop μ-loop
 add-byte c = search needs
 
--- src/lib.rt:148:23
 byte-requires : tie.Need-byte-requires Inv-loop μ-loop
 byte-requires c κs = search needs
 
--- src/lib.rt:148:13
 add-out : tie.Need-add-out Inv-loop μ-loop
 add-out c = search needs
 
--- src/lib.rt:148:9
 slice-write-out : tie.Need-slice-write-out Inv-loop μ-loop
 slice-write-out c = let a = c .before .before .before .before .before .args in let l = c .before .before .loop in let e : length (l .out) ≡ length (a .out .now) = ap length (l .inv .1) ∙ length-sets (a .out .now) (a .at) (take (l .i) (bytes-at (bits (a .s .now)) (a .p) (a .n))) in omega arith
 
--- src/lib.rt:149:9
 add-i : tie.Need-add-i Inv-loop μ-loop
 add-i c = search needs
 
--- src/lib.rt:147:5
 loop-less : tie.Need-loop-less Inv-loop μ-loop
 loop-less c = search needs
 
--- src/lib.rt:147:5
 loop-again : tie.Need-loop-again Inv-loop μ-loop
 loop-again c =
     let a = c .before .before .before .before .before .args in
@@ -63,11 +51,9 @@ loop-again c =
     let x : c .byte .result ≡ getD v (l .i) 0 = c .byte .ensures ∙ sym (bytes-get b (a .p) (a .n) (l .i) (c .before .loop-test .taken)) in
     (search needs, ap (λ (u : Bytes). set u (a .at + l .i) (c .byte .result)) (l .inv .1) ∙ ap (set (sets (a .out .now) (a .at) (take (l .i) v)) (a .at + l .i)) x ∙ copy-more (a .out .now) v (a .at) (l .i) (omega arith))
 
--- src/lib.rt:142:1
 same-length : tie.Need-same-length Inv-loop μ-loop
 same-length c = let a = c .before .before .before .before .args in let l = c .before .loop in ap length (l .inv .1) ∙ length-sets (a .out .now) (a .at) (take (l .i) (bytes-at (bits (a .s .now)) (a .p) (a .n)))
 
--- src/lib.rt:142:1
 returns : tie.Need-returns Inv-loop μ-loop
 returns c =
     let a = c .before .before .before .before .args in

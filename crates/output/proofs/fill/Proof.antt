@@ -2,14 +2,10 @@ use borrow.Author.Tests.{lt-ltb, le-ltb}
 use borrow.Author.Needs.{needs}
 use Rattle.output.proofs.fill.Statement.{statement}
 use Rattle.output.proofs.fill.Tie as tie
-use Rattle.output.proofs.fill.Reads as reads
-use Rattle.output.proofs.fill.Lts as lts
 
--- src/lib.rt:104:1
 returns : tie.Need-returns
 returns c = rw (lt-ltb (c .before .args .n) (c .before .args .of) (c .if1 .taken))
 
--- src/lib.rt:104:1
 returns-2 : tie.Need-returns-2
 returns-2 c = rw (le-ltb (c .before .args .n) (c .before .args .of) (c .if1 .left))
 

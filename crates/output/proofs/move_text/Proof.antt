@@ -7,8 +7,6 @@ use Rattle.output.proofs.Texts.{move-more}
 use borrow.Author.Needs.{needs}
 use Rattle.output.proofs.move_text.Statement.{statement}
 use Rattle.output.proofs.move_text.Tie as tie
-use Rattle.output.proofs.move_text.Reads as reads
-use Rattle.output.proofs.move_text.Lts as lts
 
 abbrev Inv-loop : tie.InvT-loop
 Inv-loop texts₀ begin low high i₀ j₀ texts i j = (begin ≤ i) × (i ≤ low) × (j + (low - i) ≡ high) × (texts ≡ sets texts₀ j (slice i low texts₀))
@@ -16,42 +14,33 @@ Inv-loop texts₀ begin low high i₀ j₀ texts i j = (begin ≤ i) × (i ≤ l
 abbrev μ-loop : tie.MeasureT-loop
 μ-loop texts₀ begin low high i₀ j₀ texts i j = i
 
--- src/lib.rt:255:5
 loop-holds : tie.Need-loop-holds Inv-loop μ-loop
 loop-holds c = let a = c .args in (search needs, search needs, search needs, rw (slice-empty (a .low) (a .texts .now)))
 
--- src/lib.rt:256:9
 sub-i : tie.Need-sub-i Inv-loop μ-loop
 sub-i c = search needs
 
--- src/lib.rt:257:9
 sub-j : tie.Need-sub-j Inv-loop μ-loop
 sub-j c = search needs
 
--- src/lib.rt:258:20
 slice-read-texts : tie.Need-slice-read-texts Inv-loop μ-loop
 slice-read-texts c = let l = c .before .before .loop in let e : length (l .texts) ≡ length (c .before .before .before .args .texts .now) = ap length (l .inv .3) ∙ length-sets (c .before .before .before .args .texts .now) (l .j) (slice (l .i) (c .before .before .before .args .low) (c .before .before .before .args .texts .now)) in omega arith
 
--- src/lib.rt:258:9
 slice-write-texts : tie.Need-slice-write-texts Inv-loop μ-loop
 slice-write-texts c = let l = c .before .before .loop in let e : length (l .texts) ≡ length (c .before .before .before .args .texts .now) = ap length (l .inv .3) ∙ length-sets (c .before .before .before .args .texts .now) (l .j) (slice (l .i) (c .before .before .before .args .low) (c .before .before .before .args .texts .now)) in omega arith
 
--- src/lib.rt:255:5
 loop-less : tie.Need-loop-less Inv-loop μ-loop
 loop-less c = search needs
 
--- src/lib.rt:255:5
 loop-again : tie.Need-loop-again Inv-loop μ-loop
 loop-again c =
     let a = c .before .before .before .args in
     let l = c .before .before .loop in
     (search needs, search needs, search needs, move-more (a .texts .now) (l .texts) (l .i - 1) (l .j - 1) (l .i) (l .j) (a .low) (omega arith) (omega arith) (omega arith) (omega arith) (omega arith) (l .inv .3))
 
--- src/lib.rt:249:1
 same-length : tie.Need-same-length Inv-loop μ-loop
 same-length c = let l = c .before .loop in ap length (l .inv .3) ∙ length-sets (c .before .before .args .texts .now) (l .j) (slice (l .i) (c .before .before .args .low) (c .before .before .args .texts .now))
 
--- src/lib.rt:249:1
 returns : tie.Need-returns Inv-loop μ-loop
 returns c =
     let a = c .before .before .args in

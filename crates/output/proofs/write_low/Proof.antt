@@ -9,9 +9,6 @@ use Rattle.output.proofs.Texts.{put-above, put-kept}
 use borrow.Author.Needs.{needs}
 use Rattle.output.proofs.write_low.Statement.{statement}
 use Rattle.output.proofs.write_low.Tie as tie
-use Rattle.output.proofs.write_low.Reads as reads
-use Rattle.output.proofs.write_low.Lts as lts
-use Rattle.output.proofs.put.Reads as put-reads
 
 abbrev Inv-loop : tie.InvT-loop
 Inv-loop texts₀ from n q₀ i₀ texts q i = (i ≤ n) × (length texts ≡ length texts₀) × (q .high ≡ q₀ .high) × (q .«block_text» ≡ q₀ .«block_text») × (drop from texts ≡ drop from texts₀) × (all-put (drop i (take n (drop from texts₀))) (output q texts) ≡ all-put (take n (drop from texts₀)) (output q₀ texts₀))
@@ -19,31 +16,24 @@ Inv-loop texts₀ from n q₀ i₀ texts q i = (i ≤ n) × (length texts ≡ le
 abbrev μ-loop : tie.MeasureT-loop
 μ-loop texts₀ from n q₀ i₀ texts q i = n - i
 
--- src/lib.rt:360:5
 loop-holds : tie.Need-loop-holds Inv-loop μ-loop
 loop-holds c = search needs
 
--- src/lib.rt:361:23
 add-c : tie.Need-add-c Inv-loop μ-loop
 add-c c = search needs
 
--- src/lib.rt:361:17
 slice-read-c : tie.Need-slice-read-c Inv-loop μ-loop
 slice-read-c c = search needs
 
--- src/lib.rt:362:9
 put-requires : tie.Need-put-requires Inv-loop μ-loop
 put-requires c κs = search needs
 
--- src/lib.rt:363:9
 add-i : tie.Need-add-i Inv-loop μ-loop
 add-i c = search needs
 
--- src/lib.rt:360:5
 loop-less : tie.Need-loop-less Inv-loop μ-loop
 loop-less c = search needs
 
--- src/lib.rt:360:5
 loop-again : tie.Need-loop-again Inv-loop μ-loop
 loop-again c =
     let a = c .before .before .before .before .before .before .before .before .args in
@@ -63,11 +53,9 @@ loop-again c =
       put-part-more v (a .n) (l .i) fits o (output (p .result) (p .last .0)) (c .before .before .before .before .before .loop-test .taken) (p .ensures ∙ ap (λ (y : ℕ). put y o) same) ∙ l .inv .5,
     )
 
--- src/lib.rt:354:1
 same-length : tie.Need-same-length Inv-loop μ-loop
 same-length c = search needs
 
--- src/lib.rt:354:1
 returns : tie.Need-returns Inv-loop μ-loop
 returns c =
     let a = c .before .before .before .args in

@@ -13,44 +13,28 @@ use mathlib.Core.Path.{_≡_, sym, ap, _∙_}
 use borrow.Author.Needs.{needs}
 use Rattle.output.proofs.write_packed.Statement.{statement}
 use Rattle.output.proofs.write_packed.Tie as tie
-use Rattle.output.proofs.write_packed.Reads as reads
-use Rattle.output.proofs.write_packed.Lts as lts
-use Rattle.output.proofs.advance.Reads as advance-reads
-use Rattle.output.proofs.copy_packed.Reads as copy-packed-reads
-use Rattle.output.proofs.fill.Reads as fill-reads
-use Rattle.output.proofs.least.Reads as least-reads
-use Rattle.output.proofs.place.Reads as place-reads
-use Rattle.output.proofs.room.Reads as room-reads
 
--- src/lib.rt:163:22
 room-requires : tie.Need-room-requires
 room-requires c κs = search needs
 
--- src/lib.rt:163:9
 least-requires : tie.Need-least-requires
 least-requires c κs = search needs
 
--- src/lib.rt:164:9
 place-requires : tie.Need-place-requires
 place-requires c κs = search needs
 
--- src/lib.rt:165:5
 copy-packed-requires : tie.Need-copy-packed-requires
 copy-packed-requires c κs = let e = limit-le (c .before .before .before .before .before .before .args .w) (length (c .before .before .before .before .before .before .args .out .now)) in omega (arith, c .before .place .ensures, c .before .before .least .ensures, c .before .before .before .room .ensures, c .before .before .before .before .before .before .pre)
 
--- src/lib.rt:166:10
 advance-requires : tie.Need-advance-requires
 advance-requires c κs = let e = limit-le (c .before .before .before .before .before .before .before .before .before .args .w) (length (c .before .before .before .before .before .before .before .before .before .args .out .now)) in omega (arith, c .before .before .before .before .place .ensures, c .before .before .before .before .place .ok, c .before .before .before .before .before .least .ensures, c .before .before .before .before .before .before .room .ensures)
 
--- src/lib.rt:166:5
 fill-requires : tie.Need-fill-requires
 fill-requires c κs = search needs
 
--- src/lib.rt:159:1
 same-length : tie.Need-same-length
 same-length c = search needs
 
--- src/lib.rt:159:1
 returns : tie.Need-returns
 returns c =
     let a = c .before .before .before .before .before .before .before .before .before .before .before .args in

@@ -7,55 +7,40 @@ use mathlib.Core.Path.{_≡_, ap, _∙_}
 use borrow.Author.Needs.{needs}
 use Rattle.output.proofs.write_text.Statement.{statement}
 use Rattle.output.proofs.write_text.Tie as tie
-use Rattle.output.proofs.write_text.Reads as reads
-use Rattle.output.proofs.write_text.Lts as lts
-use Rattle.output.proofs.write.Reads as write-reads
-use Rattle.output.proofs.write_low.Reads as write-low-reads
 
--- src/lib.rt:375:9
 write-low-requires : tie.Need-write-low-requires
 write-low-requires c κs = (c .before .if1 .taken, c .before .before .before .before .pre .0, c .before .before .before .before .pre .1)
 
--- src/lib.rt:375:9
 same-length : tie.Need-same-length
 same-length c = search needs
 
--- src/lib.rt:375:9
 returns : tie.Need-returns
 returns c =
     let a = c .before .before .before .before .before .before .before .args in
     let p = c .before .before .write-low in
     on-texts (all-put (take (a .n) (drop (a .from) (a .texts .now)))) (a .w) (p .result) (a .page .now) (a .texts .now) (p .last .0) (c .before .before .before .before .if1 .taken) (p .ensures)
 
--- src/lib.rt:377:15
 add-end : tie.Need-add-end
 add-end c = search needs
 
--- src/lib.rt:378:20
 sub-write : tie.Need-sub-write
 sub-write c = search needs
 
--- src/lib.rt:378:20
 part-write-start : tie.Need-part-write-start
 part-write-start c = search needs
 
--- src/lib.rt:378:20
 part-write-end : tie.Need-part-write-end
 part-write-end c = search needs
 
--- src/lib.rt:378:5
 write-requires : tie.Need-write-requires
 write-requires c κs = search needs
 
--- src/lib.rt:370:1
 same-length-2 : tie.Need-same-length-2
 same-length-2 c = search needs
 
--- src/lib.rt:370:1
 same-length-3 : tie.Need-same-length-3
 same-length-3 c = search needs
 
--- src/lib.rt:370:1
 returns-2 : tie.Need-returns-2
 returns-2 c =
     let a = c .before .before .before .before .before .before .before .before .before .args in

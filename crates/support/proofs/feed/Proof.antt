@@ -6,33 +6,22 @@ use mathlib.Core.Path.{_≡_, ap, _∙_}
 use borrow.Author.Needs.{needs}
 use Rattle.support.proofs.feed.Statement.{statement}
 use Rattle.support.proofs.feed.Tie as tie
-use Rattle.support.proofs.feed.Reads as reads
-use Rattle.support.proofs.feed.Lts as lts
-use Rattle.support.proofs.indent_before.Reads as indent-before-reads
-use Rattle.output.proofs.put.Reads as put-reads
-use Rattle.support.proofs.wide.Reads as wide-reads
 
--- src/lib.rt:210:9
 indent-before-requires : tie.Need-indent-before-requires
 indent-before-requires c κs = search needs
 
--- src/lib.rt:211:9
 put-requires : tie.Need-put-requires
 put-requires c κs = search needs
 
--- src/lib.rt:212:13
 wide-requires : tie.Need-wide-requires
 wide-requires c κs = search needs
 
--- src/lib.rt:212:13
 add-r : tie.Need-add-r
 add-r c = search needs
 
--- src/lib.rt:207:1
 same-length : tie.Need-same-length
 same-length c = search needs
 
--- src/lib.rt:207:1
 returns : tie.Need-returns
 unfolding emitted
 returns c =

@@ -12,11 +12,6 @@ use Rattle.support.proofs.Runs.{calm-run, plain-run, run-step}
 use borrow.Author.Needs.{needs}
 use Rattle.support.proofs.feed_bytes.Statement.{statement}
 use Rattle.support.proofs.feed_bytes.Tie as tie
-use Rattle.support.proofs.feed_bytes.Reads as reads
-use Rattle.support.proofs.feed_bytes.Lts as lts
-use Rattle.support.proofs.feed_escaped.Reads as feed-escaped-reads
-use Rattle.support.proofs.feed_run.Reads as feed-run-reads
-use Rattle.support.proofs.quiet.Reads as quiet-reads
 
 abbrev Inv-loop : tie.InvT-loop
 Inv-loop out₀ indent v escape q₀ i₀ out q i = (i ≤ length v) × (length out ≡ length out₀) × (all-emitted indent (escaped escape (drop i v)) (output q out) ≡ all-emitted indent (escaped escape v) (output q₀ out₀))
@@ -24,27 +19,21 @@ Inv-loop out₀ indent v escape q₀ i₀ out q i = (i ≤ length v) × (length 
 abbrev μ-loop : tie.MeasureT-loop
 μ-loop out₀ indent v escape q₀ i₀ out q i = length v - i
 
--- src/lib.rt:325:5
 loop-holds : tie.Need-loop-holds Inv-loop μ-loop
 loop-holds c = search needs
 
--- src/lib.rt:326:13
 quiet-requires : tie.Need-quiet-requires Inv-loop μ-loop
 quiet-requires c κs = search needs
 
--- src/lib.rt:327:38
 sub-feed-run : tie.Need-sub-feed-run Inv-loop μ-loop
 sub-feed-run c = search needs
 
--- src/lib.rt:327:38
 part-feed-run-start : tie.Need-part-feed-run-start Inv-loop μ-loop
 part-feed-run-start c = search needs
 
--- src/lib.rt:327:38
 part-feed-run-end : tie.Need-part-feed-run-end Inv-loop μ-loop
 part-feed-run-end c = search needs
 
--- src/lib.rt:327:9
 feed-run-requires : tie.Need-feed-run-requires Inv-loop μ-loop
 feed-run-requires c κs =
     let a = c .before .before .before .before .before .before .before .before .args in
@@ -53,11 +42,9 @@ feed-run-requires c κs =
     let e : c .before .before .quiet .result - l .i ≡ run (quiet-byte has (a .escape)) (drop (l .i) (a .v .now)) = omega (arith, c .before .before .quiet .ensures .0) in
     ap (λ (n : ℕ). calm has (take n (drop (l .i) (a .v .now)))) e ∙ calm-run has (a .escape) (drop (l .i) (a .v .now))
 
--- src/lib.rt:329:13
 same-length : tie.Need-same-length Inv-loop μ-loop
 same-length c = search needs
 
--- src/lib.rt:329:13
 returns : tie.Need-returns Inv-loop μ-loop
 returns c =
     let a = c .before .before .before .before .before .before .before .before .before .before .before .before .args in
@@ -74,23 +61,18 @@ returns c =
     ∙ run-step (a .indent .now) (a .v .now) (l .i) (n - l .i) (a .escape) (output (l .q) (l .out)) o′ plain (p .ensures)
     ∙ l .inv .2
 
--- src/lib.rt:331:42
 shared-slice-read-feed-escaped : tie.Need-shared-slice-read-feed-escaped Inv-loop μ-loop
 shared-slice-read-feed-escaped c = search needs
 
--- src/lib.rt:331:9
 feed-escaped-requires : tie.Need-feed-escaped-requires Inv-loop μ-loop
 feed-escaped-requires c κs = search needs
 
--- src/lib.rt:332:13
 add-i : tie.Need-add-i Inv-loop μ-loop
 add-i c = omega (arith, c .before .before .before .before .before .before .before .before .before .before .before .before .before .before .before .before .before .good, c .before .before .before .before .before .if1 .left)
 
--- src/lib.rt:325:5
 loop-less : tie.Need-loop-less Inv-loop μ-loop
 loop-less c = search needs
 
--- src/lib.rt:325:5
 loop-again : tie.Need-loop-again Inv-loop μ-loop
 loop-again c =
     let a = c .before .before .before .before .before .before .before .before .before .before .before .before .before .before .before .before .before .args in
@@ -112,11 +94,9 @@ loop-again c =
           ∙ l .inv .2,
     )
 
--- src/lib.rt:320:1
 same-length-2 : tie.Need-same-length-2 Inv-loop μ-loop
 same-length-2 c = search needs
 
--- src/lib.rt:320:1
 returns-2 : tie.Need-returns-2 Inv-loop μ-loop
 returns-2 c =
     let a = c .before .before .before .before .before .args in

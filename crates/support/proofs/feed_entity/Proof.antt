@@ -12,53 +12,37 @@ use mathlib.Core.Path.{_≡_, ap, _∙_}
 use borrow.Author.Needs.{needs}
 use Rattle.support.proofs.feed_entity.Statement.{statement}
 use Rattle.support.proofs.feed_entity.Tie as tie
-use Rattle.support.proofs.feed_entity.Reads as reads
-use Rattle.support.proofs.feed_entity.Lts as lts
-use Rattle.support.proofs.entry.Reads as entry-reads
-use Rattle.support.proofs.feed_run.Reads as feed-run-reads
-use Rattle.support.proofs.wide.Reads as wide-reads
 
--- src/lib.rt:271:24
 mul-entry : tie.Need-mul-entry
 mul-entry c = search needs
 
--- src/lib.rt:271:24
 add-entry : tie.Need-add-entry
 add-entry c = search needs
 
--- src/lib.rt:271:18
 entry-requires : tie.Need-entry-requires
 entry-requires c κs = search needs
 
--- src/lib.rt:271:9
 wide-requires : tie.Need-wide-requires
 wide-requires c κs = search needs
 
--- src/lib.rt:273:13
 mul-a : tie.Need-mul-a
 mul-a c = search needs
 
--- src/lib.rt:273:13
 add-a : tie.Need-add-a
 add-a c = search needs
 
--- src/lib.rt:274:13
 add-e : tie.Need-add-e
 add-e c = search needs
 
--- src/lib.rt:275:30
 sub-feed-run : tie.Need-sub-feed-run
 sub-feed-run c = search needs
 
--- src/lib.rt:275:30
 part-feed-run-start : tie.Need-part-feed-run-start
 part-feed-run-start c = search needs
 
--- src/lib.rt:275:30
 part-feed-run-end : tie.Need-part-feed-run-end
 part-feed-run-end c = let s = row-short (c .before .before .before .before .before .before .args .k) (c .before .before .before .before .before .before .pre) in omega (arith, c .before .before .wide .ensures .0, c .before .before .before .entry .ensures)
 
--- src/lib.rt:275:5
 feed-run-requires : tie.Need-feed-run-requires
 unfolding table
 feed-run-requires c κs =
@@ -66,11 +50,9 @@ feed-run-requires c κs =
     let size : a .k * 8 + 2 + c .before .before .before .wide .result - (a .k * 8 + 2) ≡ getD table (a .k * 8 + 1) 0 = omega (arith, c .before .before .before .wide .ensures .0, c .before .before .before .before .entry .ensures) in
     ap (λ (n : ℕ). calm (a .w .«has_indent») (take n (drop (a .k * 8 + 2) table))) size ∙ ap (calm (a .w .«has_indent»)) (row-taken (a .k) (c .before .before .before .before .before .before .before .pre)) ∙ entity-calm (a .w .«has_indent») (a .k) (c .before .before .before .before .before .before .before .pre)
 
--- src/lib.rt:267:1
 same-length : tie.Need-same-length
 same-length c = search needs
 
--- src/lib.rt:267:1
 returns : tie.Need-returns
 unfolding table
 returns c =

@@ -9,39 +9,27 @@ use mathlib.Core.Path.{_≡_, ap, _∙_}
 use borrow.Author.Needs.{needs}
 use Rattle.support.proofs.feed_escaped.Statement.{statement}
 use Rattle.support.proofs.feed_escaped.Tie as tie
-use Rattle.support.proofs.feed_escaped.Reads as reads
-use Rattle.support.proofs.feed_escaped.Lts as lts
-use Rattle.support.proofs.feed.Reads as feed-reads
-use Rattle.support.proofs.feed_entity.Reads as feed-entity-reads
-use Rattle.support.proofs.row.Reads as row-reads
 
--- src/lib.rt:283:13
 row-requires : tie.Need-row-requires
 row-requires c κs = search needs
 
--- src/lib.rt:285:13
 feed-entity-requires : tie.Need-feed-entity-requires
 feed-entity-requires c κs = search needs
 
--- src/lib.rt:285:13
 same-length : tie.Need-same-length
 same-length c = search needs
 
--- src/lib.rt:285:13
 returns : tie.Need-returns
 returns c =
     let a = c .before .before .before .before .before .before .before .before .before .args in
     c .before .before .feed-entity .ensures ∙ ap (λ (v : Bytes). all-emitted (a .indent .now) v (output (a .w) (a .out .now))) (escaped-row (a .escape) (a .c) (c .before .before .before .before .before .row .result) (c .before .before .before .before .before .row .ensures) (c .before .before .before .before .before .before .if1 .taken) (c .before .before .before .before .if2 .taken))
 
--- src/lib.rt:288:5
 feed-requires : tie.Need-feed-requires
 feed-requires c κs = search needs
 
--- src/lib.rt:279:1
 same-length-2 : tie.Need-same-length-2
 same-length-2 c = search needs
 
--- src/lib.rt:279:1
 returns-2 : tie.Need-returns-2
 returns-2 c =
     let a = c .before .before .before .before .before .before .before .args in

@@ -10,49 +10,34 @@ use mathlib.Core.Path.{_≡_, sym, ap, _∙_}
 use borrow.Author.Needs.{needs}
 use Rattle.support.proofs.feed_run.Statement.{statement}
 use Rattle.support.proofs.feed_run.Tie as tie
-use Rattle.support.proofs.feed_run.Reads as reads
-use Rattle.support.proofs.feed_run.Lts as lts
-use Rattle.support.proofs.indent_before.Reads as indent-before-reads
-use Rattle.support.proofs.wide.Reads as wide-reads
-use Rattle.output.proofs.write.Reads as write-reads
 
--- src/lib.rt:223:9
 returns : tie.Need-returns
 returns c = let a = c .before .before .before .before .args in sym (emit-done (a .indent .now) (a .v .now) 0 (output (a .w) (a .out .now)) (omega (arith, c .if1 .taken)))
 
--- src/lib.rt:225:43
 shared-slice-read-indent-before : tie.Need-shared-slice-read-indent-before
 shared-slice-read-indent-before c = search needs
 
--- src/lib.rt:225:9
 indent-before-requires : tie.Need-indent-before-requires
 indent-before-requires c κs = search needs
 
--- src/lib.rt:226:9
 write-requires : tie.Need-write-requires
 write-requires c κs = search needs
 
--- src/lib.rt:227:20
 sub-wide : tie.Need-sub-wide
 sub-wide c = search needs
 
--- src/lib.rt:227:18
 shared-slice-read-wide : tie.Need-shared-slice-read-wide
 shared-slice-read-wide c = search needs
 
--- src/lib.rt:227:13
 wide-requires : tie.Need-wide-requires
 wide-requires c κs = search needs
 
--- src/lib.rt:227:13
 add-r : tie.Need-add-r
 add-r c = search needs
 
--- src/lib.rt:217:1
 same-length : tie.Need-same-length
 same-length c = search needs
 
--- src/lib.rt:217:1
 returns-2 : tie.Need-returns-2
 returns-2 c =
     let a = c .before .before .before .before .before .before .before .before .before .before .before .before .before .before .before .args in

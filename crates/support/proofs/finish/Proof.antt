@@ -2,23 +2,16 @@ use Rattle.support.proofs.Steps.{finished-marked}
 use borrow.Author.Needs.{needs}
 use Rattle.support.proofs.finish.Statement.{statement}
 use Rattle.support.proofs.finish.Tie as tie
-use Rattle.support.proofs.finish.Reads as reads
-use Rattle.support.proofs.finish.Lts as lts
-use Rattle.support.proofs.newline_matcher.Reads as newline-matcher-reads
 
--- src/lib.rt:174:39
 sub-newline-matcher : tie.Need-sub-newline-matcher
 sub-newline-matcher c = search needs
 
--- src/lib.rt:174:13
 newline-matcher-requires : tie.Need-newline-matcher-requires
 newline-matcher-requires c κs = search needs
 
--- src/lib.rt:168:1
 returns : tie.Need-returns
 returns c = let w = c .before .before .args .w in finished-marked w (w .pen) (c .newline-matcher .result) (c .before .if1 .taken) (c .newline-matcher .ensures)
 
--- src/lib.rt:168:1
 returns-2 : tie.Need-returns-2
 returns-2 c = search needs
 

@@ -10,40 +10,28 @@ use mathlib.Core.Path.{_≡_, sym, ap, _∙_}
 use borrow.Author.Needs.{needs}
 use Rattle.support.proofs.indent_before.Statement.{statement}
 use Rattle.support.proofs.indent_before.Tie as tie
-use Rattle.support.proofs.indent_before.Reads as reads
-use Rattle.support.proofs.indent_before.Lts as lts
-use Rattle.support.proofs.least.Reads as least-reads
-use Rattle.support.proofs.wants_indent.Reads as wants-indent-reads
-use Rattle.output.proofs.write.Reads as write-reads
 
--- src/lib.rt:190:8
 wants-indent-requires : tie.Need-wants-indent-requires
 wants-indent-requires c κs = search needs
 
--- src/lib.rt:191:13
 least-requires : tie.Need-least-requires
 least-requires c κs = search needs
 
--- src/lib.rt:192:30
 slice-aggregate-write : tie.Need-slice-aggregate-write
 slice-aggregate-write c = let h : c .before .before .least .result ≤ length (c .before .before .before .before .before .before .before .args .indent .now) = omega (arith, c .before .before .least .ensures) in sym (length-take-le (c .before .before .least .result) (c .before .before .before .before .before .before .before .args .indent .now) h)
 
--- src/lib.rt:192:9
 write-requires : tie.Need-write-requires
 write-requires c κs = search needs
 
--- src/lib.rt:192:9
 same-length : tie.Need-same-length
 same-length c = search needs
 
--- src/lib.rt:192:9
 returns : tie.Need-returns
 returns c =
     let a = c .before .before .before .before .before .before .before .before .before .before .args in
     let e : wants-indent (a .c) (a .w) ≡ true = sym (c .before .before .before .before .before .before .before .wants-indent .ensures) ∙ c .before .before .before .before .before .before .if1 .taken in
     c .before .before .write .ensures ∙ put-least (a .indent .now) (a .w .indent) (c .before .before .before .before .before .least .result) (output (a .w) (a .out .now)) (c .before .before .before .before .before .least .ensures) ∙ rw e
 
--- src/lib.rt:187:1
 returns-2 : tie.Need-returns-2
 unfolding all-put
 returns-2 c =

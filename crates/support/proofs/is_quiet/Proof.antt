@@ -6,23 +6,16 @@ use mathlib.Core.Path.{_≡_, refl, ap, _∙_}
 use borrow.Author.Needs.{needs}
 use Rattle.support.proofs.is_quiet.Statement.{statement}
 use Rattle.support.proofs.is_quiet.Tie as tie
-use Rattle.support.proofs.is_quiet.Reads as reads
-use Rattle.support.proofs.is_quiet.Lts as lts
-use Rattle.support.proofs.row.Reads as row-reads
 
--- src/lib.rt:296:9
 returns : tie.Need-returns
 returns c = rw (eq-eqb (c .before .args .c) 10 (c .if1 .taken))
 
--- src/lib.rt:299:9
 returns-2 : tie.Need-returns-2
 returns-2 c = rw (ne-eqb (c .before .before .args .c) 10 (c .before .if1 .left), not-true (c .before .before .args .escape) (c .if2 .taken))
 
--- src/lib.rt:301:10
 row-requires : tie.Need-row-requires
 row-requires c κs = search needs
 
--- src/lib.rt:292:1
 returns-3 : tie.Need-returns-3
 returns-3 c = rw (ne-eqb (c .before .before .before .args .c) 10 (c .before .before .if1 .left), not-false (c .before .before .before .args .escape) (c .before .if2 .left)) (ap (leb 7) (c .row .ensures) ∙ not-below (ltb (row-of (c .before .before .before .args .c)) 7) (row-of (c .before .before .before .args .c)) 7 refl)
 

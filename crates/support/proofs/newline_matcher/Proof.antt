@@ -2,14 +2,10 @@ use borrow.Author.Tests.{eq-eqb, ne-eqb}
 use borrow.Author.Needs.{needs}
 use Rattle.support.proofs.newline_matcher.Statement.{statement}
 use Rattle.support.proofs.newline_matcher.Tie as tie
-use Rattle.support.proofs.newline_matcher.Reads as reads
-use Rattle.support.proofs.newline_matcher.Lts as lts
 
--- src/lib.rt:69:9
 returns : tie.Need-returns
 returns c = rw (eq-eqb (c .before .args .c) 10 (c .if1 .taken))
 
--- src/lib.rt:65:1
 returns-2 : tie.Need-returns-2
 returns-2 c = rw (ne-eqb (c .before .args .c) 10 (c .if1 .left))
 

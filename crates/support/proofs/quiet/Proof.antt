@@ -11,9 +11,6 @@ use Rattle.support.proofs.Runs.{run-more, run-end}
 use borrow.Author.Needs.{needs}
 use Rattle.support.proofs.quiet.Statement.{statement}
 use Rattle.support.proofs.quiet.Tie as tie
-use Rattle.support.proofs.quiet.Reads as reads
-use Rattle.support.proofs.quiet.Lts as lts
-use Rattle.support.proofs.is_quiet.Reads as is-quiet-reads
 
 abbrev Inv-loop : tie.InvT-loop
 Inv-loop v i has-indent escape j₀ j = (i ≤ j) × (j ≤ length v) × (i + run (quiet-byte has-indent escape) (drop i v) ≡ j + run (quiet-byte has-indent escape) (drop j v))
@@ -21,19 +18,15 @@ Inv-loop v i has-indent escape j₀ j = (i ≤ j) × (j ≤ length v) × (i + ru
 abbrev μ-loop : tie.MeasureT-loop
 μ-loop v i has-indent escape j₀ j = length v - j
 
--- src/lib.rt:310:5
 loop-holds : tie.Need-loop-holds Inv-loop μ-loop
 loop-holds c = search needs
 
--- src/lib.rt:311:22
 shared-slice-read-is-quiet : tie.Need-shared-slice-read-is-quiet Inv-loop μ-loop
 shared-slice-read-is-quiet c = search needs
 
--- src/lib.rt:311:13
 is-quiet-requires : tie.Need-is-quiet-requires Inv-loop μ-loop
 is-quiet-requires c κs = search needs
 
--- src/lib.rt:312:13
 returns : tie.Need-returns Inv-loop μ-loop
 returns c =
     let a = c .before .before .before .before .before .before .args in
@@ -41,15 +34,12 @@ returns c =
     let e : run (quiet-byte (a .has-indent) (a .escape)) (drop (l .j) (a .v .now)) ≡ 0 = run-end (quiet-byte (a .has-indent) (a .escape)) (a .v .now) (l .j) (c .before .before .before .loop-test .taken) (sym (c .before .is-quiet .ensures) ∙ not-true (c .before .is-quiet .result) (c .if1 .taken)) in
     (omega (arith, l .inv .2), search needs)
 
--- src/lib.rt:314:9
 add-j : tie.Need-add-j Inv-loop μ-loop
 add-j c = search needs
 
--- src/lib.rt:310:5
 loop-less : tie.Need-loop-less Inv-loop μ-loop
 loop-less c = search needs
 
--- src/lib.rt:310:5
 loop-again : tie.Need-loop-again Inv-loop μ-loop
 loop-again c =
     let a = c .before .before .before .before .before .before .args in
@@ -58,7 +48,6 @@ loop-again c =
     let e : run p (drop (l .j) (a .v .now)) ≡ run p (drop (l .j + 1) (a .v .now)) + 1 = rw (add-one (run p (drop (l .j + 1) (a .v .now))), add-one (l .j)) (run-more p (a .v .now) (l .j) (c .before .before .before .loop-test .taken) (sym (c .before .is-quiet .ensures) ∙ not-false (c .before .is-quiet .result) (c .if1 .left))) in
     (search needs, search needs, omega (arith, l .inv .2))
 
--- src/lib.rt:305:1
 returns-2 : tie.Need-returns-2 Inv-loop μ-loop
 unfolding run
 returns-2 c =

@@ -6,37 +6,27 @@ use mathlib.Core.Path.{_≡_, sym, ap, _∙_}
 use borrow.Author.Needs.{needs}
 use Rattle.support.proofs.wants_indent.Statement.{statement}
 use Rattle.support.proofs.wants_indent.Tie as tie
-use Rattle.support.proofs.wants_indent.Reads as reads
-use Rattle.support.proofs.wants_indent.Lts as lts
-use Rattle.support.proofs.newline_matcher.Reads as newline-matcher-reads
-use Rattle.support.proofs.wide.Reads as wide-reads
 
--- src/lib.rt:128:9
 returns : tie.Need-returns
 returns c = rw (not-true (c .before .before .args .w .«has_indent») (c .if1 .taken))
 
--- src/lib.rt:131:9
 returns-2 : tie.Need-returns-2
 returns-2 c =
     let a = c .before .before .before .before .before .args in
     rw (not-false (a .w .«has_indent») (c .before .before .before .if1 .left)) (due-behind (a .w .pen) (not (newline-matcher (a .c)) && a .w .«indent_before_write») (c .before .if2 .taken))
 
--- src/lib.rt:133:24
 wide-requires : tie.Need-wide-requires
 wide-requires c κs = search needs
 
--- src/lib.rt:133:8
 newline-matcher-requires : tie.Need-newline-matcher-requires
 newline-matcher-requires c κs = search needs
 
--- src/lib.rt:134:9
 returns-3 : tie.Need-returns-3
 returns-3 c =
     let a = c .before .before .before .before .before .before .before .args in
     let k : newline-matcher (a .c) ≡ true = ap newline-matcher (sym (c .before .before .wide .ensures .0)) ∙ sym (c .before .newline-matcher .ensures) ∙ c .if3 .taken in
     rw (not-false (a .w .«has_indent») (c .before .before .before .before .before .if1 .left), c .before .before .before .if2 .left, k)
 
--- src/lib.rt:124:1
 returns-4 : tie.Need-returns-4
 returns-4 c =
     let a = c .before .before .before .before .before .before .before .args in

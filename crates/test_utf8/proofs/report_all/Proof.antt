@@ -3,10 +3,6 @@ use lib.ListN.{length}
 use borrow.Author.Needs.{needs}
 use Rattle.test_utf8.proofs.report_all.Statement.{statement}
 use Rattle.test_utf8.proofs.report_all.Tie as tie
-use Rattle.test_utf8.proofs.report_all.Reads as reads
-use Rattle.test_utf8.proofs.report_all.Lts as lts
-use Rattle.test_utf8.proofs.report.Reads as report-reads
-use Rattle.test_utf8.proofs.wide.Reads as wide-reads
 
 abbrev Inv-loop : tie.InvT-loop
 Inv-loop texts at₀ at = at ≤ length texts
@@ -14,63 +10,48 @@ Inv-loop texts at₀ at = at ≤ length texts
 abbrev μ-loop : tie.MeasureT-loop
 μ-loop texts at₀ at = length texts - at
 
--- src/main.rt:79:5
 loop-holds : tie.Need-loop-holds Inv-loop μ-loop
 loop-holds c = search needs
 
--- src/main.rt:80:22
 shared-slice-read-wide : tie.Need-shared-slice-read-wide Inv-loop μ-loop
 shared-slice-read-wide c = search needs
 
--- src/main.rt:80:17
 wide-requires : tie.Need-wide-requires Inv-loop μ-loop
 wide-requires c κs = search needs
 
--- src/main.rt:81:20
 add-from : tie.Need-add-from Inv-loop μ-loop
 add-from c = search needs
 
--- src/main.rt:82:12
 sub-if1 : tie.Need-sub-if1 Inv-loop μ-loop
 sub-if1 c = search needs
 
--- src/main.rt:83:13
 returns : tie.Need-returns Inv-loop μ-loop
 returns c = search needs
 
--- src/main.rt:85:29
 add-report : tie.Need-add-report Inv-loop μ-loop
 add-report c = search needs
 
--- src/main.rt:85:16
 sub-report : tie.Need-sub-report Inv-loop μ-loop
 sub-report c = search needs
 
--- src/main.rt:85:16
 part-report-start : tie.Need-part-report-start Inv-loop μ-loop
 part-report-start c = search needs
 
--- src/main.rt:85:16
 part-report-end : tie.Need-part-report-end Inv-loop μ-loop
 part-report-end c = search needs
 
--- src/main.rt:85:9
 report-requires : tie.Need-report-requires Inv-loop μ-loop
 report-requires c κs = search needs
 
--- src/main.rt:86:14
 add-at : tie.Need-add-at Inv-loop μ-loop
 add-at c = search needs
 
--- src/main.rt:79:5
 loop-less : tie.Need-loop-less Inv-loop μ-loop
 loop-less c = search needs
 
--- src/main.rt:79:5
 loop-again : tie.Need-loop-again Inv-loop μ-loop
 loop-again c = search needs
 
--- src/main.rt:77:1
 returns-2 : tie.Need-returns-2 Inv-loop μ-loop
 returns-2 c = search needs
 

@@ -1,5 +1,5 @@
 -- What is left from i on is valid exactly if the whole is; `utf8-stop` and `utf8-go` take one character off.
-use Rattle.utf8.proofs.Laws.{utf8-stop, utf8-go, length-at-fits, follows-end}
+use Rattle.utf8.proofs.Laws.{utf8-stop, utf8-go, length-fits, follows-end}
 use Rattle.utf8.specs.Machine.{begun}
 use Rattle.rules.specs.Utf8.{utf8}
 use lib.ListN.{length, drop}
@@ -32,13 +32,13 @@ add-i : tie.Need-add-i Inv-loop μ-loop
 add-i c =
     let s = c .before .before .before .before .before .args .s .now in
     let l = c .before .before .before .loop in
-    omega (arith, length-at-fits s (l .i) (c .before .before .loop-test .taken), c .before .utf8-length .ensures)
+    omega (arith, length-fits s (l .i) (c .before .before .loop-test .taken), c .before .utf8-length .ensures)
 
 loop-less : tie.Need-loop-less Inv-loop μ-loop
 loop-less c =
     let s = c .before .before .before .before .before .args .s .now in
     let l = c .before .before .before .loop in
-    omega (arith, length-at-fits s (l .i) (c .before .before .loop-test .taken), c .before .utf8-length .ensures, c .if1 .left)
+    omega (arith, length-fits s (l .i) (c .before .before .loop-test .taken), c .before .utf8-length .ensures, c .if1 .left)
 
 loop-again : tie.Need-loop-again Inv-loop μ-loop
 loop-again c =
@@ -46,7 +46,7 @@ loop-again c =
     let l = c .before .before .before .loop in
     let n = c .before .utf8-length .ensures in
     let goes = utf8-go s (l .i) (c .before .before .loop-test .taken) (λ z. c .if1 .left (n ∙ z)) in
-    (omega (arith, length-at-fits s (l .i) (c .before .before .loop-test .taken)), ap (λ k. utf8 (drop (l .i + k) s)) n ∙ sym goes ∙ l .inv .1)
+    (omega (arith, length-fits s (l .i) (c .before .before .loop-test .taken)), ap (λ k. utf8 (drop (l .i + k) s)) n ∙ sym goes ∙ l .inv .1)
 
 returns-2 : tie.Need-returns-2 Inv-loop μ-loop
 returns-2 c =

@@ -1,5 +1,5 @@
 -- The chain of tests is that of the rules, in the same order.
-use Rattle.utf8.proofs.Picks.{picks}
+use Rattle.rules.specs.Picks.{picks}
 use Rattle.utf8.proofs.lead.Statement.{statement}
 use Rattle.utf8.proofs.lead.Tie as tie
 

@@ -1,5 +1,5 @@
 -- Past the end the rules read a zero, which is below every low.
-use Rattle.utf8.proofs.Picks.{picks}
+use Rattle.rules.specs.Picks.{picks}
 use Rattle.utf8.proofs.Steps.{none-past}
 use borrow.Author.Needs.{needs}
 use Rattle.utf8.proofs.stands.Statement.{statement}

@@ -6,9 +6,8 @@ use Prim.Native.Nat.{ℕ, suc, _+_, _-_, _≤_}
 use mathlib.Core.Bool.{Bool, true, false}
 use mathlib.Core.Path.{_≡_, refl, sym, _∙_}
 use Rattle.rules.specs.Bytes.{Bytes, pick, byte-at}
-use Rattle.rules.specs.Utf8.{wants, lead, tails}
-use Rattle.utf8.specs.Machine.{length-at}
-use Rattle.utf8.proofs.Steps.{length-is, length-none, length-past, lead-few, tails-no, tails-on}
+use Rattle.rules.specs.Utf8.{wants, lead, tails, utf8-length, length-outside}
+use Rattle.utf8.proofs.Steps.{length-is, length-none, lead-few, tails-no, tails-on}
 use Rattle.utf8.proofs.utf8_length.Statement.{statement}
 use Rattle.utf8.proofs.utf8_length.Tie as tie
 
@@ -37,11 +36,11 @@ asked k = rw (k .before .left .given .1) at (k .before .before .before .lead .en
 few : (k : Asked) → (left k ≤ 3) × (128 ≤ low k) × (high k ≤ 191)
 few k = lead-few (byte-at (text k) (at k)) (left k) (low k) (high k) (asked k)
 
-is : (k : Asked) (m : ℕ) (b : Bool) → left k ≡ m → tails m (low k) (high k) (text k) (at k + 1) ≡ b → pick b (suc m) 0 ≡ length-at (text k) (at k)
+is : (k : Asked) (m : ℕ) (b : Bool) → left k ≡ m → tails m (low k) (high k) (text k) (at k + 1) ≡ b → pick b (suc m) 0 ≡ utf8-length (text k) (at k)
 is k m b e t = length-is (text k) (at k) (left k) m (low k) (high k) b (k .before .before .before .before .before .if1 .left) (asked k) e t
 
 returns : tie.Need-returns
-returns c = length-past (c .before .before .args .s .now) (c .before .before .args .i) (c .if1 .taken)
+returns c = sym (length-outside (c .before .before .args .s .now) (c .before .before .args .i) (c .if1 .taken))
 
 shared-slice-read-lead : tie.Need-shared-slice-read-lead
 shared-slice-read-lead c = search needs
