@@ -24,7 +24,7 @@ pub enum Place {
 }
 
 // Whether the strings at the bits p and q are the same bytes.
-fn same_text(b: &[u8], p: usize, q: usize) -> bool
+pub fn same_text(b: &[u8], p: usize, q: usize) -> bool
     requires { ⌜ (p ≤ 524288) × (q ≤ 524288) ⌝ }
     ensures { λ r. ⌜ r ≡ same (text-at (bits (now (b .entry))) p) (text-at (bits (now (b .entry))) q) ⌝ }
 {

@@ -1,0 +1,5 @@
+pub mod Holds
+pub mod HoldsLaws
+pub mod Parts
+pub mod Views
+pub mod Says

@@ -1,0 +1,84 @@
+// The templates of an accepted bundle. The first stands at bit 16, behind the version and the count.
+ghost use mathlib.Core.Path.{_≡_};
+ghost use Prim.Native.Nat.{_≤_, _<_};
+ghost use lib.ListN.{length};
+ghost use Rattle.rules.specs.Bits.{bits};
+ghost use Rattle.rules.specs.Layout.{field};
+ghost use Rattle.rules.specs.Bundle.{body, templates, find-template};
+ghost use Rattle.layout.specs.Text.{text-at};
+ghost use Rattle.parts.specs.Holds.{Holds};
+ghost use Rattle.registry.specs.Templates.{templates-at, place-of, template-view, found-view};
+
+// How many templates a bundle has, 1 to 64.
+pub fn template_count(b: &[u8]) -> usize
+    ensures { λ r. ⌜ r ≡ field (bits (now (b .entry))) 8 8 ⌝ }
+{
+    bits::field(b, 8, 8) as usize
+}
+
+pub struct Template {
+    // its name's string
+    pub name: usize,
+    pub body: usize,
+}
+
+// The template number k, from 0.
+pub fn template_at(b: &[u8], w: usize, k: usize) -> Template
+    requires { ⌜ (length (now b) ≤ 65536) × Holds (templates w) (bits (now b)) 8 × (k < field (bits (now b)) 8 8) ⌝ }
+    ensures { λ r. ⌜ r ≡ template-view (bits (now (b .entry))) (place-of (body w 16) (bits (now (b .entry))) k) ⌝ }
+{
+    let mut cur: usize = 16;
+    let mut i: usize = 0;
+    while i < k {
+        cur = template::skip_body(b, parts::skip_string(b, cur), w, 16);
+        i += 1;
+    }
+    Template {
+        name: cur,
+        body: parts::skip_string(b, cur),
+    }
+}
+
+pub enum Found {
+    // the template's number from 0, its name's string, and its body
+    Template(usize, usize, usize),
+    Missing,
+}
+
+// The template with the given name.
+pub fn get_template(b: &[u8], w: usize, name: &[u8]) -> Found
+    requires { ⌜ (length (now b) ≤ 65536) × Holds (templates w) (bits (now b)) 8 ⌝ }
+    ensures { λ r. ⌜ r ≡ found-view (body w 16) (bits (now (b .entry))) (find-template (templates-at w (bits (now (b .entry)))) (now (name .entry))) ⌝ }
+{
+    let n = template_count(b);
+    let mut cur: usize = 16;
+    let mut i: usize = 0;
+    while i < n {
+        let body = parts::skip_string(b, cur);
+        if parts::text_is(b, cur, name) {
+            return Found::Template(i, cur, body);
+        }
+        cur = template::skip_body(b, body, w, 16);
+        i += 1;
+    }
+    Found::Missing
+}
+
+// The template that has the name of the string at the bit at.
+pub fn get_named(b: &[u8], w: usize, at: usize) -> Found
+    requires { ⌜ (length (now b) ≤ 65536) × Holds (templates w) (bits (now b)) 8 × (at ≤ 524288) ⌝ }
+    ensures { λ r. ⌜ r ≡ found-view (body w 16) (bits (now (b .entry))) (find-template (templates-at w (bits (now (b .entry)))) (text-at (bits (now (b .entry))) at)) ⌝ }
+{
+    let n = template_count(b);
+    let mut cur: usize = 16;
+    let mut i: usize = 0;
+    while i < n {
+        let body = parts::skip_string(b, cur);
+        if layout::same_text(b, cur, at) {
+            return Found::Template(i, cur, body);
+        }
+        cur = template::skip_body(b, body, w, 16);
+        i += 1;
+    }
+    Found::Missing
+}

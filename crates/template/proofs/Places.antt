@@ -1,0 +1,262 @@
+-- What the readers meet on their way: the parts of an element at the places that the code has worked out, and the answers made of them.
+use Prim.Native.Nat.{ℕ, zero, suc, _+_, _-_, _≤_}
+use mathlib.Core.Bool.{Bool}
+use mathlib.Core.Path.{_≡_, refl, sym, ap, _∙_}
+use native.Mathlib.Omega.{arith}
+use Rattle.rules.specs.Bits.{Bits}
+use Rattle.rules.specs.Layout.{Layout, field, _then_}
+use Rattle.rules.specs.Bundle.{string, flag, block-names, indent, param, call-of, maybe-body, element-of, body}
+use Rattle.rules.specs.Template as rule
+use Rattle.parts.specs.Holds.{Holds, end}
+use Rattle.parts.specs.HoldsLaws.{moved}
+use Rattle.parts.specs.Views.{maybe-view}
+use Rattle.parts.specs.Parts.{indent-fits}
+use Rattle.parts.specs.declared.Maybe.{Maybe}
+use Rattle.template.specs.Views.{flag-at, tail-view, call-end, flagged-view, names-end, template-end, inverse-end, body-end, bodied-view, block-view, kind-view, content-of, content-view, element-view}
+use Rattle.template.specs.Content.{tail-indent, tail-fits, tail-end, maybe-fits, FlaggedHolds, written-holds, BodilessHolds, bodiless-holds, BodiedHolds, bodied-holds, BlockHolds, block-holds}
+use Rattle.template.specs.Content.{raw-string-holds, html-holds, expression-holds, helper-holds, decorator-holds, decorator-block-holds, partial-holds, partial-block-holds, comment-holds, element-never}
+use Rattle.template.specs.declared.Element.the-variants.{RawString, HtmlExpression, Expression, HelperBlock, DecoratorExpression, DecoratorBlock, PartialExpression, PartialBlock, Comment}
+use Rattle.template.specs.declared.Flagged.{Flagged}
+use Rattle.template.specs.declared.Tail.{Tail}
+use Rattle.template.specs.declared.Bodied.{Bodied}
+use Rattle.template.specs.declared.Block.{Block}
+use Rattle.template.specs.declared.Content.{Content}
+use Rattle.template.specs.declared.ElementAt.{ElementAt}
+
+-- A call and a bit, which stands at f
+
+module _ (d : ℕ) (b : Bits) (p : ℕ) (H : Holds (call-of (param d) then flag) b p) where
+  flagged : FlaggedHolds 0 d b p (H .found) (end (call-of (param d) then flag) b p)
+  flagged = written-holds 0 d b p H
+
+  pub flagged-call : Holds (call-of (param d)) b p
+  flagged-call = flagged .call
+
+  module _ (f : ℕ) (hf : f ≡ call-end d b p) where
+    pub flagged-fits : f + 1 ≤ b .size
+    flagged-fits = omega (arith, hf, flagged .fits)
+
+    pub flagged-made : (g : Bool) → g ≡ flag-at b f → _≡_ {A = Flagged} (record { before = g; next = f + 1 }) (flagged-view d b p)
+    flagged-made g hg =
+        ap (λ (g : Bool). record { before = g; next = f + 1 }) hg ∙ ap (λ (f : ℕ). record { before = flag-at b f; next = f + 1 }) hf
+
+-- An indent and a bit, which stands at f
+
+module _ (b : Bits) (p : ℕ) (H : Holds (indent then flag) b p) (f : ℕ) (hf : f ≡ end indent b p) where
+  pub tail-here : (p + 1 ≤ b .size) × (f + 1 ≤ b .size)
+  tail-here = (indent-fits b p (tail-indent b p H), omega (arith, hf, tail-fits b p H))
+
+  pub tail-made : (i : Maybe) → i ≡ maybe-view b p → (g : Bool) → g ≡ flag-at b f → _≡_ {A = Tail} (record { indent = i; before = g; next = f + 1 }) (tail-view b p)
+  tail-made i hi g hg =
+      ap (λ (i : Maybe). record { indent = i; before = g; next = f + 1 }) hi
+      ∙ ap (λ (g : Bool). record { indent = maybe-view b p; before = g; next = f + 1 }) hg
+      ∙ ap (λ (f : ℕ). record { indent = maybe-view b p; before = flag-at b f; next = f + 1 }) hf
+
+-- A call, which ends at q, an indent and a bit
+
+module _ (d : ℕ) (b : Bits) (p : ℕ) (H : Holds (call-of (param d) then indent then flag) b p) where
+  bodiless : BodilessHolds 0 d b p (H .found) (end (call-of (param d) then indent then flag) b p)
+  bodiless = bodiless-holds 0 d b p H
+
+  pub bodiless-call : Holds (call-of (param d)) b p
+  bodiless-call = bodiless .call
+
+  pub bodiless-tail : (q : ℕ) → q ≡ call-end d b p → Holds (indent then flag) b q
+  bodiless-tail q e = moved (indent then flag) b _ _ (sym e) (bodiless .tail)
+
+-- A call, a body at q, which ends at r, an indent and a bit
+
+module _ (w d : ℕ) (b : Bits) (p : ℕ) (H : Holds (call-of (param d) then body w d then indent then flag) b p) where
+  bodied : BodiedHolds w d b p (H .found) (end (call-of (param d) then body w d then indent then flag) b p)
+  bodied = bodied-holds w d b p H
+
+  pub bodied-call : Holds (call-of (param d)) b p
+  bodied-call = bodied .call
+
+  module _ (q : ℕ) (hq : q ≡ call-end d b p) where
+    pub bodied-body : Holds (body w d) b q
+    bodied-body = moved (body w d) b _ _ (sym hq) (bodied .template)
+
+    module _ (r : ℕ) (hr : r ≡ end (body w d) b q) where
+      behind : r ≡ body-end w d b p
+      behind = hr ∙ ap (end (body w d) b) hq
+
+      pub bodied-tail : Holds (indent then flag) b r
+      bodied-tail = moved (indent then flag) b _ _ (sym behind) (bodied .tail)
+
+      pub bodied-made : (t : Tail) → t ≡ tail-view b r → _≡_ {A = Bodied} (record { body = q; indent = t .indent; before = t .before; next = t .next }) (bodied-view w d b p)
+      bodied-made t ht =
+          ap (λ (t : Tail). record { body = q; indent = t .indent; before = t .before; next = t .next }) ht
+          ∙ ap (λ (r : ℕ). record { body = q; indent = tail-view b r .indent; before = tail-view b r .before; next = tail-view b r .next }) behind
+          ∙ ap (λ (q : ℕ). record { body = q; indent = tail-view b (body-end w d b p) .indent; before = tail-view b (body-end w d b p) .before; next = tail-view b (body-end w d b p) .next }) hq
+
+-- A call, block names at n, bodies that may be there at t and i, and a bit at f
+
+module _ (w d : ℕ) (b : Bits) (p : ℕ) (H : Holds (call-of (param d) then block-names then maybe-body (body w d) then maybe-body (body w d) then flag) b p) where
+  block : BlockHolds w d b p (H .found) (end (call-of (param d) then block-names then maybe-body (body w d) then maybe-body (body w d) then flag) b p)
+  block = block-holds w d b p H
+
+  pub block-call : Holds (call-of (param d)) b p
+  block-call = block .call
+
+  module _ (n : ℕ) (hn : n ≡ call-end d b p) where
+    pub block-named : Holds block-names b n
+    block-named = moved block-names b _ _ (sym hn) (block .names)
+
+    module _ (t : ℕ) (ht : t ≡ end block-names b n) where
+      at-template : t ≡ names-end w d b p
+      at-template = ht ∙ ap (end block-names b) hn
+
+      pub block-template : Holds (maybe-body (body w d)) b t
+      block-template = moved (maybe-body (body w d)) b _ _ (sym at-template) (block .template)
+
+      module _ (i : ℕ) (hi : i ≡ end (maybe-body (body w d)) b t) where
+        at-inverse : i ≡ template-end w d b p
+        at-inverse = hi ∙ ap (end (maybe-body (body w d)) b) at-template
+
+        pub block-inverse : Holds (maybe-body (body w d)) b i
+        block-inverse = moved (maybe-body (body w d)) b _ _ (sym at-inverse) (block .inverse)
+
+        module _ (f : ℕ) (hf : f ≡ end (maybe-body (body w d)) b i) where
+          at-flag : f ≡ inverse-end w d b p
+          at-flag = hf ∙ ap (end (maybe-body (body w d)) b) at-inverse
+
+          pub block-fits : (t + 1 ≤ b .size) × (i + 1 ≤ b .size) × (f + 1 ≤ b .size)
+          block-fits =
+              (maybe-fits (body w d) b t block-template, maybe-fits (body w d) b i block-inverse, omega (arith, at-flag, block .fits))
+
+          pub block-made : (x y : Maybe) → x ≡ maybe-view b t → y ≡ maybe-view b i → (g : Bool) → g ≡ flag-at b f
+              → _≡_ {A = Block} (record { names = n; template = x; inverse = y; before = g; next = f + 1 }) (block-view w d b p)
+          block-made x y hx hy g hg =
+              ap (λ (x : Maybe). record { names = n; template = x; inverse = y; before = g; next = f + 1 }) hx
+              ∙ ap (λ (y : Maybe). record { names = n; template = maybe-view b t; inverse = y; before = g; next = f + 1 }) hy
+              ∙ ap (λ (g : Bool). record { names = n; template = maybe-view b t; inverse = maybe-view b i; before = g; next = f + 1 }) hg
+              ∙ ap (λ (f : ℕ). record { names = n; template = maybe-view b t; inverse = maybe-view b i; before = flag-at b f; next = f + 1 }) at-flag
+              ∙ ap (λ (i : ℕ). record { names = n; template = maybe-view b t; inverse = maybe-view b i; before = flag-at b (inverse-end w d b p); next = inverse-end w d b p + 1 }) at-inverse
+              ∙ ap (λ (t : ℕ). record { names = n; template = maybe-view b t; inverse = maybe-view b (template-end w d b p); before = flag-at b (inverse-end w d b p); next = inverse-end w d b p + 1 }) at-template
+              ∙ ap (λ (n : ℕ). record { names = n; template = maybe-view b (names-end w d b p); inverse = maybe-view b (template-end w d b p); before = flag-at b (inverse-end w d b p); next = inverse-end w d b p + 1 }) hn
+
+-- a number that is none of the first eight
+four-more : (n k : ℕ) → n ≤ k → (k ≡ n → ⊥) → (k ≡ n + 1 → ⊥) → (k ≡ n + 2 → ⊥) → (k ≡ n + 3 → ⊥) → n + 4 ≤ k
+four-more n k h a b c d = omega arith
+
+pub eight-on : (k : ℕ) → (k ≡ 0 → ⊥) → (k ≡ 1 → ⊥) → (k ≡ 2 → ⊥) → (k ≡ 3 → ⊥) → (k ≡ 4 → ⊥) → (k ≡ 5 → ⊥) → (k ≡ 6 → ⊥) → (k ≡ 7 → ⊥) → 8 ≤ k
+eight-on k a b c d e f g h = four-more 4 k (four-more 0 k (omega arith) a b c d) e f g h
+
+-- The nine kinds: what stands behind kind k, and the answer
+
+module _ (w d : ℕ) (b : Bits) (p : ℕ) (H : Holds (element-of (call-of (param d)) (body w d)) b p) (k : ℕ) (hk : k ≡ field b 4 p) where
+  abbrev E : Layout rule.TemplateElement
+  E = element-of (call-of (param d)) (body w d)
+
+  kind : (j : ℕ) → k ≡ j → field b 4 p ≡ j
+  kind j e = sym hk ∙ e
+
+  seen : (j : ℕ) → k ≡ j → (n : ℕ) → n ≡ end E b p → content-of (kind-view w d b (p + 4) j) n ≡ content-view w d b p
+  seen j e n h = ap (λ (j : ℕ). content-of (kind-view w d b (p + 4) j) n) (sym e ∙ hk) ∙ ap (content-of (kind-view w d b (p + 4) (field b 4 p))) h
+
+  pub raw-string-at : k ≡ 0 → Holds string b (p + 4)
+  raw-string-at e = raw-string-holds w d b p H (kind 0 e) .inner
+
+  pub raw-string-seen : k ≡ 0 → (n : ℕ) → n ≡ end string b (p + 4) → content-of (RawString (p + 4)) n ≡ content-view w d b p
+  raw-string-seen e n h = seen 0 e n (h ∙ raw-string-holds w d b p H (kind 0 e) .ends)
+
+  pub html-at : k ≡ 1 → Holds (call-of (param d) then flag) b (p + 4)
+  html-at e = html-holds w d b p H (kind 1 e) .inner
+
+  pub html-seen : k ≡ 1 → (r : Flagged) → r ≡ flagged-view d b (p + 4) → content-of (HtmlExpression (p + 4) (r .before)) (r .next) ≡ content-view w d b p
+  html-seen e r h =
+      let m = html-holds w d b p H (kind 1 e) in
+      ap (λ (r : Flagged). content-of (HtmlExpression (p + 4) (r .before)) (r .next)) h ∙ seen 1 e _ (written-holds w d b (p + 4) (m .inner) .ends ∙ m .ends)
+
+  pub expression-at : k ≡ 2 → Holds (call-of (param d) then flag) b (p + 4)
+  expression-at e = expression-holds w d b p H (kind 2 e) .inner
+
+  pub expression-seen : k ≡ 2 → (r : Flagged) → r ≡ flagged-view d b (p + 4) → content-of (Expression (p + 4) (r .before)) (r .next) ≡ content-view w d b p
+  expression-seen e r h =
+      let m = expression-holds w d b p H (kind 2 e) in
+      ap (λ (r : Flagged). content-of (Expression (p + 4) (r .before)) (r .next)) h ∙ seen 2 e _ (written-holds w d b (p + 4) (m .inner) .ends ∙ m .ends)
+
+  pub helper-at : k ≡ 3 → Holds (call-of (param d) then block-names then maybe-body (body w d) then maybe-body (body w d) then flag) b (p + 4)
+  helper-at e = helper-holds w d b p H (kind 3 e) .inner
+
+  pub helper-seen : k ≡ 3 → (r : Block) → r ≡ block-view w d b (p + 4)
+      → content-of (HelperBlock (p + 4) (r .names) (r .template) (r .inverse) (r .before)) (r .next) ≡ content-view w d b p
+  helper-seen e r h =
+      let m = helper-holds w d b p H (kind 3 e) in
+      ap (λ (r : Block). content-of (HelperBlock (p + 4) (r .names) (r .template) (r .inverse) (r .before)) (r .next)) h
+      ∙ seen 3 e _ (block-holds w d b (p + 4) (m .inner) .ends ∙ m .ends)
+
+  tail-next : (q : ℕ) (T : Holds (indent then flag) b q) → tail-view b q .next ≡ end (indent then flag) b q
+  tail-next q T = tail-end b q T
+
+  pub decorator-at : k ≡ 4 → Holds (call-of (param d) then indent then flag) b (p + 4)
+  decorator-at e = decorator-holds w d b p H (kind 4 e) .inner
+
+  pub decorator-seen : k ≡ 4 → (r : Tail) → r ≡ tail-view b (call-end d b (p + 4))
+      → content-of (DecoratorExpression (p + 4) (r .indent) (r .before)) (r .next) ≡ content-view w d b p
+  decorator-seen e r h =
+      let m = decorator-holds w d b p H (kind 4 e) in
+      let o = bodiless-holds w d b (p + 4) (m .inner) in
+      ap (λ (r : Tail). content-of (DecoratorExpression (p + 4) (r .indent) (r .before)) (r .next)) h ∙ seen 4 e _ (tail-next _ (o .tail) ∙ o .ends ∙ m .ends)
+
+  pub decorator-block-at : k ≡ 5 → Holds (call-of (param d) then body w d then indent then flag) b (p + 4)
+  decorator-block-at e = decorator-block-holds w d b p H (kind 5 e) .inner
+
+  pub decorator-block-seen : k ≡ 5 → (r : Bodied) → r ≡ bodied-view w d b (p + 4)
+      → content-of (DecoratorBlock (p + 4) (r .body) (r .indent) (r .before)) (r .next) ≡ content-view w d b p
+  decorator-block-seen e r h =
+      let m = decorator-block-holds w d b p H (kind 5 e) in
+      let o = bodied-holds w d b (p + 4) (m .inner) in
+      ap (λ (r : Bodied). content-of (DecoratorBlock (p + 4) (r .body) (r .indent) (r .before)) (r .next)) h ∙ seen 5 e _ (tail-next _ (o .tail) ∙ o .ends ∙ m .ends)
+
+  pub partial-at : k ≡ 6 → Holds (call-of (param d) then indent then flag) b (p + 4)
+  partial-at e = partial-holds w d b p H (kind 6 e) .inner
+
+  pub partial-seen : k ≡ 6 → (r : Tail) → r ≡ tail-view b (call-end d b (p + 4))
+      → content-of (PartialExpression (p + 4) (r .indent) (r .before)) (r .next) ≡ content-view w d b p
+  partial-seen e r h =
+      let m = partial-holds w d b p H (kind 6 e) in
+      let o = bodiless-holds w d b (p + 4) (m .inner) in
+      ap (λ (r : Tail). content-of (PartialExpression (p + 4) (r .indent) (r .before)) (r .next)) h ∙ seen 6 e _ (tail-next _ (o .tail) ∙ o .ends ∙ m .ends)
+
+  pub partial-block-at : k ≡ 7 → Holds (call-of (param d) then body w d then indent then flag) b (p + 4)
+  partial-block-at e = partial-block-holds w d b p H (kind 7 e) .inner
+
+  pub partial-block-seen : k ≡ 7 → (r : Bodied) → r ≡ bodied-view w d b (p + 4)
+      → content-of (PartialBlock (p + 4) (r .body) (r .indent) (r .before)) (r .next) ≡ content-view w d b p
+  partial-block-seen e r h =
+      let m = partial-block-holds w d b p H (kind 7 e) in
+      let o = bodied-holds w d b (p + 4) (m .inner) in
+      ap (λ (r : Bodied). content-of (PartialBlock (p + 4) (r .body) (r .indent) (r .before)) (r .next)) h ∙ seen 7 e _ (tail-next _ (o .tail) ∙ o .ends ∙ m .ends)
+
+  -- no kind is left but the last
+  pub last-kind : 8 ≤ k → k ≡ 8
+  last-kind h = hk ∙ at (field b 4 p) refl (omega (arith, hk))
+    where
+      at : (j : ℕ) → field b 4 p ≡ j → 8 ≤ j → j ≡ 8
+      at zero e h = absurd (omega arith)
+      at (suc zero) e h = absurd (omega arith)
+      at (suc (suc zero)) e h = absurd (omega arith)
+      at (suc (suc (suc zero))) e h = absurd (omega arith)
+      at (suc (suc (suc (suc zero)))) e h = absurd (omega arith)
+      at (suc (suc (suc (suc (suc zero))))) e h = absurd (omega arith)
+      at (suc (suc (suc (suc (suc (suc zero)))))) e h = absurd (omega arith)
+      at (suc (suc (suc (suc (suc (suc (suc zero))))))) e h = absurd (omega arith)
+      at (suc (suc (suc (suc (suc (suc (suc (suc zero)))))))) e h = refl
+      at (suc (suc (suc (suc (suc (suc (suc (suc (suc j))))))))) e h = element-never w d b p H j e
+
+  pub comment-at : 8 ≤ k → Holds string b (p + 4)
+  comment-at h = comment-holds w d b p H (kind 8 (last-kind h)) .inner
+
+  pub comment-seen : 8 ≤ k → (n : ℕ) → n ≡ end string b (p + 4) → content-of (Comment (p + 4)) n ≡ content-view w d b p
+  comment-seen h n e = seen 8 (last-kind h) n (e ∙ comment-holds w d b p H (kind 8 (last-kind h)) .ends)
+
+-- An element with its line and column: the content stands behind them
+
+module _ (w d : ℕ) (b : Bits) (p : ℕ) (x : Content) (hx : x ≡ content-view w d b (p + w + w)) (l k : ℕ) (hl : l ≡ field b w p) (hk : k ≡ field b w (p + w)) where
+  pub element-made : _≡_ {A = ElementAt} (record { line = l; column = k; element = x .element; next = x .next }) (element-view w d b p)
+  element-made =
+      ap (λ (x : Content). record { line = l; column = k; element = x .element; next = x .next }) hx
+      ∙ ap (λ (l : ℕ). record { line = l; column = k; element = content-view w d b (p + w + w) .element; next = content-view w d b (p + w + w) .next }) hl
+      ∙ ap (λ (k : ℕ). record { line = field b w p; column = k; element = content-view w d b (p + w + w) .element; next = content-view w d b (p + w + w) .next }) hk
