@@ -1,4 +1,3 @@
-pub mod Picks
 pub mod Runs
 pub mod Bounds
 mod Words

@@ -1,15 +1,21 @@
 -- Which numbers are none of the integers, by the steps of `is_outside`.
-use mathlib.Core.Bool.{Bool, true, false, _||_, not}
-use mathlib.Core.Path.{_≡_, refl, ap, _∙_}
-use Prim.Native.Nat.{ℕ, _≤_, _<_}
+use mathlib.Core.Bool.{Bool, true, false, _&&_, _||_, not}
+use mathlib.Core.Path.{_≡_, refl, sym, ap, _∙_}
+use Prim.Native.Nat.{ℕ, _+_, _≤_, _<_}
 use native.Mathlib.Omega.{arith}
 use lib.Dec.{eqb, leb, ltb}
 use borrow.Author.Tests.{eq-eqb, ne-eqb, lt-ltb, le-ltb, leb-true, leb-false}
 use Rattle.rules.specs.Bytes.{Bytes, pick, byte-at}
-use Rattle.rules.specs.Scan.{minus-end, whole-end, number-end, decimal-value, slice, magnitude, outside}
+use Rattle.rules.specs.Order.{differ, and-left, and-right}
+use Rattle.rules.specs.Scan.{minus-end, whole-end, fraction-end, exponent-end, onward, number-end, decimal-value, slice, magnitude, outside}
+use Rattle.scan.proofs.Decimal.{short-fits}
 use Rattle.scan.specs.Sized.{sized}
 use Rattle.scan.specs.declared.Size.{Size}
 use Rattle.scan.specs.declared.Size.the-variants.{Is, Large}
+
+no-not : (t : Bool) → not t ≡ true → t ≡ false
+no-not true h = differ (sym h)
+no-not false h = refl
 
 is-size : (n m : ℕ) → Is n ≡ sized m → (m ≡ n) × (m ≤ 18446744073709551615)
 is-size n m h = step (leb m 18446744073709551615) refl h
@@ -25,6 +31,11 @@ large-size m h = step (leb m 18446744073709551615) refl h
     step true e q = let z : _≡_ {A = ℕ} 0 1 = cc in absurd (omega arith)
     step false e q = leb-false m 18446744073709551615 e
 
+-- the number ends where its tail does
+pub tail-number : (s : Bytes) (i d w e : ℕ) → d ≡ minus-end s i → w ≡ whole-end s d → e ≡ onward (exponent-end s) (onward (fraction-end s) w) → e ≡ number-end s i
+unfolding number-end
+tail-number s i d w e hd hw he = he ∙ ap (λ (x : ℕ). onward (exponent-end s) (onward (fraction-end s) x)) (hw ∙ ap (whole-end s) hd)
+
 -- d, w and e are the places that the code found: behind the sign, behind the whole part, behind the number
 module _ (s : Bytes) (i d w e : ℕ) (hd : d ≡ minus-end s i) (hw : w ≡ whole-end s d) (he : e ≡ number-end s i) where
   whole-is : w ≡ whole-end s (minus-end s i)
@@ -39,6 +50,14 @@ module _ (s : Bytes) (i d w e : ℕ) (hd : d ≡ minus-end s i) (hw : w ≡ whol
   outside-part n = rw (← whole-is, ← he, ne-eqb w e n)
 
   module _ (q : w ≡ e) where
+    -- of few digits and no minus
+    pub outside-short : (b : ℕ) → b ≡ byte-at s i → (not (eqb b 45) && leb w (d + 18)) ≡ true → false ≡ outside s i
+    unfolding outside
+    outside-short b hb h =
+        let m = no-not (eqb b 45) (and-left (not (eqb b 45)) (leb w (d + 18)) h) in
+        let l = short-fits s d w hw (leb-true w (d + 18) (and-right (not (eqb b 45)) (leb w (d + 18)) h)) in
+        rw (← whole-is, ← he, eq-eqb w e q, ← hb, m, ← magnitude-is, le-ltb 18446744073709551615 (decimal-value 0 (slice s d w)) l)
+
     -- of a number that has 64 bits
     module _ (b n : ℕ) (hb : b ≡ byte-at s i) (h : Is n ≡ sized (decimal-value 0 (slice s d w))) where
       value-is : (magnitude s i ≡ n) × (magnitude s i ≤ 18446744073709551615)

@@ -6,7 +6,7 @@ ghost use Prim.Native.Nat.{_+_, _-_, _≤_, _<_};
 ghost use lib.ListN.{length};
 ghost use Rattle.rules.specs.Bytes.{byte-at};
 ghost use Rattle.rules.specs.Scan.{is-space, spaces-end, word-end, is-digit, digits-end, some-digits-end, minus-end, whole-end};
-ghost use Rattle.rules.specs.Scan.{fraction-end, sign-end, exponent-end, number-end, decimal-value, slice, outside};
+ghost use Rattle.rules.specs.Scan.{fraction-end, sign-end, exponent-end, onward, number-end, decimal-value, slice, outside};
 ghost use Rattle.rules.specs.Plan.{refused-at};
 ghost use Rattle.scan.specs.Sized.{sized};
 
@@ -141,12 +141,11 @@ fn exponent_end(s: &[u8], i: usize) -> usize
     i
 }
 
-// The place behind the number at i.
-pub fn number_end(s: &[u8], i: usize) -> usize
-    requires { ⌜ (i ≤ length (now s)) × (length (now s) ≤ 65536) ⌝ }
-    ensures { λ r. ⌜ r ≡ number-end (now (s .entry)) i ⌝ }
+// The place behind a number whose whole part ends at w, 0 for none.
+fn tail_end(s: &[u8], w: usize) -> usize
+    requires { ⌜ (w ≤ length (now s)) × (length (now s) ≤ 65536) ⌝ }
+    ensures { λ r. ⌜ r ≡ onward (exponent-end (now (s .entry))) (onward (fraction-end (now (s .entry))) w) ⌝ }
 {
-    let w = whole_end(s, minus_end(s, i));
     if w == 0 {
         return 0;
     }
@@ -155,6 +154,14 @@ pub fn number_end(s: &[u8], i: usize) -> usize
         return 0;
     }
     exponent_end(s, f)
+}
+
+// The place behind the number at i.
+pub fn number_end(s: &[u8], i: usize) -> usize
+    requires { ⌜ (i ≤ length (now s)) × (length (now s) ≤ 65536) ⌝ }
+    ensures { λ r. ⌜ r ≡ number-end (now (s .entry)) i ⌝ }
+{
+    tail_end(s, whole_end(s, minus_end(s, i)))
 }
 
 // A number of 64 bits, or a larger one.
@@ -191,20 +198,24 @@ pub fn decimal_value(s: &[u8], i: usize, e: usize) -> Size
     Size::Is(n)
 }
 
-// Whether the number at i is none of the integers.
+// Whether the number at i is none of the integers. (Eighteen digits always fit.)
 fn is_outside(s: &[u8], i: usize) -> bool
     requires { ⌜ (i ≤ length (now s)) × (length (now s) ≤ 65536) ⌝ }
     ensures { λ r. ⌜ r ≡ outside (now (s .entry)) i ⌝ }
 {
     let d = minus_end(s, i);
     let w = whole_end(s, d);
-    if w != number_end(s, i) {
+    if w != tail_end(s, w) {
         return true;
+    }
+    let c = byte(s, i);
+    if (c != 45) & (w <= d + 18) {
+        return false;
     }
     let Size::Is(n) = decimal_value(s, d, w) else {
         return true;
     };
-    if byte(s, i) == 45 {
+    if c == 45 {
         if n == 0 {
             return true;
         }

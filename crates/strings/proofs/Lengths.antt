@@ -5,12 +5,11 @@ use Prim.Native.Nat.{ℕ, zero, suc, _+_, _≤_, _<_}
 use native.Mathlib.Omega.{arith}
 use lib.Dec.{eqb, leb, ltb}
 use lib.ListN.{length}
-use borrow.Author.Tests.{leb-true, le-ltb, lt-ltb, eqb-false, not-true}
+use borrow.Author.Tests.{leb-true, le-ltb, eqb-false, not-true}
 use Rattle.rules.specs.Bytes.{Bytes, pick, byte-at}
 use Rattle.rules.specs.Order.{and-left, and-right}
-use Rattle.rules.specs.Utf8.{Wants, wants, bad, lead, tails, length-by, utf8-length}
+use Rattle.rules.specs.Utf8.{Wants, wants, bad, lead, tails, length-by, utf8-length, length-inside}
 use Rattle.rules.specs.Scan.{unicode-length, escape-length, char-length, string-from}
-use Rattle.utf8.specs.Machine.{length-at}
 use Rattle.scan.proofs.Bounds.{by-cases, in-text, eq-in, Goes, nothing, goes-to, goes-from}
 use Rattle.strings.specs.Plain.{is-plain}
 
@@ -69,7 +68,7 @@ short-by bad s i h = short-0
 
 utf8-most : (s : Bytes) (i : ℕ) → Short (utf8-length s i)
 unfolding utf8-length
-utf8-most s i = short-by (lead (byte-at s i)) s i (few-lead (byte-at s i))
+utf8-most s i = short-pick (ltb i (length s)) _ _ (short-by (lead (byte-at s i)) s i (few-lead (byte-at s i))) short-0
 
 unicode-most : (s : Bytes) (i : ℕ) → Short (unicode-length s i)
 unfolding unicode-length
@@ -90,11 +89,6 @@ char-none s i z = rw z
 pub char-in : (s : Bytes) (i : ℕ) → (char-length s i ≡ 0 → ⊥) → i < length s
 char-in s i h = in-text s i (λ z. h (char-none s i z))
 
--- within the text the code's length of UTF-8 is that of the rules
-pub length-here : (s : Bytes) (i : ℕ) → (byte-at s i ≡ 0 → ⊥) → length-at s i ≡ utf8-length s i
-unfolding length-at
-length-here s i h = rw (lt-ltb i (length s) (in-text s i h))
-
 -- a plain character is one byte long, and no quote
 module _ (s : Bytes) (i : ℕ) (h : is-plain (byte-at s i) ≡ true) where
   in-range : (leb 32 (byte-at s i) && ltb (byte-at s i) 128) ≡ true
@@ -104,13 +98,14 @@ module _ (s : Bytes) (i : ℕ) (h : is-plain (byte-at s i) ≡ true) where
   no-mark = and-right (leb 32 (byte-at s i) && ltb (byte-at s i) 128) (not (eqb (byte-at s i) 34) && not (eqb (byte-at s i) 92)) h
 
   pub plain-length : char-length s i ≡ 1
-  unfolding char-length utf8-length
+  unfolding char-length
   plain-length =
       let c = byte-at s i in
       let low = leb-true 32 (byte-at s i) (and-left (leb 32 (byte-at s i)) (ltb (byte-at s i) 128) in-range) in
       let high = and-right (leb 32 (byte-at s i)) (ltb (byte-at s i) 128) in-range in
       let slash = not-true (eqb (byte-at s i) 92) (and-right (not (eqb (byte-at s i) 34)) (not (eqb (byte-at s i) 92)) no-mark) in
-      rw (le-ltb (byte-at s i) 32 low, slash, high)
+      let here = length-inside s i (in-text s i (λ z. omega arith)) in
+      rw (le-ltb (byte-at s i) 32 low, slash, here, high)
 
   pub plain-no-quote : byte-at s i ≡ 34 → ⊥
   plain-no-quote = eqb-false (byte-at s i) 34 (not-true (eqb (byte-at s i) 34) (and-left (not (eqb (byte-at s i) 34)) (not (eqb (byte-at s i) 92)) no-mark))

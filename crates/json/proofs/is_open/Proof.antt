@@ -1,5 +1,5 @@
 use Rattle.rules.specs.Tree.{is-open}
-use Rattle.scan.proofs.Picks.{or-false}
+use Rattle.rules.specs.Picks.{or-false}
 use Rattle.json.proofs.is_open.Statement.{statement}
 use Rattle.json.proofs.is_open.Tie as tie
 

@@ -1,6 +1,6 @@
 use Rattle.rules.specs.State.{depth}
 use Rattle.rules.specs.Tree.{item-name}
-use Rattle.scan.proofs.Picks.{picks}
+use Rattle.rules.specs.Picks.{picks}
 use Rattle.json.proofs.item_name.Statement.{statement}
 use Rattle.json.proofs.item_name.Tie as tie
 

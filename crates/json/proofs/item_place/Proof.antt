@@ -1,6 +1,6 @@
 use Rattle.rules.specs.State.{depth}
 use Rattle.rules.specs.Tree.{item-place}
-use Rattle.scan.proofs.Picks.{picks}
+use Rattle.rules.specs.Picks.{picks}
 use borrow.Author.Needs.{needs}
 use Rattle.json.proofs.item_place.Statement.{statement}
 use Rattle.json.proofs.item_place.Tie as tie

@@ -1,6 +1,6 @@
 use Rattle.json.specs.Reading.{judged}
 use Rattle.rules.specs.State.{depth}
-use Rattle.scan.proofs.Picks.{picks}
+use Rattle.rules.specs.Picks.{picks}
 use borrow.Author.Needs.{needs}
 use Rattle.json.proofs.judge.Statement.{statement}
 use Rattle.json.proofs.judge.Tie as tie

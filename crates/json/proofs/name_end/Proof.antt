@@ -2,7 +2,7 @@ use Prim.Native.Nat.{_+_, suc}
 use Rattle.rules.specs.State.{depth}
 use Rattle.rules.specs.Tree.{name-end}
 use Rattle.scan.proofs.Bounds.{spaces-go}
-use Rattle.scan.proofs.Picks.{picks}
+use Rattle.rules.specs.Picks.{picks}
 use Rattle.strings.proofs.Lengths.{string-goes}
 use borrow.Author.Needs.{needs}
 use lib.ListN.{length}

@@ -1,6 +1,6 @@
 use Rattle.rules.specs.Scan.{scalar-end}
 use Rattle.rules.specs.State.{depth}
-use Rattle.scan.proofs.Picks.{picks}
+use Rattle.rules.specs.Picks.{picks}
 use borrow.Author.Needs.{needs}
 use Rattle.json.proofs.scalar_end.Statement.{statement}
 use Rattle.json.proofs.scalar_end.Tie as tie

@@ -3,7 +3,7 @@ use Rattle.rules.specs.Bytes.{byte-at, is-in}
 use Rattle.rules.specs.Scan.{exponent-end, some-digits-end}
 use Rattle.rules.specs.State.{depth}
 use Rattle.scan.proofs.Bounds.{sign-near}
-use Rattle.scan.proofs.Picks.{or-false, picks, yes}
+use Rattle.rules.specs.Picks.{or-false, picks, yes}
 use borrow.Author.Needs.{needs}
 use mathlib.Core.List.{[], _∷_}
 use mathlib.Core.Path.{_∙_, ap}

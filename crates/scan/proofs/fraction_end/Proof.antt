@@ -1,6 +1,6 @@
 use Rattle.rules.specs.Scan.{fraction-end}
 use Rattle.rules.specs.State.{depth}
-use Rattle.scan.proofs.Picks.{picks}
+use Rattle.rules.specs.Picks.{picks}
 use borrow.Author.Needs.{needs}
 use Rattle.scan.proofs.fraction_end.Statement.{statement}
 use Rattle.scan.proofs.fraction_end.Tie as tie

@@ -1,5 +1,5 @@
 use Rattle.rules.specs.Scan.{is-space}
-use Rattle.scan.proofs.Picks.{or-false}
+use Rattle.rules.specs.Picks.{or-false}
 use Rattle.scan.proofs.is_space.Statement.{statement}
 use Rattle.scan.proofs.is_space.Tie as tie
 

@@ -1,5 +1,5 @@
 use Rattle.rules.specs.State.{depth}
-use Rattle.scan.proofs.Picks.{picks}
+use Rattle.rules.specs.Picks.{picks}
 use borrow.Author.Needs.{needs}
 use Rattle.scan.proofs.minus_end.Statement.{statement}
 use Rattle.scan.proofs.minus_end.Tie as tie

@@ -1,6 +1,6 @@
 use Rattle.rules.specs.Plan.{refused-at}
 use Rattle.rules.specs.State.{depth}
-use Rattle.scan.proofs.Picks.{picks}
+use Rattle.rules.specs.Picks.{picks}
 use borrow.Author.Needs.{needs}
 use Rattle.scan.proofs.refused_at.Statement.{statement}
 use Rattle.scan.proofs.refused_at.Tie as tie

@@ -1,5 +1,5 @@
 use Rattle.rules.specs.State.{depth}
-use Rattle.scan.proofs.Picks.{or-false, picks}
+use Rattle.rules.specs.Picks.{or-false, picks}
 use borrow.Author.Needs.{needs}
 use Rattle.scan.proofs.sign_end.Statement.{statement}
 use Rattle.scan.proofs.sign_end.Tie as tie

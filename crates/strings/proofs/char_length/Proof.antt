@@ -1,10 +1,7 @@
 use Rattle.rules.specs.Scan.{char-length}
 use Rattle.rules.specs.State.{depth}
-use Rattle.scan.proofs.Picks.{picks}
-use Rattle.strings.proofs.Lengths.{length-here}
+use Rattle.rules.specs.Picks.{picks}
 use borrow.Author.Needs.{needs}
-use mathlib.Core.Path.{_∙_}
-use native.Mathlib.Omega.{arith}
 use Rattle.strings.proofs.char_length.Statement.{statement}
 use Rattle.strings.proofs.char_length.Tie as tie
 
@@ -27,9 +24,7 @@ utf8-length-requires c κs = search needs
 
 returns-3 : tie.Need-returns-3
 unfolding char-length
-returns-3 c =
-    let h = c .utf8-length .ensures ∙ length-here (c .before .before .before .before .before .args .s .now) (c .before .before .before .before .before .args .i) (λ z. omega (arith, c .before .before .before .byte .ensures, c .before .before .if1 .left)) in
-    simp (← c .before .before .before .byte .ensures, ← h) (search picks depth 9)
+returns-3 c = simp (← c .before .before .before .byte .ensures, ← c .utf8-length .ensures) (search picks depth 9)
 
 pub char-length-spec : {M : Type 1} → statement M
 char-length-spec =

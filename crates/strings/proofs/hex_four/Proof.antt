@@ -1,6 +1,6 @@
 use Rattle.rules.specs.Scan.{hex-four}
 use Rattle.rules.specs.State.{depth}
-use Rattle.scan.proofs.Picks.{no, picks}
+use Rattle.rules.specs.Picks.{no, picks}
 use borrow.Author.Needs.{needs}
 use borrow.Author.Tests.{ne-eqb}
 use mathlib.Core.Path.{refl}

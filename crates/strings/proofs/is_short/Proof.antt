@@ -1,5 +1,5 @@
 use Rattle.rules.specs.Scan.{is-short}
-use Rattle.scan.proofs.Picks.{or-false}
+use Rattle.rules.specs.Picks.{or-false}
 use Rattle.strings.proofs.is_short.Statement.{statement}
 use Rattle.strings.proofs.is_short.Tie as tie
 

@@ -1,0 +1,5 @@
+mod Fields
+mod Scalars
+mod Ordered
+mod Walking
+mod Counting

@@ -1,0 +1,36 @@
+use Rattle.places.proofs.Ordered.{less-before, equal-before, greater-before}
+use Rattle.saying.specs.Compared.{ordering}
+use Rattle.rules.specs.Scan.{saying}
+use mathlib.Core.Path.{_∙_, ap, sym}
+use borrow.Author.Needs.{needs}
+use Rattle.places.proofs.is_before.Statement.{statement}
+use Rattle.places.proofs.is_before.Tie as tie
+use Rattle.places.proofs.is_before.Reads as reads
+use Rattle.places.proofs.is_before.Lts as lts
+use Rattle.saying.proofs.compare.Reads as compare-reads
+
+compare-requires : tie.Need-compare-requires
+compare-requires c κs = search needs
+
+enum-told : tie.Need-enum-told
+enum-told c = search needs
+
+enum-told-2 : tie.Need-enum-told-2
+enum-told-2 c = search needs
+
+enum-told-3 : tie.Need-enum-told-3
+enum-told-3 c = search needs
+
+returns : tie.Need-returns
+returns c = less-before (saying (c .before .before .before .before .args .s .now) (c .before .before .before .before .args .i)) (saying (c .before .before .before .before .args .s .now) (c .before .before .before .before .args .j)) (ap ordering (sym (c .enum-told .given .1)) ∙ c .before .before .compare .ensures)
+
+returns-2 : tie.Need-returns-2
+returns-2 c = equal-before (saying (c .before .before .before .before .args .s .now) (c .before .before .before .before .args .i)) (saying (c .before .before .before .before .args .s .now) (c .before .before .before .before .args .j)) (ap ordering (sym (c .enum-told2 .given .1)) ∙ c .before .before .compare .ensures)
+
+returns-3 : tie.Need-returns-3
+returns-3 c = greater-before (saying (c .before .before .before .before .args .s .now) (c .before .before .before .before .args .i)) (saying (c .before .before .before .before .args .s .now) (c .before .before .before .before .args .j)) (ap ordering (sym (c .enum-told3 .given .1)) ∙ c .before .before .compare .ensures)
+
+pub is-before-spec : {M : Type 1} → statement M
+is-before-spec =
+    tie.close
+    (tie.spec compare-requires enum-told enum-told-2 enum-told-3 returns returns-2 returns-3)

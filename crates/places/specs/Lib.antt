@@ -1,0 +1,13 @@
+pub mod Places
+pub mod Kinds
+pub mod Accepted
+pub mod Sound
+pub mod Nodes
+pub mod Entries
+pub mod Children
+pub mod Items
+pub mod Members
+pub mod Texts
+pub mod Ascending
+pub mod Findings
+pub mod Paths

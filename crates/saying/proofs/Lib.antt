@@ -1,0 +1,5 @@
+mod Lists
+mod Pairs
+pub mod Remaining
+pub mod Comparing
+mod Chars

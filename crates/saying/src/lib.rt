@@ -1,0 +1,325 @@
+// What the strings of a text say: their decoded bytes, one by one and without a copy.
+// A string is known by the place of its first quote. Plans are of 65,536 bytes at most, so every caller meets the bounds asked of places.
+ghost use mathlib.Core.Path.{_≡_};
+ghost use Prim.Native.Nat.{_+_, _*_, _≤_, _<_};
+ghost use lib.ListN.{length, getD};
+ghost use mathlib.Core.List.{_∷_, []};
+ghost use Rattle.rules.specs.Bytes.{same};
+ghost use Rattle.rules.specs.Bits.{bits};
+ghost use Rattle.rules.specs.Order.{cmp};
+ghost use Rattle.rules.specs.Scan.{encoded, code-point, escaped-byte, says, saying};
+ghost use Rattle.saying.specs.Said.{remaining, Inside, Stepped};
+ghost use Rattle.bits.specs.Packed.{bytes-at};
+ghost use Rattle.saying.specs.Compared.{ordering, name-bytes, NameFits};
+ghost use Rattle.saying.specs.Characters.{Charred};
+use scan::byte;
+
+// A place in a string: the byte k of what the text says at `at`.
+pub struct Cursor {
+    pub at: usize,
+    pub k: usize,
+}
+
+// The next byte of a string and the place behind it, or its end.
+pub enum Step {
+    Byte(u8, Cursor),
+    End,
+}
+
+pub enum Ordering {
+    Less,
+    Equal,
+    Greater,
+}
+
+// Where the bytes of a name are: they are all of the lent ones; or what the string of the text says that has its first quote there;
+// or so many bytes, the second number, packed into the lent ones from the bit place on that is the first.
+pub enum Name {
+    Lent,
+    Quoted(usize),
+    Packed(usize, usize),
+}
+
+// A character: how many bytes it has, and where the next one starts.
+pub enum Char {
+    One(usize, usize),
+    End,
+}
+
+// The byte k of four, 0 past the end.
+fn nth(k: usize, a: u8, b: u8, c: u8, d: u8) -> u8
+    ensures { λ r. ⌜ r ≡ getD (a ∷ b ∷ c ∷ d ∷ []) k 0 ⌝ }
+{
+    if k == 0 {
+        return a;
+    }
+    if k == 1 {
+        return b;
+    }
+    if k == 2 {
+        return c;
+    }
+    if k == 3 {
+        return d;
+    }
+    0
+}
+
+// The code point that `\u....` at i stands for.
+fn code_point(s: &[u8], i: usize) -> u32
+    requires { ⌜ i ≤ 65550 ⌝ }
+    ensures { λ r. ⌜ (r ≡ code-point (now (s .entry)) i) × (r < 1114112) ⌝ }
+{
+    let v = strings::hex_four(s, i + 2);
+    if strings::unicode_length(s, i) == 12 {
+        let w = strings::hex_four(s, i + 8);
+        return 65536 + (v - 55296) * 1024 + (w - 56320);
+    }
+    v
+}
+
+// How many bytes a code point has in UTF-8.
+fn encoded_count(p: u32) -> usize
+    ensures { λ r. ⌜ r ≡ length (encoded p) ⌝ }
+{
+    if p < 128 {
+        return 1;
+    }
+    if p < 2048 {
+        return 2;
+    }
+    if p < 65536 {
+        return 3;
+    }
+    4
+}
+
+// The byte k of a code point's UTF-8, 0 past the end.
+fn encoded_byte(p: u32, k: usize) -> u8
+    requires { ⌜ p < 1114112 ⌝ }
+    ensures { λ r. ⌜ r ≡ getD (encoded p) k 0 ⌝ }
+{
+    if p < 128 {
+        return nth(k, p as u8, 0, 0, 0);
+    }
+    let last = (128 + p % 64) as u8;
+    if p < 2048 {
+        return nth(k, (192 + p / 64) as u8, last, 0, 0);
+    }
+    let third = (128 + p / 64 % 64) as u8;
+    if p < 65536 {
+        return nth(k, (224 + p / 4096) as u8, third, last, 0);
+    }
+    nth(
+        k,
+        (240 + p / 262144) as u8,
+        (128 + p / 4096 % 64) as u8,
+        third,
+        last,
+    )
+}
+
+// The byte that a letter behind a backslash stands for.
+fn escaped_byte(e: u8) -> u8
+    ensures { λ r. ⌜ r ≡ escaped-byte e ⌝ }
+{
+    if e == 98 {
+        return 8;
+    }
+    if e == 102 {
+        return 12;
+    }
+    if e == 110 {
+        return 10;
+    }
+    if e == 114 {
+        return 13;
+    }
+    if e == 116 {
+        return 9;
+    }
+    e
+}
+
+// The byte k of what the text says at i, 0 past the end.
+fn said_byte(s: &[u8], i: usize, k: usize) -> u8
+    requires { ⌜ i ≤ 65550 ⌝ }
+    ensures { λ r. ⌜ r ≡ getD (says (now (s .entry)) i) k 0 ⌝ }
+{
+    let c = byte(s, i);
+    if c != 92 {
+        return nth(k, c, 0, 0, 0);
+    }
+    let e = byte(s, i + 1);
+    if e != 117 {
+        return nth(k, escaped_byte(e), 0, 0, 0);
+    }
+    encoded_byte(code_point(s, i), k)
+}
+
+// How many bytes the text says at i.
+fn said_count(s: &[u8], i: usize) -> usize
+    requires { ⌜ i ≤ 65550 ⌝ }
+    ensures { λ r. ⌜ r ≡ length (says (now (s .entry)) i) ⌝ }
+{
+    if byte(s, i) != 92 {
+        return 1;
+    }
+    if byte(s, i + 1) != 117 {
+        return 1;
+    }
+    encoded_count(code_point(s, i))
+}
+
+// The byte at a place of a string.
+pub fn next_byte(s: &[u8], at: usize, k: usize) -> Step
+    requires { ⌜ (length (now s) ≤ 65536) × Inside (now s) at k ⌝ }
+    ensures { λ r. ⌜ Stepped (now (s .entry)) (remaining (now (s .entry)) at k) r ⌝ }
+{
+    let c = byte(s, at);
+    if c == 34 {
+        return Step::End;
+    }
+    if c < 32 {
+        return Step::End;
+    }
+    if c != 92 {
+        return Step::Byte(c, Cursor { at: at + 1, k: 0 });
+    }
+    let n = strings::escape_length(s, at);
+    if n == 0 {
+        return Step::End;
+    }
+    let b = said_byte(s, at, k);
+    let m = said_count(s, at);
+    if k + 1 < m {
+        return Step::Byte(b, Cursor { at: at, k: k + 1 });
+    }
+    Step::Byte(b, Cursor { at: at + n, k: 0 })
+}
+
+// The character at a place of a string.
+pub fn next_char(s: &[u8], at: usize) -> Char
+    requires { ⌜ (length (now s) ≤ 65536) × (at ≤ 65548) ⌝ }
+    ensures { λ r. ⌜ Charred (now (s .entry)) at r ⌝ }
+{
+    let c = byte(s, at);
+    if c == 34 {
+        return Char::End;
+    }
+    let n = strings::char_length(s, at);
+    if n == 0 {
+        return Char::End;
+    }
+    if c == 92 {
+        return Char::One(said_count(s, at), at + n);
+    }
+    Char::One(n, at + n)
+}
+
+// Whether the string at i says the bytes w.
+pub fn says_bytes(s: &[u8], i: usize, w: &[u8]) -> bool
+    requires { ⌜ (length (now s) ≤ 65536) × (i ≤ 65536) ⌝ }
+    ensures { λ r. ⌜ r ≡ same (saying (now (s .entry)) i) (now (w .entry)) ⌝ }
+{
+    let mut at = i + 1;
+    let mut k: usize = 0;
+    let mut p: usize = 0;
+    loop {
+        let Step::Byte(b, c) = next_byte(s, at, k) else {
+            return p == w.len();
+        };
+        if w.len() <= p {
+            return false;
+        }
+        if w[p] != b {
+            return false;
+        }
+        p += 1;
+        at = c.at;
+        k = c.k;
+    }
+}
+
+// The order of what the strings at i and j say.
+pub fn compare(s: &[u8], i: usize, j: usize) -> Ordering
+    requires { ⌜ (length (now s) ≤ 65536) × (i ≤ 65536) × (j ≤ 65536) ⌝ }
+    ensures { λ r. ⌜ ordering r ≡ cmp (saying (now (s .entry)) i) (saying (now (s .entry)) j) ⌝ }
+{
+    let mut at = i + 1;
+    let mut k: usize = 0;
+    let mut to = j + 1;
+    let mut m: usize = 0;
+    loop {
+        let y = next_byte(s, to, m);
+        let Step::Byte(a, c) = next_byte(s, at, k) else {
+            let Step::Byte(b, d) = y else {
+                return Ordering::Equal;
+            };
+            return Ordering::Less;
+        };
+        let Step::Byte(b, d) = y else {
+            return Ordering::Greater;
+        };
+        if a < b {
+            return Ordering::Less;
+        }
+        if b < a {
+            return Ordering::Greater;
+        }
+        at = c.at;
+        k = c.k;
+        to = d.at;
+        m = d.k;
+    }
+}
+
+// Whether the string at i says the n bytes that are packed into w from the bit place p on.
+pub fn says_packed(s: &[u8], i: usize, w: &[u8], p: usize, n: usize) -> bool
+    requires { ⌜ (length (now s) ≤ 65536) × (i ≤ 65536) × (p + 8 * n < 18446744073709551616) ⌝ }
+    ensures { λ r. ⌜ r ≡ same (saying (now (s .entry)) i) (bytes-at (bits (now (w .entry))) p n) ⌝ }
+{
+    let mut at = i + 1;
+    let mut k: usize = 0;
+    let mut q = p;
+    let mut left = n;
+    loop {
+        let Step::Byte(b, c) = next_byte(s, at, k) else {
+            return left == 0;
+        };
+        if left == 0 {
+            return false;
+        }
+        if bits::byte(w, q) != b {
+            return false;
+        }
+        q += 8;
+        left -= 1;
+        at = c.at;
+        k = c.k;
+    }
+}
+
+// Whether the strings at i and j say the same.
+fn is_same(s: &[u8], i: usize, j: usize) -> bool
+    requires { ⌜ (length (now s) ≤ 65536) × (i ≤ 65536) × (j ≤ 65536) ⌝ }
+    ensures { λ r. ⌜ r ≡ same (saying (now (s .entry)) i) (saying (now (s .entry)) j) ⌝ }
+{
+    match compare(s, i, j) {
+        Ordering::Less => false,
+        Ordering::Equal => true,
+        Ordering::Greater => false,
+    }
+}
+
+// Whether the string at i says a name.
+pub fn says(s: &[u8], i: usize, w: &[u8], named: Name) -> bool
+    requires { ⌜ (length (now s) ≤ 65536) × (i ≤ 65536) × NameFits named ⌝ }
+    ensures { λ r. ⌜ r ≡ same (saying (now (s .entry)) i) (name-bytes (now (s .entry)) (now (w .entry)) named) ⌝ }
+{
+    match named {
+        Name::Lent => says_bytes(s, i, w),
+        Name::Quoted(q) => is_same(s, i, q),
+        Name::Packed(p, n) => says_packed(s, i, w, p, n),
+    }
+}

@@ -1,0 +1,41 @@
+use native.Mathlib.Omega.{arith}
+use borrow.Author.Needs.{needs}
+use Rattle.test_places.proofs.print_up.Statement.{statement}
+use Rattle.test_places.proofs.print_up.Tie as tie
+
+slice-aggregate-print : tie.Need-slice-aggregate-print
+slice-aggregate-print c = search needs
+
+print-requires : tie.Need-print-requires
+print-requires c κs = search needs
+
+returns : tie.Need-returns
+returns c = search needs
+
+parent-requires : tie.Need-parent-requires
+parent-requires c κs = (c .before .before .before .pre .0, omega (arith, c .if1 .left), c .before .before .before .pre .1)
+
+print-value-requires : tie.Need-print-value-requires
+print-value-requires c κs = (c .before .before .before .before .pre .0, omega (arith, c .parent .ensures .0, c .before .before .before .before .pre .1))
+
+slice-aggregate-print-2 : tie.Need-slice-aggregate-print-2
+slice-aggregate-print-2 c = search needs
+
+print-requires-2 : tie.Need-print-requires-2
+print-requires-2 c κs = search needs
+
+returns-2 : tie.Need-returns-2
+returns-2 c = search needs
+
+pub print-up-spec : {M : Type 1} → statement M
+print-up-spec =
+    tie.close
+    (tie.spec
+    slice-aggregate-print
+    print-requires
+    returns
+    parent-requires
+    print-value-requires
+    slice-aggregate-print-2
+    print-requires-2
+    returns-2)
