@@ -1,0 +1,6 @@
+mod Chars
+mod Leads
+mod Strings
+mod Bundled
+mod Numbers
+mod Counts

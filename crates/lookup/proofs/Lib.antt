@@ -1,0 +1,6 @@
+pub mod Ordered
+pub mod Scanning
+pub mod Told
+pub mod Finding
+pub mod Leading
+pub mod Spelling

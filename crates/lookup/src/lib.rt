@@ -1,0 +1,437 @@
+// context.rs and helpers/helper_lookup.rs: what a value has under a name or an index.
+ghost use mathlib.Core.Path.{_≡_};
+ghost use mathlib.Core.Option.{none, some};
+ghost use Prim.Native.Nat.{_+_, _*_, _≤_, _<_};
+ghost use lib.ListN.{length, getElem?};
+ghost use Rattle.rules.specs.Bytes.{pick, maybe, same};
+ghost use Rattle.rules.specs.Json.{jstr, as-str, as-u64, get-member};
+ghost use Rattle.rules.specs.Bits.{bits};
+ghost use Rattle.rules.specs.Bundle.{string, literal};
+ghost use Rattle.rules.specs.Template.{literal-json};
+ghost use Rattle.rules.specs.Context.{parse-usize, base-map};
+ghost use Rattle.rules.specs.HelperLookup.{looked-up};
+ghost use Rattle.decimal.specs.Parsing.{parsed};
+ghost use Rattle.merging.specs.Lookup.{canonical, find-last};
+ghost use Rattle.layout.specs.Text.{text-at};
+ghost use Rattle.parts.specs.Holds.{Holds};
+ghost use Rattle.parts.specs.Says.{literal-at};
+ghost use Rattle.chars.specs.Spelled.{Spelled};
+ghost use Rattle.places.specs.Accepted.{Accepted};
+ghost use Rattle.places.specs.Places.{places, json-at, name-at, children, member};
+ghost use Rattle.places.specs.Kinds.{found};
+ghost use Rattle.text.specs.Rest.{rest, Stands};
+ghost use Rattle.meaning.specs.Entries.{place};
+ghost use Rattle.meaning.specs.Meaning.{plain-json, pairs, context-place, json-of};
+ghost use Rattle.meaning.specs.Standing.{KeysStand};
+ghost use Rattle.meaning.specs.Forms.{Known};
+ghost use Rattle.lookup.specs.Answers.{Held, PlainHeld, Spells, pathless, Finds, PlainFinds, DataGot};
+ghost use Rattle.lookup.specs.Keys.{KeyFound};
+ghost use Rattle.lookup.specs.Places.{placed, placed-at, reached-at, list-reached, Reaches, with-path, without-path, from-member};
+use chars::Nth;
+use decimal::Parsed;
+use meaning::Form;
+use parts::Literal;
+use places::Kind;
+use saying::Ordering;
+use text::Step;
+use text::Text;
+use value::Value;
+
+pub enum Found {
+    Is(Value),
+    Nothing,
+}
+
+pub enum Got {
+    Is(Value),
+    Nothing,
+    BadIndex,
+}
+
+enum Reached {
+    At(usize),
+    Nothing,
+    BadIndex,
+}
+
+// Texts
+
+// `parse::<usize>` of a text.
+fn index_of(s: &[u8], b: &[u8], t: Text) -> Parsed
+    requires { ⌜ (length (now s) ≤ 65536) × Stands (now s) (now b) t ⌝ }
+    ensures { λ r. ⌜ r ≡ parsed (parse-usize (rest (now (s .entry)) (now (b .entry)) t)) ⌝ }
+{
+    let mut p = decimal::start();
+    let mut u = t;
+    loop {
+        let Step::Byte(c, v) = text::next(s, b, u) else {
+            return decimal::finish(p);
+        };
+        p = decimal::feed(p, c);
+        u = v;
+    }
+}
+
+pub fn is_same(s: &[u8], b: &[u8], t: Text, u: Text) -> bool
+    requires { ⌜ (length (now s) ≤ 65536) × Stands (now s) (now b) t × Stands (now s) (now b) u ⌝ }
+    ensures { λ r. ⌜ r ≡ same (rest (now (s .entry)) (now (b .entry)) t) (rest (now (s .entry)) (now (b .entry)) u) ⌝ }
+{
+    match text::compare(s, b, t, u) {
+        Ordering::Less => false,
+        Ordering::Equal => true,
+        Ordering::Greater => false,
+    }
+}
+
+// The number whose digits a text is.
+fn canonical(s: &[u8], b: &[u8], t: Text) -> Parsed
+    requires { ⌜ (length (now s) ≤ 65536) × Stands (now s) (now b) t ⌝ }
+    ensures { λ r. ⌜ r ≡ parsed (canonical (rest (now (s .entry)) (now (b .entry)) t)) ⌝ }
+{
+    let Parsed::Is(n) = index_of(s, b, t) else {
+        return Parsed::Refused;
+    };
+    if is_same(s, b, Text::Digits(n, 0), t) {
+        return Parsed::Is(n);
+    }
+    Parsed::Refused
+}
+
+// The string at the bit place p of the bundle.
+pub fn text_of(s: &[u8], b: &[u8], p: usize) -> Text
+    requires { ⌜ (length (now b) ≤ 65536) × Holds string (bits (now b)) p ⌝ }
+    ensures { λ r. ⌜ (rest (now (s .entry)) (now (b .entry)) r ≡ text-at (bits (now (b .entry))) p) × Stands (now (s .entry)) (now (b .entry)) r × Spelled (now (s .entry)) (now (b .entry)) r ⌝ }
+{
+    let t = parts::text_at(b, p);
+    Text::Packed(t.first, t.count)
+}
+
+// Places of the plan
+
+// The place c where its name is t, or else the best one so far.
+fn latest(s: &[u8], tab: &[u64], b: &[u8], t: Text, c: usize, best: places::Found) -> places::Found
+    requires { ⌜ Accepted (now s) (now tab) × (c < places (now s)) × Stands (now s) (now b) t ⌝ }
+    ensures { λ r. ⌜ found r ≡ pick (same (name-at (now (s .entry)) c) (rest (now (s .entry)) (now (b .entry)) t)) (some c) (found best) ⌝ }
+{
+    let n = places::name(s, tab, c);
+    if is_same(s, b, Text::Said(n + 1, 0), t) {
+        return places::Found::At(c);
+    }
+    best
+}
+
+// The member of that name of the object at i: of equal names the last one.
+fn object_member(s: &[u8], tab: &[u64], b: &[u8], i: usize, t: Text) -> places::Found
+    requires { ⌜ Accepted (now s) (now tab) × (i < places (now s)) × Stands (now s) (now b) t ⌝ }
+    ensures { λ r. ⌜ found r ≡ member (now (s .entry)) i (rest (now (s .entry)) (now (b .entry)) t) ⌝ }
+{
+    let mut best = places::Found::Nothing;
+    let mut at = places::first(s, tab, i);
+    loop {
+        let places::Found::At(c) = at else {
+            return best;
+        };
+        best = latest(s, tab, b, t, c, best);
+        at = places::next(s, tab, i, c);
+    }
+}
+
+// The item of the list at i that stands under t where the list is taken as an object.
+fn list_member(s: &[u8], tab: &[u64], b: &[u8], i: usize, t: Text) -> places::Found
+    requires { ⌜ Accepted (now s) (now tab) × (i < places (now s)) × Stands (now s) (now b) t ⌝ }
+    ensures { λ r. ⌜ found r ≡ maybe (canonical (rest (now (s .entry)) (now (b .entry)) t)) none (getElem? (children (now (s .entry)) i)) ⌝ }
+{
+    let Parsed::Is(n) = canonical(s, b, t) else {
+        return places::Found::Nothing;
+    };
+    places::nth(s, tab, i, n as usize)
+}
+
+// Values
+
+// The same value without its path.
+fn pathless(v: Value) -> Value
+    ensures { λ r. ⌜ r ≡ pathless v ⌝ }
+{
+    let Value::Context(i) = v else {
+        return v;
+    };
+    Value::Place(i)
+}
+
+// A place that was found, without its path.
+fn placed(at: places::Found) -> Found
+    ensures { λ r. ⌜ r ≡ placed at ⌝ }
+{
+    match at {
+        places::Found::At(c) => Found::Is(Value::Place(c)),
+        places::Found::Nothing => Found::Nothing,
+    }
+}
+
+// The text of a value that is a string.
+
+fn place_text(s: &[u8], tab: &[u64], b: &[u8], i: usize) -> Text
+    requires { ⌜ Accepted (now s) (now tab) × (i < places (now s)) ⌝ }
+    ensures { λ r. ⌜ Spells (now (s .entry)) (now (b .entry)) (json-at (now (s .entry)) i) r ⌝ }
+{
+    let o = places::start(s, tab, i);
+    Text::Said(o + 1, 0)
+}
+
+fn literal_text(s: &[u8], b: &[u8], p: usize) -> Text
+    requires { ⌜ (length (now b) ≤ 65536) × Holds literal (bits (now b)) p ⌝ }
+    ensures { λ r. ⌜ Spells (now (s .entry)) (now (b .entry)) (literal-json (literal-at (bits (now (b .entry))) p)) r ⌝ }
+{
+    let l = parts::literal_at(b, p);
+    match l {
+        Literal::Null => Text::Packed(0, 0),
+        Literal::Boolean(_) => Text::Packed(0, 0),
+        Literal::Unsigned(_) => Text::Packed(0, 0),
+        Literal::Negative(_) => Text::Packed(0, 0),
+        Literal::String(q) => text_of(s, b, q),
+    }
+}
+
+pub fn string_text(s: &[u8], tab: &[u64], b: &[u8], v: Value) -> Text
+    requires { ⌜ Accepted (now s) (now tab) × (length (now b) ≤ 65536) × PlainHeld (now s) (now b) v ⌝ }
+    ensures { λ r. ⌜ Spells (now (s .entry)) (now (b .entry)) (plain-json (now (s .entry)) (now (b .entry)) v) r ⌝ }
+{
+    match v {
+        Value::Missing => Text::Packed(0, 0),
+        Value::Null => Text::Packed(0, 0),
+        Value::False => Text::Packed(0, 0),
+        Value::True => Text::Packed(0, 0),
+        Value::Empty => Text::Packed(0, 0),
+        Value::Context(i) => place_text(s, tab, b, i),
+        Value::Place(i) => place_text(s, tab, b, i),
+        Value::Literal(p) => literal_text(s, b, p),
+        Value::Index(_) => Text::Packed(0, 0),
+        Value::IndexText(n) => Text::Digits(n as u64, 0),
+        Value::Name(o) => Text::Said(o + 1, 0),
+        Value::Text(p) => text_of(s, b, p),
+        Value::SaidChar(o, n) => Text::Part(o, 0, n),
+        Value::PackedChar(p, n) => Text::Packed(p, n),
+        Value::Merged(_, _) => Text::Packed(0, 0),
+    }
+}
+
+// The character of a string that stands under t where the string is taken as an object.
+fn string_member(s: &[u8], b: &[u8], x: Text, t: Text) -> Found
+    requires { ⌜ (length (now s) ≤ 65536) × (length (now b) ≤ 65536) × Spelled (now s) (now b) x × Stands (now s) (now b) t ⌝ }
+    ensures { λ r. ⌜ PlainFinds (now (s .entry)) (now (b .entry)) (get-member (base-map (jstr (rest (now (s .entry)) (now (b .entry)) x))) (rest (now (s .entry)) (now (b .entry)) t)) r ⌝ }
+{
+    let count = chars::char_count(s, b, x);
+    let Parsed::Is(n) = canonical(s, b, t) else {
+        return Found::Nothing;
+    };
+    if count as u64 <= n {
+        return Found::Nothing;
+    }
+    let Nth::Is(w) = chars::nth_char(s, b, x, n as usize) else {
+        return Found::Nothing;
+    };
+    Found::Is(pathless(w))
+}
+
+// What stands under t in a value that is not merged, taken as an object.
+fn plain_member(s: &[u8], tab: &[u64], b: &[u8], v: Value, t: Text) -> Found
+    requires { ⌜ Accepted (now s) (now tab) × (length (now b) ≤ 65536) × PlainHeld (now s) (now b) v × Stands (now s) (now b) t ⌝ }
+    ensures { λ r. ⌜ PlainFinds (now (s .entry)) (now (b .entry)) (get-member (base-map (plain-json (now (s .entry)) (now (b .entry)) v)) (rest (now (s .entry)) (now (b .entry)) t)) r ⌝ }
+{
+    let f = meaning::form_of(s, tab, b, v);
+    match f {
+        Form::Null => Found::Nothing,
+        Form::Boolean(_) => Found::Nothing,
+        Form::Unsigned(_) => Found::Nothing,
+        Form::Negative(_) => Found::Nothing,
+        Form::String(_) => string_member(s, b, string_text(s, tab, b, v), t),
+        Form::List(i) => placed(list_member(s, tab, b, i, t)),
+        Form::Object(i) => placed(object_member(s, tab, b, i, t)),
+        Form::Merged(_, _) => Found::Nothing,
+    }
+}
+
+// The last of the n entries from h on whose key is t.
+fn last_key(s: &[u8], b: &[u8], ent: &[u64], h: usize, n: usize, t: Text) -> places::Found
+    requires { ⌜ (length (now s) ≤ 65536) × (length (now b) ≤ 65536) × (2 * (h + n) ≤ length (now ent)) × KeysStand (now b) (now ent) h n × Stands (now s) (now b) t ⌝ }
+    ensures { λ r. ⌜ KeyFound (now (s .entry)) (now (b .entry)) (now (ent .entry)) h n (find-last (pairs (now (b .entry)) (now (ent .entry)) (json-of (now (s .entry)) (now (b .entry)) (now (ent .entry))) h n) (rest (now (s .entry)) (now (b .entry)) t)) r ⌝ }
+{
+    let mut k = n;
+    while 0 < k {
+        k -= 1;
+        let key = text_of(s, b, entries::place(ent, h + k));
+        if is_same(s, b, key, t) {
+            return places::Found::At(h + k);
+        }
+    }
+    places::Found::Nothing
+}
+
+// What stands under t in a value taken as an object: of a merged one the last hash pair of that name, and where there is none what its base has.
+pub fn get_member(s: &[u8], tab: &[u64], b: &[u8], ent: &[u64], v: Value, t: Text) -> Found
+    requires { ⌜ Accepted (now s) (now tab) × (length (now b) ≤ 65536) × Held (now s) (now b) (now ent) v × Stands (now s) (now b) t ⌝ }
+    ensures { λ r. ⌜ Finds (now (s .entry)) (now (b .entry)) (now (ent .entry)) v (get-member (base-map (json-of (now (s .entry)) (now (b .entry)) (now (ent .entry)) v)) (rest (now (s .entry)) (now (b .entry)) t)) r ⌝ }
+{
+    let mut u = v;
+    loop {
+        let Value::Merged(h, n) = u else {
+            return plain_member(s, tab, b, u, t);
+        };
+        if let places::Found::At(e) = last_key(s, b, ent, h, n, t) {
+            return Found::Is(pathless(value::decode(entries::low(ent, e))));
+        }
+        u = value::decode(entries::high(ent, h));
+    }
+}
+
+// Paths
+
+fn from_place(at: places::Found) -> Reached
+    ensures { λ r. ⌜ r ≡ reached-at (found at) ⌝ }
+{
+    match at {
+        places::Found::At(c) => Reached::At(c),
+        places::Found::Nothing => Reached::Nothing,
+    }
+}
+
+fn list_data(s: &[u8], tab: &[u64], b: &[u8], i: usize, t: Text) -> Reached
+    requires { ⌜ Accepted (now s) (now tab) × (i < places (now s)) × Stands (now s) (now b) t ⌝ }
+    ensures { λ r. ⌜ r ≡ list-reached (children (now (s .entry)) i) (parse-usize (rest (now (s .entry)) (now (b .entry)) t)) ⌝ }
+{
+    let Parsed::Is(n) = index_of(s, b, t) else {
+        return Reached::BadIndex;
+    };
+    from_place(places::nth(s, tab, i, n as usize))
+}
+
+// One segment of a path, t, from the place i of the plan.
+fn place_data(s: &[u8], tab: &[u64], b: &[u8], i: usize, t: Text) -> Reached
+    requires { ⌜ Accepted (now s) (now tab) × (i < places (now s)) × Stands (now s) (now b) t ⌝ }
+    ensures { λ r. ⌜ Reaches (now (s .entry)) i (rest (now (s .entry)) (now (b .entry)) t) r ⌝ }
+{
+    let k = places::kind_of(s, tab, i);
+    match k {
+        Kind::Null => Reached::Nothing,
+        Kind::False => Reached::Nothing,
+        Kind::True => Reached::Nothing,
+        Kind::Unsigned => Reached::Nothing,
+        Kind::Negative => Reached::Nothing,
+        Kind::Text => Reached::Nothing,
+        Kind::List => list_data(s, tab, b, i, t),
+        Kind::Object => from_place(object_member(s, tab, b, i, t)),
+    }
+}
+
+fn with_path(at: Reached) -> Got
+    ensures { λ r. ⌜ r ≡ with-path at ⌝ }
+{
+    match at {
+        Reached::At(c) => Got::Is(Value::Context(c)),
+        Reached::Nothing => Got::Nothing,
+        Reached::BadIndex => Got::BadIndex,
+    }
+}
+
+fn without_path(at: Reached) -> Got
+    ensures { λ r. ⌜ r ≡ without-path at ⌝ }
+{
+    match at {
+        Reached::At(c) => Got::Is(Value::Place(c)),
+        Reached::Nothing => Got::Nothing,
+        Reached::BadIndex => Got::BadIndex,
+    }
+}
+
+fn from_member(found: Found) -> Got
+    ensures { λ r. ⌜ r ≡ from-member found ⌝ }
+{
+    match found {
+        Found::Is(w) => Got::Is(w),
+        Found::Nothing => Got::Nothing,
+    }
+}
+
+// One segment of a path, t, from a value whose own path is not known.
+fn derived_data(s: &[u8], tab: &[u64], b: &[u8], ent: &[u64], v: Value, t: Text) -> Got
+    requires { ⌜ Accepted (now s) (now tab) × (length (now b) ≤ 65536) × Held (now s) (now b) (now ent) v × (context-place v ≡ none) × Stands (now s) (now b) t ⌝ }
+    ensures { λ r. ⌜ DataGot (now (s .entry)) (now (b .entry)) (now (ent .entry)) v (rest (now (s .entry)) (now (b .entry)) t) r ⌝ }
+{
+    let f = meaning::form_of(s, tab, b, v);
+    match f {
+        Form::Null => Got::Nothing,
+        Form::Boolean(_) => Got::Nothing,
+        Form::Unsigned(_) => Got::Nothing,
+        Form::Negative(_) => Got::Nothing,
+        Form::String(_) => Got::Nothing,
+        Form::List(i) => without_path(place_data(s, tab, b, i, t)),
+        Form::Object(i) => without_path(place_data(s, tab, b, i, t)),
+        Form::Merged(_, _) => from_member(get_member(s, tab, b, ent, v, t)),
+    }
+}
+
+// One segment of a path, the string at the bit place q of the bundle, from the value v.
+pub fn get_data(s: &[u8], tab: &[u64], b: &[u8], ent: &[u64], v: Value, q: usize) -> Got
+    requires { ⌜ Accepted (now s) (now tab) × (length (now b) ≤ 65536) × Held (now s) (now b) (now ent) v × Holds string (bits (now b)) q ⌝ }
+    ensures { λ r. ⌜ DataGot (now (s .entry)) (now (b .entry)) (now (ent .entry)) v (text-at (bits (now (b .entry))) q) r ⌝ }
+{
+    let t = text_of(s, b, q);
+    let Value::Context(i) = v else {
+        return derived_data(s, tab, b, ent, v, t);
+    };
+    with_path(place_data(s, tab, b, i, t))
+}
+
+// The helper `lookup`
+
+fn item_at(s: &[u8], tab: &[u64], b: &[u8], i: usize, n: Value) -> Found
+    requires { ⌜ Accepted (now s) (now tab) × (length (now b) ≤ 65536) × Known (now s) (now b) n × (i < places (now s)) ⌝ }
+    ensures { λ r. ⌜ r ≡ placed-at (maybe (as-u64 (plain-json (now (s .entry)) (now (b .entry)) n)) none (getElem? (children (now (s .entry)) i))) ⌝ }
+{
+    let f = meaning::form_of(s, tab, b, n);
+    match f {
+        Form::Null => Found::Nothing,
+        Form::Boolean(_) => Found::Nothing,
+        Form::Unsigned(k) => placed(places::nth(s, tab, i, k as usize)),
+        Form::Negative(_) => Found::Nothing,
+        Form::String(_) => Found::Nothing,
+        Form::List(_) => Found::Nothing,
+        Form::Object(_) => Found::Nothing,
+        Form::Merged(_, _) => Found::Nothing,
+    }
+}
+
+fn member_at(s: &[u8], tab: &[u64], b: &[u8], ent: &[u64], v: Value, k: Value) -> Found
+    requires { ⌜ Accepted (now s) (now tab) × (length (now b) ≤ 65536) × Held (now s) (now b) (now ent) v × Held (now s) (now b) (now ent) k ⌝ }
+    ensures { λ r. ⌜ Finds (now (s .entry)) (now (b .entry)) (now (ent .entry)) v (maybe (as-str (json-of (now (s .entry)) (now (b .entry)) (now (ent .entry)) k)) none (get-member (base-map (json-of (now (s .entry)) (now (b .entry)) (now (ent .entry)) v)))) r ⌝ }
+{
+    let f = meaning::form_of(s, tab, b, k);
+    match f {
+        Form::Null => Found::Nothing,
+        Form::Boolean(_) => Found::Nothing,
+        Form::Unsigned(_) => Found::Nothing,
+        Form::Negative(_) => Found::Nothing,
+        Form::String(t) => get_member(s, tab, b, ent, v, t),
+        Form::List(_) => Found::Nothing,
+        Form::Object(_) => Found::Nothing,
+        Form::Merged(_, _) => Found::Nothing,
+    }
+}
+
+pub fn looked_up(s: &[u8], tab: &[u64], b: &[u8], ent: &[u64], v: Value, i: Value) -> Found
+    requires { ⌜ Accepted (now s) (now tab) × (length (now b) ≤ 65536) × Held (now s) (now b) (now ent) v × Held (now s) (now b) (now ent) i ⌝ }
+    ensures { λ r. ⌜ Finds (now (s .entry)) (now (b .entry)) (now (ent .entry)) v (looked-up (json-of (now (s .entry)) (now (b .entry)) (now (ent .entry)) v) (json-of (now (s .entry)) (now (b .entry)) (now (ent .entry)) i)) r ⌝ }
+{
+    let f = meaning::form_of(s, tab, b, v);
+    match f {
+        Form::Null => Found::Nothing,
+        Form::Boolean(_) => Found::Nothing,
+        Form::Unsigned(_) => Found::Nothing,
+        Form::Negative(_) => Found::Nothing,
+        Form::String(_) => Found::Nothing,
+        Form::List(p) => item_at(s, tab, b, p, i),
+        Form::Object(_) => member_at(s, tab, b, ent, v, i),
+        Form::Merged(_, _) => member_at(s, tab, b, ent, v, i),
+    }
+}

@@ -1,0 +1,1 @@
+// Theorems about the merged object of a partial: see specs/.

@@ -1,0 +1,273 @@
+// json/value.rs: `render`. What a value prints is fed to a writer as it stands, or compared, and never made up first.
+ghost use mathlib.Core.Path.{_≡_};
+ghost use Prim.Native.Nat.{_≤_, _<_};
+ghost use lib.ListN.{length};
+ghost use Rattle.rules.specs.Bytes.{same};
+ghost use Rattle.rules.specs.Json.{jbool};
+ghost use Rattle.rules.specs.Value.{render};
+ghost use Rattle.output.specs.Writer.{output};
+ghost use Rattle.places.specs.Accepted.{Accepted};
+ghost use Rattle.places.specs.Places.{places, json-at};
+ghost use Rattle.text.specs.Rest.{rest, Stands};
+ghost use Rattle.meaning.specs.Forms.{Known};
+ghost use Rattle.meaning.specs.Means.{Means};
+ghost use Rattle.text.specs.Strip.{stripped};
+ghost use Rattle.print.specs.Printed.{printed, IsList};
+ghost use Rattle.print.specs.Target as target;
+ghost use Rattle.print.specs.Target.{met};
+use meaning::Form;
+use output::Writer;
+use places::Found;
+use text::Step;
+use text::Text;
+use value::Value;
+
+fn write_text(
+    out: &mut [u8],
+    indent: &[u8],
+    w: Writer,
+    s: &[u8],
+    b: &[u8],
+    t: Text,
+    escape: bool,
+) -> Writer
+    requires { ⌜ (length (now s) ≤ 65536) × Stands (now s) (now b) t ⌝ }
+    ensures { λ r. ⌜ output r (now (out .exit)) ≡ printed (now (indent .entry)) escape (rest (now (s .entry)) (now (b .entry)) t) (output w (now (out .entry))) ⌝ }
+{
+    let mut q = w;
+    let mut u = t;
+    loop {
+        let Step::Byte(c, v) = text::next(s, b, u) else {
+            return q;
+        };
+        q = support::feed_escaped(out, indent, q, c, escape);
+        u = v;
+    }
+}
+
+fn write_bool(out: &mut [u8], indent: &[u8], w: Writer, x: bool, escape: bool) -> Writer
+    ensures { λ r. ⌜ output r (now (out .exit)) ≡ printed (now (indent .entry)) escape (render (jbool x)) (output w (now (out .entry))) ⌝ }
+{
+    if x {
+        return support::feed_bytes(out, indent, w, b"true", escape);
+    }
+    support::feed_bytes(out, indent, w, b"false", escape)
+}
+
+// The values of the list at the place i.
+fn write_list(
+    out: &mut [u8],
+    indent: &[u8],
+    w: Writer,
+    s: &[u8],
+    tab: &[u64],
+    b: &[u8],
+    i: usize,
+    escape: bool,
+) -> Writer
+    requires { ⌜ Accepted (now s) (now tab) × (length (now b) ≤ 65536) × (i < places (now s)) × IsList (json-at (now s) i) ⌝ }
+    ensures { λ r. ⌜ output r (now (out .exit)) ≡ printed (now (indent .entry)) escape (render (json-at (now (s .entry)) i)) (output w (now (out .entry))) ⌝ }
+{
+    let mut q = support::feed_bytes(out, indent, w, b"[", escape);
+    let Found::At(f) = places::first(s, tab, i) else {
+        return support::feed_bytes(out, indent, q, b"]", escape);
+    };
+    let mut c = f;
+    loop {
+        q = write_value(out, indent, q, s, tab, b, Value::Place(c), escape);
+        let Found::At(d) = places::next(s, tab, i, c) else {
+            return support::feed_bytes(out, indent, q, b"]", escape);
+        };
+        q = support::feed_bytes(out, indent, q, b", ", escape);
+        c = d;
+    }
+}
+
+// What a value prints.
+pub fn write_value(
+    out: &mut [u8],
+    indent: &[u8],
+    w: Writer,
+    s: &[u8],
+    tab: &[u64],
+    b: &[u8],
+    v: Value,
+    escape: bool,
+) -> Writer
+    requires { ⌜ Accepted (now s) (now tab) × (length (now b) ≤ 65536) × Known (now s) (now b) v ⌝ }
+    ensures { λ r. ⌜ Means (now (s .entry)) (now (b .entry)) v (λ j. output r (now (out .exit)) ≡ printed (now (indent .entry)) escape (render j) (output w (now (out .entry)))) ⌝ }
+{
+    match meaning::form_of(s, tab, b, v) {
+        Form::Null => w,
+        Form::Boolean(t) => write_bool(out, indent, w, t, escape),
+        Form::Unsigned(n) => write_text(out, indent, w, s, b, Text::Digits(n, 0), escape),
+        Form::Negative(n) => write_text(out, indent, w, s, b, Text::Minus(n), escape),
+        Form::String(t) => write_text(out, indent, w, s, b, t, escape),
+        Form::List(i) => write_list(out, indent, w, s, tab, b, i, escape),
+        Form::Object(i) => support::feed_bytes(out, indent, w, b"[object]", escape),
+        Form::Merged(h, n) => support::feed_bytes(out, indent, w, b"[object]", escape),
+    }
+}
+
+// What a value's text is compared with: a text, or lent bytes from a place on.
+enum Target {
+    Text(Text),
+    Lent(usize),
+}
+
+enum Ahead {
+    Byte(u8, Target),
+    End,
+}
+
+enum Left {
+    Is(Target),
+    Other,
+}
+
+fn front(s: &[u8], b: &[u8], w: &[u8], g: Target) -> Ahead
+    requires { ⌜ (length (now s) ≤ 65536) × target.Stands (now s) (now b) (now w) g ⌝ }
+    ensures { λ r. ⌜ target.Stepped (now (s .entry)) (now (b .entry)) (now (w .entry)) g r ⌝ }
+{
+    match g {
+        Target::Text(t) => {
+            let Step::Byte(c, u) = text::next(s, b, t) else {
+                return Ahead::End;
+            };
+            Ahead::Byte(c, Target::Text(u))
+        }
+        Target::Lent(k) => {
+            if k < w.len() {
+                return Ahead::Byte(w[k], Target::Lent(k + 1));
+            }
+            Ahead::End
+        }
+    }
+}
+
+// What is left of the target where the bytes v stand in front.
+fn strip_bytes(s: &[u8], b: &[u8], w: &[u8], g: Target, v: &[u8]) -> Left
+    requires { ⌜ (length (now s) ≤ 65536) × target.Stands (now s) (now b) (now w) g ⌝ }
+    ensures { λ r. ⌜ target.Stripped (now (s .entry)) (now (b .entry)) (now (w .entry)) (stripped (now (v .entry)) (target.rest (now (s .entry)) (now (b .entry)) (now (w .entry)) g)) r ⌝ }
+{
+    let mut u = g;
+    let mut i: usize = 0;
+    while i < v.len() {
+        let Ahead::Byte(c, x) = front(s, b, w, u) else {
+            return Left::Other;
+        };
+        if v[i] != c {
+            return Left::Other;
+        }
+        u = x;
+        i += 1;
+    }
+    Left::Is(u)
+}
+
+// The same for a text.
+fn strip_text(s: &[u8], b: &[u8], w: &[u8], g: Target, t: Text) -> Left
+    requires { ⌜ (length (now s) ≤ 65536) × target.Stands (now s) (now b) (now w) g × Stands (now s) (now b) t ⌝ }
+    ensures { λ r. ⌜ target.Stripped (now (s .entry)) (now (b .entry)) (now (w .entry)) (stripped (rest (now (s .entry)) (now (b .entry)) t) (target.rest (now (s .entry)) (now (b .entry)) (now (w .entry)) g)) r ⌝ }
+{
+    let mut u = g;
+    let mut y = t;
+    loop {
+        let Step::Byte(d, z) = text::next(s, b, y) else {
+            return Left::Is(u);
+        };
+        let Ahead::Byte(c, x) = front(s, b, w, u) else {
+            return Left::Other;
+        };
+        if c != d {
+            return Left::Other;
+        }
+        u = x;
+        y = z;
+    }
+}
+
+fn strip_bool(s: &[u8], b: &[u8], w: &[u8], g: Target, x: bool) -> Left
+    requires { ⌜ (length (now s) ≤ 65536) × target.Stands (now s) (now b) (now w) g ⌝ }
+    ensures { λ r. ⌜ target.Stripped (now (s .entry)) (now (b .entry)) (now (w .entry)) (stripped (render (jbool x)) (target.rest (now (s .entry)) (now (b .entry)) (now (w .entry)) g)) r ⌝ }
+{
+    if x {
+        return strip_bytes(s, b, w, g, b"true");
+    }
+    strip_bytes(s, b, w, g, b"false")
+}
+
+// What is left where the list at the place i stands in front.
+fn strip_list(s: &[u8], tab: &[u64], b: &[u8], w: &[u8], g: Target, i: usize) -> Left
+    requires { ⌜ Accepted (now s) (now tab) × (length (now b) ≤ 65536) × target.Stands (now s) (now b) (now w) g × (i < places (now s)) × IsList (json-at (now s) i) ⌝ }
+    ensures { λ r. ⌜ target.Stripped (now (s .entry)) (now (b .entry)) (now (w .entry)) (stripped (render (json-at (now (s .entry)) i)) (target.rest (now (s .entry)) (now (b .entry)) (now (w .entry)) g)) r ⌝ }
+{
+    let Left::Is(t) = strip_bytes(s, b, w, g, b"[") else {
+        return Left::Other;
+    };
+    let Found::At(f) = places::first(s, tab, i) else {
+        return strip_bytes(s, b, w, t, b"]");
+    };
+    let mut u = t;
+    let mut c = f;
+    loop {
+        let Left::Is(x) = strip_value(s, tab, b, w, u, Value::Place(c)) else {
+            return Left::Other;
+        };
+        let Found::At(d) = places::next(s, tab, i, c) else {
+            return strip_bytes(s, b, w, x, b"]");
+        };
+        let Left::Is(y) = strip_bytes(s, b, w, x, b", ") else {
+            return Left::Other;
+        };
+        u = y;
+        c = d;
+    }
+}
+
+// What is left where the text of a value stands in front.
+fn strip_value(s: &[u8], tab: &[u64], b: &[u8], w: &[u8], g: Target, v: Value) -> Left
+    requires { ⌜ Accepted (now s) (now tab) × (length (now b) ≤ 65536) × target.Stands (now s) (now b) (now w) g × Known (now s) (now b) v ⌝ }
+    ensures { λ r. ⌜ target.ValueStripped (now (s .entry)) (now (b .entry)) (now (w .entry)) v g r ⌝ }
+{
+    match meaning::form_of(s, tab, b, v) {
+        Form::Null => Left::Is(g),
+        Form::Boolean(t) => strip_bool(s, b, w, g, t),
+        Form::Unsigned(n) => strip_text(s, b, w, g, Text::Digits(n, 0)),
+        Form::Negative(n) => strip_text(s, b, w, g, Text::Minus(n)),
+        Form::String(t) => strip_text(s, b, w, g, t),
+        Form::List(i) => strip_list(s, tab, b, w, g, i),
+        Form::Object(i) => strip_bytes(s, b, w, g, b"[object]"),
+        Form::Merged(h, n) => strip_bytes(s, b, w, g, b"[object]"),
+    }
+}
+
+// Whether nothing is left.
+fn all_met(s: &[u8], b: &[u8], w: &[u8], l: Left) -> bool
+    requires { ⌜ (length (now s) ≤ 65536) × target.LeftStands (now s) (now b) (now w) l ⌝ }
+    ensures { λ r. ⌜ r ≡ met (target.left (now (s .entry)) (now (b .entry)) (now (w .entry)) l) ⌝ }
+{
+    let Left::Is(g) = l else {
+        return false;
+    };
+    match front(s, b, w, g) {
+        Ahead::Byte(c, u) => false,
+        Ahead::End => true,
+    }
+}
+
+// Whether a value prints just the bytes w.
+pub fn text_is(s: &[u8], tab: &[u64], b: &[u8], v: Value, w: &[u8]) -> bool
+    requires { ⌜ Accepted (now s) (now tab) × (length (now b) ≤ 65536) × Known (now s) (now b) v ⌝ }
+    ensures { λ r. ⌜ Means (now (s .entry)) (now (b .entry)) v (λ j. r ≡ same (render j) (now (w .entry))) ⌝ }
+{
+    all_met(s, b, w, strip_value(s, tab, b, w, Target::Lent(0), v))
+}
+
+// Whether it prints just the text t. (No lent bytes are looked at.)
+pub fn text_same(s: &[u8], tab: &[u64], b: &[u8], v: Value, t: Text) -> bool
+    requires { ⌜ Accepted (now s) (now tab) × (length (now b) ≤ 65536) × Known (now s) (now b) v × Stands (now s) (now b) t ⌝ }
+    ensures { λ r. ⌜ Means (now (s .entry)) (now (b .entry)) v (λ j. r ≡ same (render j) (rest (now (s .entry)) (now (b .entry)) t)) ⌝ }
+{
+    all_met(s, b, b, strip_value(s, tab, b, b, Target::Text(t), v))
+}

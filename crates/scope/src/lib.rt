@@ -1,0 +1,298 @@
+// block.rs, local_vars.rs and the part of context.rs that reads them: a scope as a record of numbers. The stack of scopes is an array by value.
+ghost use mathlib.Core.Path.{_≡_};
+ghost use mathlib.Core.List.{List};
+ghost use Prim.Native.Nat.{ℕ, _≤_, _<_};
+ghost use lib.ListN.{length, getD};
+ghost use Rattle.rules.specs.Bytes.{Bytes, same, pick};
+ghost use Rattle.rules.specs.Bits.{bits};
+ghost use Rattle.rules.specs.Bundle.{string};
+ghost use Rattle.layout.specs.Text.{text-at};
+ghost use Rattle.parts.specs.Holds.{Holds};
+ghost use Rattle.rules.specs.Context.{get-in-block-params};
+ghost use Rattle.scope.specs.Scopes.{blank, blocks-of};
+ghost use Rattle.scope.specs.Standing.{NamesStand, ScopeStands, ScopesStand};
+ghost use Rattle.scope.specs.Names.{Readable, AllReadable, HashReadable, without-path, hash-param, second-value, one-param, two-params, own-param, ParamIs, level-place, flag, local-key, local-variable, local-at, LocalIs};
+ghost use Rattle.scope.specs.Made.{child, with-names, with-locals, with-count, turned};
+use value::Value;
+
+// One open scope. Values are kept as `value::encode` makes them.
+pub struct Scope {
+    // what `this` is: a place of the plan with its path, or any other value
+    pub base: u32,
+    // the bit place of the block's first name
+    pub names: u32,
+    // `@key` of a turn over an object
+    pub key: u32,
+    // `@index`
+    pub index: u16,
+    // the inline partials: their first entry, and how many
+    pub inline: u16,
+    pub count: u16,
+    // the length of a partial's block text
+    pub text: u16,
+    // block names: 0 none, 1 one, 2 two, 3 those of a partial's hash, which is merged into the base
+    pub kind: u8,
+    // local variables: 0 none; else one more than: 1 for the first turn, 2 for the last, 4 for a turn over an object
+    pub locals: u8,
+    // a partial's block text: 0 not yet or no partial, 1 none, 2 there is one
+    pub block: u8,
+}
+
+// What a name stands for.
+pub enum Param {
+    Is(Value),
+    Nothing,
+}
+
+// A value without its path: what is missing is null.
+fn without_path(v: Value) -> Value
+    ensures { λ r. ⌜ r ≡ without-path v ⌝ }
+{
+    match v {
+        Value::Missing => Value::Null,
+        Value::Context(i) => Value::Place(i),
+        w => w,
+    }
+}
+
+// Whether the strings at the bits p and q are the same bytes.
+fn same_name(b: &[u8], p: usize, q: usize) -> bool
+    requires { ⌜ (p ≤ 524288) × (q ≤ 524288) ⌝ }
+    ensures { λ r. ⌜ r ≡ same (text-at (bits (now (b .entry))) p) (text-at (bits (now (b .entry))) q) ⌝ }
+{
+    let m = bits::field(b, p, 16) as usize;
+    let n = bits::field(b, q, 16) as usize;
+    bits::same_at(b, p + 16, m, q + 16, n)
+}
+
+// Among the n hash pairs from h on.
+fn hash_param(b: &[u8], ent: &[u64], h: usize, n: usize, p: usize) -> Param
+    requires { ⌜ (length (now b) ≤ 65536) × (p ≤ 524288) × HashReadable (now b) (now ent) h n ⌝ }
+    ensures { λ r. ⌜ r ≡ hash-param (now (b .entry)) (now (ent .entry)) (text-at (bits (now (b .entry))) p) h n ⌝ }
+{
+    let mut i: usize = 0;
+    while i < n {
+        let e = h + i;
+        if same_name(b, entries::place(ent, e), p) {
+            return Param::Is(without_path(value::decode(entries::low(ent, e))));
+        }
+        i += 1;
+    }
+    Param::Nothing
+}
+
+// What the second name of `each` stands for.
+fn second_value(c: Scope) -> Value
+    ensures { λ r. ⌜ (r ≡ second-value c) × (c .index < 65536) ⌝ }
+{
+    let index = c.index as usize;
+    if 5 <= c.locals {
+        return without_path(value::decode(c.key));
+    }
+    Value::Index(index)
+}
+
+fn one_param(b: &[u8], c: Scope, p: usize) -> Param
+    requires { ⌜ (p ≤ 524288) × (c .names ≤ 524288) ⌝ }
+    ensures { λ r. ⌜ r ≡ one-param (now (b .entry)) c (text-at (bits (now (b .entry))) p) ⌝ }
+{
+    if same_name(b, c.names as usize, p) {
+        return Param::Is(value::decode(c.base));
+    }
+    Param::Nothing
+}
+
+// The second name wins.
+fn two_params(b: &[u8], c: Scope, p: usize) -> Param
+    requires { ⌜ (length (now b) ≤ 65536) × (p ≤ 524288) × NamesStand (now b) c 2 ⌝ }
+    ensures { λ r. ⌜ (r ≡ two-params (now (b .entry)) c (text-at (bits (now (b .entry))) p)) × (c .index < 65536) ⌝ }
+{
+    let second = second_value(c);
+    let names = parts::skip_string(b, c.names as usize);
+    if same_name(b, names, p) {
+        return Param::Is(second);
+    }
+    one_param(b, c, p)
+}
+
+// The value that the string at p stands for among the scope's own block names.
+pub fn block_param(b: &[u8], ent: &[u64], c: Scope, p: usize) -> Param
+    requires { ⌜ (length (now b) ≤ 65536) × Holds string (bits (now b)) p × Readable (now b) (now ent) c ⌝ }
+    ensures { λ r. ⌜ ((s : Bytes) → ScopeStands s (now (b .entry)) (now (ent .entry)) c → ParamIs s (now (b .entry)) (now (ent .entry)) (c .inline) (own-param s (now (b .entry)) (now (ent .entry)) c (text-at (bits (now (b .entry))) p)) r) ⌝ }
+{
+    if c.kind == 0 {
+        return Param::Nothing;
+    }
+    if c.kind == 1 {
+        return one_param(b, c, p);
+    }
+    if c.kind == 2 {
+        return two_params(b, c, p);
+    }
+    let base = value::decode(c.base);
+    let Value::Merged(h, n) = base else {
+        return Param::Nothing;
+    };
+    hash_param(b, ent, h, n, p)
+}
+
+// From the newest scope on.
+pub fn get_in_block_params(b: &[u8], ent: &[u64], list: [Scope; 32], used: usize, p: usize) -> Param
+    requires { ⌜ (length (now b) ≤ 65536) × Holds string (bits (now b)) p × (used ≤ 32) × AllReadable (now b) (now ent) list used ⌝ }
+    ensures { λ r. ⌜ ((s : Bytes) (t : ℕ) → ScopesStand s (now (b .entry)) (now (ent .entry)) list used t → ParamIs s (now (b .entry)) (now (ent .entry)) t (get-in-block-params (blocks-of s (now (b .entry)) (now (ent .entry)) list used) (text-at (bits (now (b .entry))) p)) r) ⌝ }
+{
+    let mut i = used;
+    while 0 < i {
+        i -= 1;
+        let c = list[i];
+        let found = block_param(b, ent, c, p);
+        if let Param::Is(w) = found {
+            return Param::Is(w);
+        }
+    }
+    Param::Nothing
+}
+
+// The k-th scope from the newest on, or the newest where there are not so many.
+pub fn get_or_front(list: [Scope; 32], used: usize, k: usize) -> Scope
+    requires { ⌜ (0 < used) × (used ≤ 32) ⌝ }
+    ensures { λ r. ⌜ r ≡ getD list (level-place used k) blank ⌝ }
+{
+    if k < used {
+        return list[used - 1 - k];
+    }
+    list[used - 1]
+}
+
+fn flag(yes: bool) -> Value
+    ensures { λ r. ⌜ r ≡ flag yes ⌝ }
+{
+    if yes {
+        return Value::True;
+    }
+    Value::False
+}
+
+// `@key`, of a turn over an object.
+fn local_key(c: Scope) -> Param
+    ensures { λ r. ⌜ r ≡ local-key c ⌝ }
+{
+    if 5 <= c.locals {
+        return Param::Is(without_path(value::decode(c.key)));
+    }
+    Param::Nothing
+}
+
+// The local variable of the scope that the string at p names.
+fn local_variable(b: &[u8], c: Scope, p: usize) -> Param
+    requires { ⌜ p ≤ 524288 ⌝ }
+    ensures { λ r. ⌜ (c .index < 65536) × (r ≡ local-variable c (text-at (bits (now (b .entry))) p)) ⌝ }
+{
+    let index = c.index as usize;
+    if c.locals == 0 {
+        return Param::Nothing;
+    }
+    let turn = c.locals - 1;
+    if parts::text_is(b, p, b"first") {
+        return Param::Is(flag(turn % 2 == 1));
+    }
+    if parts::text_is(b, p, b"last") {
+        return Param::Is(flag(turn / 2 % 2 == 1));
+    }
+    if parts::text_is(b, p, b"index") {
+        return Param::Is(Value::Index(index));
+    }
+    if parts::text_is(b, p, b"key") {
+        return local_key(c);
+    }
+    Param::Nothing
+}
+
+// `evaluate2` of a local path: the string at p names a local variable of the scope at a level.
+pub fn local_value(b: &[u8], list: [Scope; 32], used: usize, level: usize, p: usize) -> Param
+    requires { ⌜ (p ≤ 524288) × (used ≤ 32) ⌝ }
+    ensures { λ r. ⌜ ((s : Bytes) (ent : List ℕ) (t : ℕ) → ScopesStand s (now (b .entry)) ent list used t → LocalIs s (now (b .entry)) ent t (local-at s (now (b .entry)) ent list used level (text-at (bits (now (b .entry))) p)) r) ⌝ }
+{
+    if used <= level {
+        return Param::Nothing;
+    }
+    local_variable(b, list[used - 1 - level], p)
+}
+
+// A new scope with its base; its inline partials start at an entry.
+pub fn child(base: u32, inline: u16) -> Scope
+    ensures { λ r. ⌜ r ≡ child base inline ⌝ }
+{
+    Scope {
+        base: base,
+        names: 0,
+        key: 0,
+        index: 0,
+        inline: inline,
+        count: 0,
+        text: 0,
+        kind: 0,
+        locals: 0,
+        block: 0,
+    }
+}
+
+// With block names: their kind, and the bit place of the first.
+pub fn with_names(c: Scope, kind: u8, names: u32) -> Scope
+    ensures { λ r. ⌜ r ≡ with-names c kind names ⌝ }
+{
+    let mut r = c;
+    r.kind = kind;
+    r.names = names;
+    r
+}
+
+// With the local variables of the scope around.
+pub fn with_locals(c: Scope, around: Scope) -> Scope
+    ensures { λ r. ⌜ r ≡ with-locals c around ⌝ }
+{
+    let mut r = c;
+    r.key = around.key;
+    r.index = around.index;
+    r.locals = around.locals;
+    r
+}
+
+// With so many inline partials.
+pub fn with_count(c: Scope, count: u16) -> Scope
+    ensures { λ r. ⌜ r ≡ with-count c count ⌝ }
+{
+    let mut r = c;
+    r.count = count;
+    r
+}
+
+fn weight(yes: bool, n: u8) -> u8
+    ensures { λ r. ⌜ (r ≡ pick yes n 0) × (r ≤ n) ⌝ }
+{
+    if yes {
+        return n;
+    }
+    0
+}
+
+// A turn of `each`.
+pub fn turn(
+    c: Scope,
+    base: u32,
+    key: u32,
+    index: usize,
+    first: bool,
+    last: bool,
+    object: bool,
+) -> Scope
+    requires { ⌜ index < 65536 ⌝ }
+    ensures { λ r. ⌜ r ≡ turned c base key index first last object ⌝ }
+{
+    let mut r = c;
+    r.base = base;
+    r.key = key;
+    r.index = index as u16;
+    r.locals = 1 + weight(first, 1) + weight(last, 2) + weight(object, 4);
+    r
+}
