@@ -14,35 +14,27 @@ Inv-loop file₀ buffer₀ counts₀ k₀ file buffer counts k = (length file �
 abbrev μ-loop : tie.MeasureT-loop
 μ-loop file₀ buffer₀ counts₀ k₀ file buffer counts k = 100 - k
 
--- src/main.rt:223:5
 loop-holds : tie.Need-loop-holds Inv-loop μ-loop
 loop-holds c = search needs
 
--- src/main.rt:224:9
 one-file-requires : tie.Need-one-file-requires Inv-loop μ-loop
 one-file-requires c κs = search needs
 
--- src/main.rt:225:9
 add-k : tie.Need-add-k Inv-loop μ-loop
 add-k c = search needs
 
--- src/main.rt:223:5
 loop-less : tie.Need-loop-less Inv-loop μ-loop
 loop-less c = search needs
 
--- src/main.rt:223:5
 loop-again : tie.Need-loop-again Inv-loop μ-loop
 loop-again c = search needs
 
--- src/main.rt:221:1
 same-length : tie.Need-same-length Inv-loop μ-loop
 same-length c = search needs
 
--- src/main.rt:221:1
 same-length-2 : tie.Need-same-length-2 Inv-loop μ-loop
 same-length-2 c = search needs
 
--- src/main.rt:221:1
 returns : tie.Need-returns Inv-loop μ-loop
 returns c = search needs
 

@@ -18,119 +18,90 @@ Inv-loop f from out₀ size at₀ len₀ turns₀ out at len turns = (length out
 abbrev μ-loop : tie.MeasureT-loop
 μ-loop f from out₀ size at₀ len₀ turns₀ out at len turns = 65536 - turns
 
--- src/main.rt:104:9
 number-at-requires : tie.Need-number-at-requires Inv-loop μ-loop
 number-at-requires c κs = search needs
 
--- src/main.rt:105:25
 add-within : tie.Need-add-within Inv-loop μ-loop
 add-within c = search needs
 
--- src/main.rt:105:9
 within-requires : tie.Need-within-requires Inv-loop μ-loop
 within-requires c κs = search needs
 
--- src/main.rt:108:5
 loop-holds : tie.Need-loop-holds Inv-loop μ-loop
 loop-holds c = search needs
 
--- src/main.rt:110:13
 same-length : tie.Need-same-length Inv-loop μ-loop
 same-length c = search needs
 
--- src/main.rt:110:13
 returns : tie.Need-returns Inv-loop μ-loop
 returns c = search needs
 
--- src/main.rt:113:13
 same-length-2 : tie.Need-same-length-2 Inv-loop μ-loop
 same-length-2 c = search needs
 
--- src/main.rt:113:13
 returns-2 : tie.Need-returns-2 Inv-loop μ-loop
 returns-2 c = search needs
 
--- src/main.rt:115:13
 short-at-requires : tie.Need-short-at-requires Inv-loop μ-loop
 short-at-requires c κs = search needs
 
--- src/main.rt:116:18
 add-plain : tie.Need-add-plain Inv-loop μ-loop
 add-plain c = search needs
 
--- src/main.rt:116:9
 plain-requires : tie.Need-plain-requires Inv-loop μ-loop
 plain-requires c κs = search needs
 
--- src/main.rt:117:33
 add-short-at : tie.Need-add-short-at Inv-loop μ-loop
 add-short-at c = search needs
 
--- src/main.rt:117:33
 add-short-at-2 : tie.Need-add-short-at-2 Inv-loop μ-loop
 add-short-at-2 c = search needs
 
--- src/main.rt:117:13
 short-at-requires-2 : tie.Need-short-at-requires-2 Inv-loop μ-loop
 short-at-requires-2 c κs = search needs
 
--- src/main.rt:118:32
 add-short-at-3 : tie.Need-add-short-at-3 Inv-loop μ-loop
 add-short-at-3 c = search needs
 
--- src/main.rt:118:32
 add-short-at-4 : tie.Need-add-short-at-4 Inv-loop μ-loop
 add-short-at-4 c = search needs
 
--- src/main.rt:118:13
 short-at-requires-3 : tie.Need-short-at-requires-3 Inv-loop μ-loop
 short-at-requires-3 c κs = search needs
 
--- src/main.rt:119:23
 add-repeated : tie.Need-add-repeated Inv-loop μ-loop
 add-repeated c = search needs
 
--- src/main.rt:119:9
 repeated-requires : tie.Need-repeated-requires Inv-loop μ-loop
 repeated-requires c κs = search needs
 
--- src/main.rt:120:15
 add-len : tie.Need-add-len Inv-loop μ-loop
 add-len c = search needs
 
--- src/main.rt:120:15
 add-len-2 : tie.Need-add-len-2 Inv-loop μ-loop
 add-len-2 c = search needs
 
--- src/main.rt:121:21
 add-within-2 : tie.Need-add-within-2 Inv-loop μ-loop
 add-within-2 c = search needs
 
--- src/main.rt:121:21
 add-within-3 : tie.Need-add-within-3 Inv-loop μ-loop
 add-within-3 c = search needs
 
--- src/main.rt:121:9
 within-requires-2 : tie.Need-within-requires-2 Inv-loop μ-loop
 within-requires-2 c κs = search needs
 
--- src/main.rt:122:9
 add-turns : tie.Need-add-turns Inv-loop μ-loop
 add-turns c = search needs
 
--- src/main.rt:108:5
 loop-less : tie.Need-loop-less Inv-loop μ-loop
 loop-less c = search needs
 
--- src/main.rt:108:5
 loop-again : tie.Need-loop-again Inv-loop μ-loop
 loop-again c = search needs
 
--- src/main.rt:100:1
 same-length-3 : tie.Need-same-length-3 Inv-loop μ-loop
 same-length-3 c = search needs
 
--- src/main.rt:100:1
 returns-3 : tie.Need-returns-3 Inv-loop μ-loop
 returns-3 c = search needs
 
