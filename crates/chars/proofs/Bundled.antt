@@ -1,5 +1,5 @@
 -- The characters of a packed string: the first byte says how many bytes each has.
-use Prim.Native.Nat.{ℕ, suc, _+_, _-_, _*_, _≤_}
+use Prim.Native.Nat.{ℕ, suc, _+_, _-_, _*_, _≤_, _<_}
 use mathlib.Core.Bool.{Bool, true, false}
 use mathlib.Core.List.{[], _∷_, _++_}
 use mathlib.Core.Path.{_≡_, refl, sym, ap, _∙_, subst}
@@ -11,7 +11,7 @@ use Rattle.rules.specs.Bytes.{Bytes, pick, byte-at}
 use Rattle.rules.specs.Order.{differ}
 use Rattle.rules.specs.Bits.{bits}
 use Rattle.rules.specs.Layout.{field}
-use Rattle.rules.specs.Utf8.{Wants, wants, bad, lead, follows, utf8, never-follows, tails, length-by, utf8-length}
+use Rattle.rules.specs.Utf8.{Wants, wants, bad, lead, follows, utf8, never-follows, tails, length-by, utf8-length, length-inside}
 use Rattle.rules.specs.Context.{chars}
 use Rattle.bits.specs.Packed.{bytes-at, bytes-length, bytes-get, bytes-append}
 use Rattle.utf8.proofs.Laws.{character, chars-at}
@@ -43,9 +43,8 @@ length-by-lead l c (wants k low high) a n = go (tails k low high l 1) n
     go true n = sym (a .count)
     go false n = absurd (n refl)
 
-led : (l : Bytes) → (utf8-length l 0 ≡ 0 → ⊥) → utf8-length l 0 ≡ lead-length (byte-at l 0)
-unfolding utf8-length
-led l n = length-by-lead l (byte-at l 0) (lead (byte-at l 0)) (leads (byte-at l 0)) n
+led : (l : Bytes) → 0 < length l → (utf8-length l 0 ≡ 0 → ⊥) → utf8-length l 0 ≡ lead-length (byte-at l 0)
+led l h n = let e = length-inside l 0 h in e ∙ length-by-lead l (byte-at l 0) (lead (byte-at l 0)) (leads (byte-at l 0)) (λ z. n (e ∙ z))
 
 -- as many bytes as the first one asks for are valid
 one-valid : (c : ℕ) (t : Bytes) → utf8 (c ∷ t) ≡ true → utf8 (take (lead-length c) (c ∷ t)) ≡ true
@@ -62,7 +61,7 @@ split (c ∷ t) h e =
     let some = p .some in
     let few = p .few in
     let fits = p .fits in
-    let m = led (c ∷ t) (λ z. omega arith) in
+    let m = led (c ∷ t) (omega arith) (λ z. omega arith) in
     let z = zero-add (utf8-length (c ∷ t) 0) in
     record {
       some = omega arith;

@@ -11,7 +11,7 @@ use lib.Seq.{length-take-le}
 use borrow.Author.Tests.{eq-eqb, ne-eqb, le-ltb, ltb-true, ltb-false, leb-true, eqb-true, eqb-false}
 use Rattle.rules.specs.Bytes.{Bytes, pick, byte-at, between}
 use Rattle.rules.specs.Order.{and-left, and-right, differ}
-use Rattle.rules.specs.Utf8.{Wants, wants, bad, lead, tails, length-by, utf8-length}
+use Rattle.rules.specs.Utf8.{Wants, wants, bad, lead, tails, length-by, utf8-length, length-inside}
 use Rattle.rules.specs.Scan.{is-short, encoded, code-point, escaped-byte, unicode-length, escape-length, char-length, string-from, says}
 use Rattle.rules.specs.Context.{goes-on, chars}
 use Rattle.scan.proofs.Bounds.{by-cases, in-text}
@@ -225,8 +225,7 @@ going s (suc k) low high j hl t =
     }
 
 raw : (s : Bytes) (i n : ℕ) → 32 ≤ byte-at s i → (byte-at s i ≡ 34 → ⊥) → (byte-at s i ≡ 92 → ⊥) → utf8-length s i ≡ n → (n ≡ 0 → ⊥) → Whole s (i + n) → Spelt s i
-unfolding utf8-length
-raw s i n h q k e z w = go (lead (byte-at s i)) (leads (byte-at s i)) e
+raw s i n h q k e z w = go (lead (byte-at s i)) (leads (byte-at s i)) (sym (length-inside s i (in-text s i (λ z. omega arith))) ∙ e)
   where
     go : (x : Wants) → Leads (byte-at s i) x → length-by x s i ≡ n → Spelt s i
     go bad l e = absurd (z (sym e))
