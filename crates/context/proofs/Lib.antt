@@ -1,0 +1,4 @@
+mod Walking
+mod Starting
+mod Climbing
+mod Evaluating

@@ -1,0 +1,4 @@
+pub mod Walk
+pub mod Recursive
+pub mod Evaluated
+pub mod Start

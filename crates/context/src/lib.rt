@@ -1,0 +1,340 @@
+// context.rs: where a path leads, from the open scopes on. Nothing is copied: a path is followed segment by segment in the bundle.
+ghost use mathlib.Core.Bool.{true, false};
+ghost use mathlib.Core.Path.{_≡_};
+ghost use mathlib.Core.List.{List, _++_};
+ghost use Prim.Native.Nat.{ℕ, _-_, _≤_, _<_};
+ghost use lib.ListN.{length};
+ghost use Rattle.rules.specs.Path.{merge-json-path};
+ghost use Rattle.rules.specs.Bits.{bits};
+ghost use Rattle.rules.specs.Bundle.{string, seg, path};
+ghost use Rattle.rules.specs.Error.{got};
+ghost use Rattle.rules.specs.Context.{absolute-path, is-lone-name, follow, navigate};
+ghost use Rattle.rules.specs.Expand.{or-missing, evaluate2};
+ghost use Rattle.rules.specs.Bytes.{Bytes};
+ghost use Rattle.rules.specs.State.{RenderContext, blocks};
+ghost use Rattle.rules.specs.Registry.{Registry};
+ghost use Rattle.layout.specs.Text.{text-at};
+ghost use Rattle.parts.specs.Holds.{Holds, row};
+ghost use Rattle.parts.specs.Says.{segments-at, path-at};
+ghost use Rattle.places.specs.Accepted.{Accepted};
+ghost use Rattle.places.specs.Places.{places, json-at, live-at, path-at as place-path};
+ghost use Rattle.meaning.specs.Meaning.{is-missing, json-of, scoped-of};
+ghost use Rattle.meaning.specs.Standing.{Stands};
+ghost use Rattle.scope.specs.Scopes.{blocks-of};
+ghost use Rattle.scope.specs.Standing.{ScopesStand};
+ghost use Rattle.scope.specs.Names.{AllReadable, resolved, local-at};
+ghost use Rattle.lookup.specs.Answers.{Held};
+ghost use Rattle.context.specs.Walk.{walked};
+ghost use Rattle.context.specs.Recursive.{looked};
+ghost use Rattle.context.specs.Evaluated.{path-of, Evaluates, present, NamedStep, Stepped, stopped};
+ghost use Rattle.context.specs.Start.{PeekedIs, Behind, Based, Starts};
+use lookup::Got;
+use parts::Path;
+use parts::Segment;
+use scope::Param;
+use scope::Scope;
+use value::Value;
+
+// What a path leads to: `Missing` where it leads nowhere.
+pub enum Evaluated {
+    Is(Value),
+    BadIndex,
+}
+
+// One segment on: the value there, and the next segment.
+enum Step {
+    On(Value, usize),
+    Nothing,
+    BadIndex,
+}
+
+// A value that is found is not missing: a hash pair whose value is missing stands for null.
+fn present(v: Value) -> Value
+    ensures { λ r. ⌜ r ≡ present v ⌝ }
+{
+    match v {
+        Value::Missing => Value::Null,
+        w => w,
+    }
+}
+
+fn named(s: &[u8], tab: &[u64], b: &[u8], ent: &[u64], v: Value, q: usize, next: usize) -> Step
+    requires { ⌜ Accepted (now s) (now tab) × (length (now b) ≤ 65536) × Held (now s) (now b) (now ent) v × Holds string (bits (now b)) q ⌝ }
+    ensures { λ r. ⌜ NamedStep (now (s .entry)) (now (b .entry)) (now (ent .entry)) v (text-at (bits (now (b .entry))) q) next r ⌝ }
+{
+    let found = lookup::get_data(s, tab, b, ent, v, q);
+    match found {
+        Got::Is(w) => Step::On(present(w), next),
+        Got::Nothing => Step::Nothing,
+        Got::BadIndex => Step::BadIndex,
+    }
+}
+
+// From v along the segment at p; root and up are passed over.
+fn along(s: &[u8], tab: &[u64], b: &[u8], ent: &[u64], v: Value, p: usize) -> Step
+    requires { ⌜ Accepted (now s) (now tab) × (length (now b) ≤ 65536) × Held (now s) (now b) (now ent) v × Holds seg (bits (now b)) p ⌝ }
+    ensures { λ r. ⌜ Stepped (now (s .entry)) (now (b .entry)) (now (ent .entry)) v p r ⌝ }
+{
+    let segment = parts::segment_at(b, p);
+    match segment {
+        Segment::Named(q, next) => named(s, tab, b, ent, v, q, next),
+        Segment::Root(next) => Step::On(v, next),
+        Segment::Up(next) => Step::On(v, next),
+    }
+}
+
+fn stopped(r: Step) -> Evaluated
+    ensures { λ x. ⌜ x ≡ stopped r ⌝ }
+{
+    match r {
+        Step::On(v, _) => Evaluated::Is(v),
+        Step::Nothing => Evaluated::Is(Value::Missing),
+        Step::BadIndex => Evaluated::BadIndex,
+    }
+}
+
+// From v along the names among the n segments at p.
+fn walk(s: &[u8], tab: &[u64], b: &[u8], ent: &[u64], v: Value, p: usize, n: usize) -> Evaluated
+    requires { ⌜ Accepted (now s) (now tab) × (length (now b) ≤ 65536) × Held (now s) (now b) (now ent) v × Holds (row seg n) (bits (now b)) p ⌝ }
+    ensures { λ r. ⌜ ((t : ℕ) → Stands (now (s .entry)) (now (b .entry)) (now (ent .entry)) t v → is-missing v ≡ false → Evaluates (now (s .entry)) (now (b .entry)) (now (ent .entry)) t (walked (path-of (now (s .entry)) v) (json-of (now (s .entry)) (now (b .entry)) (now (ent .entry)) v) (merge-json-path (segments-at n (bits (now (b .entry))) p))) r) ⌝ }
+{
+    let mut cur = v;
+    let mut at = p;
+    let mut left = n;
+    while 0 < left {
+        let r = along(s, tab, b, ent, cur, at);
+        let Step::On(w, next) = r else {
+            return stopped(r);
+        };
+        cur = w;
+        at = next;
+        left -= 1;
+    }
+    Evaluated::Is(cur)
+}
+
+// The ups in front: how many, and where the segments behind them stand.
+struct Peeked {
+    ups: usize,
+    place: usize,
+}
+
+fn peek(b: &[u8], p: usize, n: usize) -> Peeked
+    requires { ⌜ (length (now b) ≤ 65536) × Holds (row seg n) (bits (now b)) p ⌝ }
+    ensures { λ r. ⌜ PeekedIs (bits (now (b .entry))) p n r ⌝ }
+{
+    let mut at = p;
+    let mut k: usize = 0;
+    while k < n {
+        let segment = parts::segment_at(b, at);
+        let Segment::Up(next) = segment else {
+            return Peeked { ups: k, place: at };
+        };
+        at = next;
+        k += 1;
+    }
+    Peeked { ups: k, place: at }
+}
+
+// Where a path starts: a value, and the segments to follow from it, so many.
+struct Start {
+    value: Value,
+    place: usize,
+    left: usize,
+}
+
+// Without a block name: from the root, or from the scope that the ups lead to.
+fn without_block_param(list: [Scope; 32], used: usize, ups: usize, root: bool) -> Value
+    requires { ⌜ (0 < used) × (used ≤ 32) ⌝ }
+    ensures { λ r. ⌜ Based list used ups root r ⌝ }
+{
+    if (ups == 0) & root {
+        return Value::Context(0);
+    }
+    let c = scope::get_or_front(list, used, ups);
+    value::decode(c.base)
+}
+
+// With all n segments at p to follow.
+fn based(list: [Scope; 32], used: usize, p: usize, n: usize, ups: usize, root: bool) -> Start
+    requires { ⌜ (0 < used) × (used ≤ 32) ⌝ }
+    ensures { λ r. ⌜ (r .place ≡ p) × (r .left ≡ n) × Based list used ups root (r .value) ⌝ }
+{
+    let base = without_block_param(list, used, ups, root);
+    Start {
+        value: base,
+        place: p,
+        left: n,
+    }
+}
+
+// Behind the ups stands the name at q, and `next` is the place behind it.
+fn named_start(
+    b: &[u8],
+    ent: &[u64],
+    list: [Scope; 32],
+    used: usize,
+    p: usize,
+    n: usize,
+    ups: usize,
+    q: usize,
+    next: usize,
+) -> Start
+    requires { ⌜ (length (now b) ≤ 65536) × (0 < used) × (used ≤ 32) × AllReadable (now b) (now ent) list used × Holds string (bits (now b)) q × Behind (bits (now b)) p n ups q next ⌝ }
+    ensures { λ r. ⌜ Starts (now (b .entry)) (now (ent .entry)) list used p n r ⌝ }
+{
+    let found = scope::get_in_block_params(b, ent, list, used, q);
+    let Param::Is(w) = found else {
+        return based(list, used, p, n, ups, false);
+    };
+    Start {
+        value: w,
+        place: next,
+        left: n - ups - 1,
+    }
+}
+
+fn begin(b: &[u8], ent: &[u64], list: [Scope; 32], used: usize, p: usize, n: usize) -> Start
+    requires { ⌜ (length (now b) ≤ 65536) × (0 < used) × (used ≤ 32) × AllReadable (now b) (now ent) list used × Holds (row seg n) (bits (now b)) p ⌝ }
+    ensures { λ r. ⌜ Starts (now (b .entry)) (now (ent .entry)) list used p n r ⌝ }
+{
+    let front = peek(b, p, n);
+    let ups = front.ups;
+    if ups == n {
+        return based(list, used, p, n, ups, false);
+    }
+    let segment = parts::segment_at(b, front.place);
+    match segment {
+        Segment::Named(q, next) => named_start(b, ent, list, used, p, n, ups, q, next),
+        Segment::Root(_) => based(list, used, p, n, ups, true),
+        Segment::Up(_) => based(list, used, p, n, ups, false),
+    }
+}
+
+// Recursive lookup
+
+// A lone name from the place i, else from the places around it; a wrong index is no error there.
+fn climb(s: &[u8], tab: &[u64], b: &[u8], ent: &[u64], i: usize, q: usize) -> Value
+    requires { ⌜ Accepted (now s) (now tab) × (length (now b) ≤ 65536) × (i < places (now s)) × (live-at (now s) i ≡ true) × Holds string (bits (now b)) q ⌝ }
+    ensures { λ r. ⌜ (looked (now (s .entry)) i (text-at (bits (now (b .entry))) q) ≡ scoped-of (now (s .entry)) (now (b .entry)) (now (ent .entry)) r) × ((t : ℕ) → Stands (now (s .entry)) (now (b .entry)) (now (ent .entry)) t r) ⌝ }
+{
+    let mut at = i;
+    loop {
+        let found = lookup::get_data(s, tab, b, ent, Value::Context(at), q);
+        if let Got::Is(w) = found {
+            return w;
+        }
+        if at == 0 {
+            return Value::Missing;
+        }
+        at = places::parent(s, tab, at);
+    }
+}
+
+// From the place i along a lone name, or along none: that is a lone block name, which leads nowhere from the root.
+fn alone(s: &[u8], tab: &[u64], b: &[u8], ent: &[u64], i: usize, p: usize, n: usize) -> Value
+    requires { ⌜ Accepted (now s) (now tab) × (length (now b) ≤ 65536) × (i < places (now s)) × (live-at (now s) i ≡ true) × Holds (row seg n) (bits (now b)) p × (0 < n → is-lone-name (segments-at n (bits (now b)) p) ≡ true) ⌝ }
+    ensures { λ r. ⌜ (follow (json-at (now (s .entry)) 0) true (absolute-path (place-path (now (s .entry)) i ++ merge-json-path (segments-at n (bits (now (b .entry))) p))) ≡ got (scoped-of (now (s .entry)) (now (b .entry)) (now (ent .entry)) r)) × ((t : ℕ) → Stands (now (s .entry)) (now (b .entry)) (now (ent .entry)) t r) ⌝ }
+{
+    if 0 < n {
+        let segment = parts::segment_at(b, p);
+        let Segment::Named(q, _) = segment else {
+            return Value::Missing;
+        };
+        return climb(s, tab, b, ent, i, q);
+    }
+    if i == 0 {
+        return Value::Missing;
+    }
+    Value::Context(i)
+}
+
+fn recursively(
+    s: &[u8],
+    tab: &[u64],
+    b: &[u8],
+    ent: &[u64],
+    v: Value,
+    p: usize,
+    n: usize,
+) -> Evaluated
+    requires { ⌜ Accepted (now s) (now tab) × (length (now b) ≤ 65536) × Held (now s) (now b) (now ent) v × Holds (row seg n) (bits (now b)) p × (0 < n → is-lone-name (segments-at n (bits (now b)) p) ≡ true) ⌝ }
+    ensures { λ r. ⌜ ((t : ℕ) → Stands (now (s .entry)) (now (b .entry)) (now (ent .entry)) t v → is-missing v ≡ false → Evaluates (now (s .entry)) (now (b .entry)) (now (ent .entry)) t (follow (json-at (now (s .entry)) 0) true (resolved (now (s .entry)) (now (b .entry)) (now (ent .entry)) v (merge-json-path (segments-at n (bits (now (b .entry))) p)))) r) ⌝ }
+{
+    let Value::Context(i) = v else {
+        return walk(s, tab, b, ent, v, p, n);
+    };
+    Evaluated::Is(alone(s, tab, b, ent, i, p, n))
+}
+
+// Whether the n segments at p are one name.
+fn is_lone_name(b: &[u8], p: usize, n: usize) -> bool
+    requires { ⌜ (length (now b) ≤ 65536) × Holds (row seg n) (bits (now b)) p ⌝ }
+    ensures { λ r. ⌜ r ≡ is-lone-name (segments-at n (bits (now (b .entry))) p) ⌝ }
+{
+    if n != 1 {
+        return false;
+    }
+    let segment = parts::segment_at(b, p);
+    match segment {
+        Segment::Named(_, _) => true,
+        Segment::Root(_) => false,
+        Segment::Up(_) => false,
+    }
+}
+
+// Where the n segments at p lead.
+fn navigate(
+    s: &[u8],
+    tab: &[u64],
+    b: &[u8],
+    ent: &[u64],
+    list: [Scope; 32],
+    used: usize,
+    p: usize,
+    n: usize,
+    recursive: bool,
+) -> Evaluated
+    requires { ⌜ Accepted (now s) (now tab) × (length (now b) ≤ 65536) × (0 < used) × (used ≤ 32) × ((t : ℕ) × ScopesStand (now s) (now b) (now ent) list used t) × Holds (row seg n) (bits (now b)) p ⌝ }
+    ensures { λ r. ⌜ ((t : ℕ) → ScopesStand (now (s .entry)) (now (b .entry)) (now (ent .entry)) list used t → Evaluates (now (s .entry)) (now (b .entry)) (now (ent .entry)) t (navigate (json-at (now (s .entry)) 0) (segments-at n (bits (now (b .entry))) p) (blocks-of (now (s .entry)) (now (b .entry)) (now (ent .entry)) list used) recursive) r) ⌝ }
+{
+    let from = begin(b, ent, list, used, p, n);
+    let v = from.value;
+    let lone = is_lone_name(b, p, n);
+    if recursive & lone {
+        return recursively(s, tab, b, ent, v, from.place, from.left);
+    }
+    walk(s, tab, b, ent, v, from.place, from.left)
+}
+
+fn local_value(b: &[u8], list: [Scope; 32], used: usize, level: usize, p: usize) -> Evaluated
+    requires { ⌜ (length (now b) ≤ 65536) × (used ≤ 32) × Holds string (bits (now b)) p ⌝ }
+    ensures { λ r. ⌜ ((s : Bytes) (ent : List ℕ) (t : ℕ) → ScopesStand s (now (b .entry)) ent list used t → Evaluates s (now (b .entry)) ent t (got (or-missing (local-at s (now (b .entry)) ent list used level (text-at (bits (now (b .entry))) p)))) r) ⌝ }
+{
+    let found = scope::local_value(b, list, used, level, p);
+    match found {
+        Param::Is(w) => Evaluated::Is(w),
+        Param::Nothing => Evaluated::Is(Value::Missing),
+    }
+}
+
+// What the path at the bit place p leads to.
+pub fn evaluate2(
+    s: &[u8],
+    tab: &[u64],
+    b: &[u8],
+    ent: &[u64],
+    list: [Scope; 32],
+    used: usize,
+    recursive: bool,
+    p: usize,
+) -> Evaluated
+    requires { ⌜ Accepted (now s) (now tab) × (length (now b) ≤ 65536) × (0 < used) × (used ≤ 32) × ((t : ℕ) × ScopesStand (now s) (now b) (now ent) list used t) × Holds path (bits (now b)) p ⌝ }
+    ensures { λ r. ⌜ ((g : Registry) (st : RenderContext) (t : ℕ) → g .plan ≡ json-at (now (s .entry)) 0 → g .options .recursive-lookup ≡ recursive → blocks st ≡ blocks-of (now (s .entry)) (now (b .entry)) (now (ent .entry)) list used → ScopesStand (now (s .entry)) (now (b .entry)) (now (ent .entry)) list used t → Evaluates (now (s .entry)) (now (b .entry)) (now (ent .entry)) t (evaluate2 g st (path-at (bits (now (b .entry))) p)) r) ⌝ }
+{
+    let path = parts::path_at(b, p);
+    match path {
+        Path::Relative(n, q) => navigate(s, tab, b, ent, list, used, q, n as usize, recursive),
+        Path::Local(level, q) => local_value(b, list, used, level as usize, q),
+    }
+}
