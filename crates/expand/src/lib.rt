@@ -1,0 +1,464 @@
+// render.rs: `Parameter`, `Helper::try_from_template` and `call_helper_for_value`. What a parameter stands for is worked out in the bundle, as it is called.
+// d is the number of depths left, a parameter's own included; s is the plan, ent holds the entries of open partials.
+ghost use mathlib.Core.Bool.{true, false};
+ghost use mathlib.Core.Path.{_≡_};
+ghost use mathlib.Core.List.{List};
+ghost use Prim.Native.Nat.{ℕ, _≤_, _<_};
+ghost use lib.ListN.{length};
+ghost use Rattle.rules.specs.Bits.{bits};
+ghost use Rattle.rules.specs.Layout.{_then_};
+ghost use Rattle.rules.specs.Bundle.{string, path, param, call-of};
+ghost use Rattle.rules.specs.Value.{render};
+ghost use Rattle.rules.specs.State.{RenderContext};
+ghost use Rattle.rules.specs.Registry.{Registry, get-helper, HelperDef.with, HelperDef.lookup};
+ghost use Rattle.rules.specs.Expand as rules;
+ghost use Rattle.layout.specs.Text.{text-at};
+ghost use Rattle.parts.specs.Holds.{Holds, row};
+ghost use Rattle.parts.specs.Says.{path-at};
+ghost use Rattle.calls.specs.Calls.{param-at, call-at, params-at, hash-at};
+ghost use Rattle.places.specs.Accepted.{Accepted};
+ghost use Rattle.meaning.specs.Forms.{Known};
+ghost use Rattle.meaning.specs.Means.{Means};
+ghost use Rattle.scope.specs.Standing.{ScopesStand};
+ghost use Rattle.context.specs.Evaluated.{present};
+ghost use Rattle.expand.specs.Answers.{Setting, Expands, Names, ExpandsAll, ExpandsHash, IsTemplate, ExpandedHeld, helper-of, written, in-scope, unless-strict, Calls, Finishes, joined, first-of, gathered, zero-or, GotKnown, Paired};
+use calls::Parameter;
+use context::Evaluated;
+use lookup::Found;
+use scope::Scope;
+use value::Value;
+
+pub struct Options {
+    pub strict: bool,
+    pub recursive_lookup: bool,
+    // guide truth (added)
+    pub guide_truth: bool,
+}
+
+// A value, or the paper's number of the refusal.
+pub enum Got {
+    Is(Value),
+    Bad(u8),
+}
+
+// What `Helper::try_from_template` works out.
+pub struct Expanded {
+    // the name is what this prints
+    pub name: Value,
+    // how many parameters, and the first two
+    pub count: usize,
+    pub first: Value,
+    pub second: Value,
+    // whether the hash value includeZero is the boolean true
+    pub zero: bool,
+    // 0, or the number of the refusal
+    pub bad: u8,
+}
+
+struct Params {
+    first: Value,
+    second: Value,
+    bad: u8,
+}
+
+struct Hash {
+    zero: bool,
+    bad: u8,
+}
+
+// Helpers, called for their value
+
+pub enum HelperDef {
+    Each,
+    With,
+    If,
+    Unless,
+    Lookup,
+    Unknown,
+}
+
+// The helper whose name a value prints.
+pub fn get_helper(s: &[u8], tab: &[u64], b: &[u8], v: Value) -> HelperDef
+    requires { ⌜ Accepted (now s) (now tab) × (length (now b) ≤ 65536) × Known (now s) (now b) v ⌝ }
+    ensures { λ r. ⌜ Means (now (s .entry)) (now (b .entry)) v (λ j. r ≡ helper-of (get-helper (render j))) ⌝ }
+{
+    if print::text_is(s, tab, b, v, b"each") {
+        return HelperDef::Each;
+    }
+    if print::text_is(s, tab, b, v, b"with") {
+        return HelperDef::With;
+    }
+    if print::text_is(s, tab, b, v, b"if") {
+        return HelperDef::If;
+    }
+    if print::text_is(s, tab, b, v, b"unless") {
+        return HelperDef::Unless;
+    }
+    if print::text_is(s, tab, b, v, b"lookup") {
+        return HelperDef::Lookup;
+    }
+    HelperDef::Unknown
+}
+
+// each, if and unless write nothing, for they have no bodies here.
+fn written(count: usize) -> Got
+    ensures { λ r. ⌜ r ≡ written count ⌝ }
+{
+    if count == 0 {
+        return Got::Bad(15);
+    }
+    Got::Is(Value::Empty)
+}
+
+fn unless_strict(strict: bool, v: Value) -> Got
+    ensures { λ r. ⌜ r ≡ unless-strict strict v ⌝ }
+{
+    if strict {
+        return Got::Bad(11);
+    }
+    Got::Is(v)
+}
+
+// What is found is not missing.
+fn present(v: Value) -> Value
+    ensures { λ r. ⌜ r ≡ present v ⌝ }
+{
+    match v {
+        Value::Missing => Value::Null,
+        w => w,
+    }
+}
+
+// Under one more scope, if there may be one.
+fn in_scope(used: usize) -> Got
+    ensures { λ r. ⌜ r ≡ in-scope used ⌝ }
+{
+    if used < 32 {
+        return Got::Is(Value::Empty);
+    }
+    Got::Bad(23)
+}
+
+fn with_value(s: &[u8], tab: &[u64], b: &[u8], used: usize, options: Options, w: Expanded) -> Got
+    requires { ⌜ Accepted (now s) (now tab) × (length (now b) ≤ 65536) × Known (now s) (now b) (w .first) ⌝ }
+    ensures { λ r. ⌜ ((ent : List ℕ) → Calls (now (s .entry)) (now (b .entry)) ent used options w (λ g st e. rules.call-helper-for-value g st with e) r) ⌝ }
+{
+    if w.count == 0 {
+        return Got::Bad(15);
+    }
+    let v = w.first;
+    if meaning::is_truthy(s, tab, b, v, false) {
+        return in_scope(used);
+    }
+    unless_strict(options.strict, Value::Empty)
+}
+
+fn lookup_value(
+    s: &[u8],
+    tab: &[u64],
+    b: &[u8],
+    ent: &[u64],
+    used: usize,
+    options: Options,
+    w: Expanded,
+) -> Got
+    requires { ⌜ Accepted (now s) (now tab) × (length (now b) ≤ 65536) × ExpandedHeld (now s) (now b) (now ent) w ⌝ }
+    ensures { λ r. ⌜ Calls (now (s .entry)) (now (b .entry)) (now (ent .entry)) used options w (λ g st e. rules.call-helper-for-value g st lookup e) r ⌝ }
+{
+    if w.count < 2 {
+        return Got::Bad(15);
+    }
+    let v = w.first;
+    let i = w.second;
+    let found = lookup::looked_up(s, tab, b, ent, v, i);
+    match found {
+        Found::Is(x) => Got::Is(present(x)),
+        Found::Nothing => unless_strict(options.strict, Value::Null),
+    }
+}
+
+// The value of the helper that w names.
+pub fn called(
+    s: &[u8],
+    tab: &[u64],
+    b: &[u8],
+    ent: &[u64],
+    used: usize,
+    options: Options,
+    w: Expanded,
+) -> Got
+    requires { ⌜ Accepted (now s) (now tab) × (length (now b) ≤ 65536) × ExpandedHeld (now s) (now b) (now ent) w ⌝ }
+    ensures { λ r. ⌜ Calls (now (s .entry)) (now (b .entry)) (now (ent .entry)) used options w (λ g st e. rules.called g st e) r ⌝ }
+{
+    let n = w.name;
+    let h = get_helper(s, tab, b, n);
+    match h {
+        HelperDef::Each => written(w.count),
+        HelperDef::With => with_value(s, tab, b, used, options, w),
+        HelperDef::If => written(w.count),
+        HelperDef::Unless => written(w.count),
+        HelperDef::Lookup => lookup_value(s, tab, b, ent, used, options, w),
+        HelperDef::Unknown => Got::Bad(14),
+    }
+}
+
+// The same where working it out may have been refused.
+fn finished(
+    s: &[u8],
+    tab: &[u64],
+    b: &[u8],
+    ent: &[u64],
+    used: usize,
+    options: Options,
+    w: Expanded,
+) -> Got
+    requires { ⌜ Accepted (now s) (now tab) × (length (now b) ≤ 65536) × (w .bad ≡ 0 → ExpandedHeld (now s) (now b) (now ent) w) ⌝ }
+    ensures { λ r. ⌜ Finishes (now (s .entry)) (now (b .entry)) (now (ent .entry)) used options w r ⌝ }
+{
+    if w.bad == 0 {
+        return called(s, tab, b, ent, used, options, w);
+    }
+    Got::Bad(w.bad)
+}
+
+// Parts of a call
+
+fn path_value(
+    s: &[u8],
+    tab: &[u64],
+    b: &[u8],
+    ent: &[u64],
+    list: [Scope; 32],
+    used: usize,
+    options: Options,
+    p: usize,
+) -> Got
+    requires { ⌜ Accepted (now s) (now tab) × (length (now b) ≤ 65536) × (0 < used) × (used ≤ 32) × ((t : ℕ) × ScopesStand (now s) (now b) (now ent) list used t) × Holds path (bits (now b)) p ⌝ }
+    ensures { λ r. ⌜ ((g : Registry) (st : RenderContext) (t : ℕ) → Setting (now (s .entry)) (now (b .entry)) (now (ent .entry)) list used options g st t → Expands (now (s .entry)) (now (b .entry)) (now (ent .entry)) t (rules.evaluate2 g st (path-at (bits (now (b .entry))) p)) r) ⌝ }
+{
+    let found = context::evaluate2(s, tab, b, ent, list, used, options.recursive_lookup, p);
+    match found {
+        Evaluated::Is(v) => Got::Is(v),
+        Evaluated::BadIndex => Got::Bad(20),
+    }
+}
+
+// A parameter's value in front of those behind it.
+fn joined(r: Got, rest: Params) -> Params
+    ensures { λ x. ⌜ x ≡ joined r rest ⌝ }
+{
+    match r {
+        Got::Is(v) => {
+            let w = rest.first;
+            Params {
+                first: v,
+                second: w,
+                bad: rest.bad,
+            }
+        }
+        Got::Bad(n) => Params {
+            first: Value::Missing,
+            second: Value::Missing,
+            bad: n,
+        },
+    }
+}
+
+// Whether includeZero is true: by the pair whose key stands at p and whose value is v, or else by the pairs behind it.
+fn zero_or(s: &[u8], tab: &[u64], b: &[u8], p: usize, v: Value, later: bool) -> bool
+    requires { ⌜ Accepted (now s) (now tab) × (length (now b) ≤ 65536) × (p ≤ 524288) × Known (now s) (now b) v ⌝ }
+    ensures { λ r. ⌜ Means (now (s .entry)) (now (b .entry)) v (λ j. r ≡ zero-or (text-at (bits (now (b .entry))) p) later j) ⌝ }
+{
+    if parts::text_is(b, p, b"includeZero") {
+        return meaning::as_bool(s, tab, b, v);
+    }
+    later
+}
+
+// A pair in front of those behind it.
+fn paired(s: &[u8], tab: &[u64], b: &[u8], p: usize, r: Got, rest: Hash) -> Hash
+    requires { ⌜ Accepted (now s) (now tab) × (length (now b) ≤ 65536) × (p ≤ 524288) × GotKnown (now s) (now b) r ⌝ }
+    ensures { λ x. ⌜ Paired (now (s .entry)) (now (b .entry)) p r rest x ⌝ }
+{
+    match r {
+        Got::Is(v) => Hash {
+            zero: zero_or(s, tab, b, p, v, rest.zero),
+            bad: rest.bad,
+        },
+        Got::Bad(n) => Hash {
+            zero: false,
+            bad: n,
+        },
+    }
+}
+
+// A name, the first of n parameters, and the hash.
+fn gathered(name: Got, n: u64, ps: Params, hs: Hash) -> Expanded
+    ensures { λ x. ⌜ x ≡ gathered name n ps hs ⌝ }
+{
+    match name {
+        Got::Is(v) => {
+            let first = ps.first;
+            let second = ps.second;
+            Expanded {
+                name: v,
+                count: n as usize,
+                first: first,
+                second: second,
+                zero: hs.zero,
+                bad: first_of(ps.bad, hs.bad),
+            }
+        }
+        Got::Bad(x) => Expanded {
+            name: Value::Missing,
+            count: 0,
+            first: Value::Missing,
+            second: Value::Missing,
+            zero: false,
+            bad: x,
+        },
+    }
+}
+
+fn first_of(x: u8, y: u8) -> u8
+    ensures { λ r. ⌜ r ≡ first-of x y ⌝ }
+{
+    if x == 0 {
+        return y;
+    }
+    x
+}
+
+// The cycle
+
+fn expand_all(
+    s: &[u8],
+    tab: &[u64],
+    b: &[u8],
+    ent: &[u64],
+    list: [Scope; 32],
+    used: usize,
+    options: Options,
+    p: usize,
+    n: u64,
+    d: usize,
+) -> Params
+    requires { ⌜ Accepted (now s) (now tab) × (length (now b) ≤ 65536) × (0 < used) × (used ≤ 32) × ((t : ℕ) × ScopesStand (now s) (now b) (now ent) list used t) × (n < 16) × Holds (row (param d) n) (bits (now b)) p ⌝ }
+    ensures { λ r. ⌜ ((g : Registry) (st : RenderContext) (t : ℕ) → Setting (now (s .entry)) (now (b .entry)) (now (ent .entry)) list used options g st t → ExpandsAll (now (s .entry)) (now (b .entry)) (now (ent .entry)) t n (rules.expand-all g st (params-at d n (bits (now (b .entry))) p)) r) ⌝ }
+{
+    if n == 0 {
+        return Params {
+            first: Value::Missing,
+            second: Value::Missing,
+            bad: 0,
+        };
+    }
+    let r = expand(s, tab, b, ent, list, used, options, p, d);
+    let next = calls::skip_param(b, p, d);
+    let rest = expand_all(s, tab, b, ent, list, used, options, next, n - 1, d);
+    joined(r, rest)
+}
+
+fn expand_hash(
+    s: &[u8],
+    tab: &[u64],
+    b: &[u8],
+    ent: &[u64],
+    list: [Scope; 32],
+    used: usize,
+    options: Options,
+    p: usize,
+    n: u64,
+    d: usize,
+) -> Hash
+    requires { ⌜ Accepted (now s) (now tab) × (length (now b) ≤ 65536) × (0 < used) × (used ≤ 32) × ((t : ℕ) × ScopesStand (now s) (now b) (now ent) list used t) × (n < 16) × Holds (row (string then param d) n) (bits (now b)) p ⌝ }
+    ensures { λ r. ⌜ ((g : Registry) (st : RenderContext) (t : ℕ) → Setting (now (s .entry)) (now (b .entry)) (now (ent .entry)) list used options g st t → ExpandsHash (rules.expand-hash g st (hash-at d n (bits (now (b .entry))) p)) r) ⌝ }
+{
+    if n == 0 {
+        return Hash {
+            zero: false,
+            bad: 0,
+        };
+    }
+    let q = parts::skip_string(b, p);
+    let r = expand(s, tab, b, ent, list, used, options, q, d);
+    let next = calls::skip_param(b, q, d);
+    let rest = expand_hash(s, tab, b, ent, list, used, options, next, n - 1, d);
+    paired(s, tab, b, p, r, rest)
+}
+
+// What the call at p works out.
+pub fn try_from_template(
+    s: &[u8],
+    tab: &[u64],
+    b: &[u8],
+    ent: &[u64],
+    list: [Scope; 32],
+    used: usize,
+    options: Options,
+    p: usize,
+    d: usize,
+) -> Expanded
+    requires { ⌜ Accepted (now s) (now tab) × (length (now b) ≤ 65536) × (0 < used) × (used ≤ 32) × ((t : ℕ) × ScopesStand (now s) (now b) (now ent) list used t) × Holds (call-of (param d)) (bits (now b)) p ⌝ }
+    ensures { λ r. ⌜ ((g : Registry) (st : RenderContext) (t : ℕ) → Setting (now (s .entry)) (now (b .entry)) (now (ent .entry)) list used options g st t → IsTemplate (now (s .entry)) (now (b .entry)) (now (ent .entry)) t (rules.try-from-template g st (call-at d (bits (now (b .entry))) p)) r) ⌝ }
+{
+    let c = calls::call_at(b, p, d);
+    let name = expand_as_name(s, tab, b, ent, list, used, options, p, d);
+    let ps = expand_all(s, tab, b, ent, list, used, options, c.param, c.params, d);
+    let hs = expand_hash(s, tab, b, ent, list, used, options, c.pair, c.pairs, d);
+    gathered(name, c.params, ps, hs)
+}
+
+// The value of the parameter at p.
+pub fn expand(
+    s: &[u8],
+    tab: &[u64],
+    b: &[u8],
+    ent: &[u64],
+    list: [Scope; 32],
+    used: usize,
+    options: Options,
+    p: usize,
+    d: usize,
+) -> Got
+    requires { ⌜ Accepted (now s) (now tab) × (length (now b) ≤ 65536) × (0 < used) × (used ≤ 32) × ((t : ℕ) × ScopesStand (now s) (now b) (now ent) list used t) × Holds (param d) (bits (now b)) p ⌝ }
+    ensures { λ r. ⌜ ((g : Registry) (st : RenderContext) (t : ℕ) → Setting (now (s .entry)) (now (b .entry)) (now (ent .entry)) list used options g st t → Expands (now (s .entry)) (now (b .entry)) (now (ent .entry)) t (rules.expand g st (param-at d (bits (now (b .entry))) p)) r) ⌝ }
+{
+    let x = calls::param_at(b, p);
+    match x {
+        Parameter::Name(_) => Got::Is(Value::Missing),
+        Parameter::Path(q) => path_value(s, tab, b, ent, list, used, options, q),
+        Parameter::Literal(q) => Got::Is(Value::Literal(q)),
+        Parameter::Subexpression(q) => {
+            let w = try_from_template(s, tab, b, ent, list, used, options, q, d - 1);
+            finished(s, tab, b, ent, used, options, w)
+        }
+    }
+}
+
+// The name that the parameter at p is: what the value prints.
+pub fn expand_as_name(
+    s: &[u8],
+    tab: &[u64],
+    b: &[u8],
+    ent: &[u64],
+    list: [Scope; 32],
+    used: usize,
+    options: Options,
+    p: usize,
+    d: usize,
+) -> Got
+    requires { ⌜ Accepted (now s) (now tab) × (length (now b) ≤ 65536) × (0 < used) × (used ≤ 32) × ((t : ℕ) × ScopesStand (now s) (now b) (now ent) list used t) × Holds (param d) (bits (now b)) p ⌝ }
+    ensures { λ r. ⌜ ((g : Registry) (st : RenderContext) (t : ℕ) → Setting (now (s .entry)) (now (b .entry)) (now (ent .entry)) list used options g st t → Names (now (s .entry)) (now (b .entry)) (now (ent .entry)) t (rules.expand-as-name g st (param-at d (bits (now (b .entry))) p)) r) ⌝ }
+{
+    let x = calls::param_at(b, p);
+    match x {
+        Parameter::Name(q) => Got::Is(Value::Text(q)),
+        Parameter::Path(q) => Got::Is(Value::Text(q)),
+        Parameter::Literal(q) => Got::Is(Value::Literal(q)),
+        Parameter::Subexpression(q) => {
+            let w = try_from_template(s, tab, b, ent, list, used, options, q, d - 1);
+            finished(s, tab, b, ent, used, options, w)
+        }
+    }
+}
