@@ -3,4 +3,4 @@ mod Leads
 mod Strings
 mod Bundled
 mod Numbers
-mod Counts
+pub mod Counts

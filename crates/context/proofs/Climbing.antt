@@ -25,7 +25,7 @@ use Rattle.parts.specs.HoldsLaws.{none-left-value}
 use Rattle.parts.specs.Says.{segment-at, segments-at, segment-says}
 use Rattle.places.specs.Accepted.{Accepted}
 use Rattle.places.specs.Places.{places, json-at, path-at, live-at}
-use Rattle.places.specs.Children.{Child}
+use Rattle.places.specs.Children.{Child, around, around-is}
 use Rattle.places.specs.Members.{live-parent}
 use Rattle.value.proofs.Value.{the-type as value-type}
 use Rattle.value.specs.declared.Value.{Value}
@@ -76,14 +76,15 @@ module _ (s b : Bytes) (ent tab : List ℕ) (acc : Accepted s tab) where
         ∙ looked-root s (acc .answers) (subst (λ (z : ℕ). z < places s) e (C .within)) (subst (λ (z : ℕ). live-at s z ≡ true) e (C .live)) n
         (subst (λ (z : ℕ). or-nothing (get-data (some (json-at s z)) n) ≡ none) e (nothing-there r k x))
 
-    pub climb-up : (r : Got) → OneOf (1 ∷ 2 ∷ []) (tagOf got-type r) → DataGot s b ent (Context at) n r → (p j : ℕ) → p < at → Child s p j at → Climbs s i n p
-    climb-up r k x p j lt q =
-        let u : p < places s = omega (arith, C .within) in
-        record {
+    pub climb-up : (r : Got) → OneOf (1 ∷ 2 ∷ []) (tagOf got-type r) → DataGot s b ent (Context at) n r → 0 < at → (p : ℕ) → p ≡ around s at → Climbs s i n p
+    climb-up r k x pos p e =
+        let a = around-is s at (acc .answers) pos (C .within) in
+        let u : around s at < places s = omega (arith, a .before, C .within) in
+        rw e (record {
           within = u;
-          live = live-parent s (acc .answers) p u j at q (C .live);
-          same = C .same ∙ looked-up s (acc .answers) at (C .within) (C .live) n p j q (nothing-there r k x);
-        }
+          live = live-parent s (acc .answers) (around s at) u (a .number) at (a .child) (C .live);
+          same = C .same ∙ looked-up s (acc .answers) at (C .within) (C .live) n (around s at) (a .number) (a .child) (nothing-there r k x);
+        })
 
   -- A lone name
 

@@ -1,4 +1,4 @@
-mod Walking
+pub mod Walking
 mod Starting
 mod Climbing
 mod Evaluating

@@ -1,2 +1,2 @@
-mod Calling
-mod Parts
+pub mod Calling
+pub mod Parts

@@ -202,6 +202,12 @@ some-setting s b ent l (suc n) o lt h = record {
   };
 }
 
+pub some-used : (s b : Bytes) (ent : List ℕ) (l : List Scope) (used : ℕ) (o : Options) (lt : 0 < used) (h : (t : ℕ) × ScopesStand s b ent l used t)
+    → some-setting s b ent l used o lt h .t ≡ h .0
+unfolding some-setting
+some-used s b ent l zero o lt h = absurd (omega arith)
+some-used s b ent l (suc n) o lt h = refl
+
 -- Rows, one by one
 
 module _ {A : Type 0} (c : Layout A) (n : ℕ) (b : Bits) (p : ℕ) (z : n ≡ 0 → ⊥) (H : Holds (row c n) b p) where

@@ -125,7 +125,7 @@ insert-few k v (mcons n j l) = go (same k n) (before k n) (insert-few k v l)
     go false true h = omega arith
     go false false h = omega arith
 
-members-few : (s : Bytes) (l : Trees) (n : ℕ) (acc : Map) → count (members-onto s acc l) ≤ count acc + length (children-from n l)
+pub members-few : (s : Bytes) (l : Trees) (n : ℕ) (acc : Map) → count (members-onto s acc l) ≤ count acc + length (children-from n l)
 members-few s tree-nil n acc = omega arith
 members-few s (tree-cons t l) n acc =
     let p = members-few s l (n + size t) (insert (saying s (name-of t)) (meaning s t) acc) in

@@ -152,7 +152,8 @@ pub fn write(out: &mut [u8], w: Writer, v: &[u8]) -> Writer
     fill(advance(w, n), n, v.len())
 }
 
-fn copy_packed(out: &mut [u8], at: usize, s: &[u8], p: usize, n: usize)
+// The n bytes of a packed string that starts at the bit p, stored from a place on.
+pub fn copy_packed(out: &mut [u8], at: usize, s: &[u8], p: usize, n: usize)
     requires { ⌜ (n ≤ length (now out) - at) × (p + 8 * n < 2 ^ 64) ⌝ }
     ensures { λ _. ⌜ now (out .exit) ≡ sets (now (out .entry)) at (bytes-at (bits (now (s .entry))) p n) ⌝ }
 {
@@ -163,7 +164,7 @@ fn copy_packed(out: &mut [u8], at: usize, s: &[u8], p: usize, n: usize)
     }
 }
 
-// The same for the n bytes of a packed string that starts at the bit p. (Strings lie within a bundle, so the sum fits.)
+// The same as `write` for the n bytes of a packed string that starts at the bit p. (Strings lie within a bundle, so the sum fits.)
 pub fn write_packed(out: &mut [u8], w: Writer, s: &[u8], p: usize, n: usize) -> Writer
     requires { ⌜ p + 8 * n < 2 ^ 64 ⌝ }
     ensures { λ r. ⌜ output r (now (out .exit)) ≡ all-put (bytes-at (bits (now (s .entry))) p n) (output w (now (out .entry))) ⌝ }

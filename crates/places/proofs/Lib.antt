@@ -1,5 +1,5 @@
 mod Fields
 mod Scalars
-mod Ordered
+pub mod Ordered
 mod Walking
 mod Counting

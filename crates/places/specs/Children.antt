@@ -8,13 +8,13 @@ use native.Mathlib.Nat.{add-zero, zero-add}
 use native.Mathlib.Numerals.{add-one}
 use native.Mathlib.Omega.{arith}
 use lib.Dec.{eqb, ltb}
-use borrow.Author.Tests.{eqb-true, eqb-false, ltb-true, ltb-false}
+use borrow.Author.Tests.{eqb-true, eqb-false, ltb-true, ltb-false, lt-ltb, le-ltb}
 use lib.ListN.{length, drop, getElem?}
-use Rattle.rules.specs.Bytes.{Bytes, byte-at}
+use Rattle.rules.specs.Bytes.{Bytes, pick, byte-at}
 use Rattle.rules.specs.Tree.{Tree, tree, Trees, tree-nil, tree-cons}
 use Rattle.rules.specs.Plan.{size, sizes, name-of, answer}
 use Rattle.places.specs.Places.{start-of, inside, Node, key, replaced, root, places, all-nodes, node-at, tree-at, path-at, live-at, children-from, children}
-use Rattle.places.specs.Nodes.{size-positive, some-places, root-node, Stands, StandsAll, stands-inside, stands-first, stands-others, At, node-is, stands-within, to-at, stands-at}
+use Rattle.places.specs.Nodes.{size-positive, some-places, root-node, Stands, StandsAll, stands-inside, stands-first, stands-others, nested, At, node-is, stands-within, to-at, stands-at}
 
 abbrev pub is-object : Bytes → ℕ → Bool
 is-object s i = eqb (byte-at s (start-of (tree-at s i))) 123
@@ -27,12 +27,26 @@ key-at s i j c = key s (is-object s i) j (tree-at s c)
 abbrev pub end-at : Bytes → ℕ → ℕ
 end-at s i = i + size (tree-at s i)
 
+-- the value behind the one at c, as long as the one at i goes on
+unfoldable pub behind : Bytes → ℕ → ℕ → Option ℕ
+behind s i c = pick (ltb (end-at s c) (end-at s i)) (some (end-at s c)) none
+
+-- the last place before n that goes on past c, 0 for none
+unfoldable pub around-below : Bytes → ℕ → ℕ → ℕ
+around-below s c zero = 0
+around-below s c (suc n) = let r = around-below s c n in pick (ltb c (end-at s n)) n r
+
+-- the place that the value at c stands directly inside
+unfoldable pub around : Bytes → ℕ → ℕ
+around s c = around-below s c c
+
 -- j of those inside i are passed, and the rest, l, stand from c on
 pub record Left (s : Bytes) (i j c : ℕ) (l : Trees) : Type 0 where
   pub stands : StandsAll s (all-nodes s) c (path-at s i) (live-at s i) (is-object s i) j l
   pub ends : end-at s i ≡ c + sizes l
   pub are : drop j (children s i) ≡ children-from c l
   pub on : i + 1 + j ≤ c
+  pub passed : (k : ℕ) → i < k → k < c → end-at s k ≤ c
 
 pub record Walk (s : Bytes) (i j c : ℕ) : Type 0 where
   pub trees : Trees
@@ -45,6 +59,7 @@ pub record Child (s : Bytes) (i j c : ℕ) : Type 0 where
   pub within : c < places s
   pub behind : i + 1 + j ≤ c
   pub fits : end-at s c ≤ end-at s i
+  pub passed : (k : ℕ) → i < k → k < c → end-at s k ≤ c
   pub path : path-at s c ≡ path-at s i ++ (key-at s i j c ∷ [])
 
 pub none-some : {A C : Type 0} {a : A} → none ≡ some a → C
@@ -76,7 +91,7 @@ module _ (s : Bytes) (i : ℕ) where
   pub walk-start : answer s ≡ 0 → i < places s → Walk s i 0 (i + 1)
   unfolding children
   walk-start h lt =
-      record { trees = inside (tree-at s i); left = record { stands = inside-stands h lt; ends = ends (tree-at s i); are = refl; on = omega arith } }
+      record { trees = inside (tree-at s i); left = record { stands = inside-stands h lt; ends = ends (tree-at s i); are = refl; on = omega arith; passed = λ k a b. absurd (omega arith) } }
     where
       ends : (t : Tree) → i + size t ≡ i + 1 + sizes (inside t)
       ends (tree b m l) = omega arith
@@ -96,6 +111,7 @@ module _ (s : Bytes) (i : ℕ) where
         within = omega (arith, stands-within s c _ _ t first-stands, size-positive t);
         behind = q .on;
         fits = omega (arith, q .ends, ap (λ (x : Node). size (x .tree)) left-node);
+        passed = q .passed;
         path =
             ap (λ (x : Node). x .path) left-node
             ∙ ap (λ (x : Tree). path-at s i ++ (key s (is-object s i) j x ∷ [])) (sym (ap (λ (x : Node). x .tree) left-node));
@@ -107,7 +123,12 @@ module _ (s : Bytes) (i : ℕ) where
         ends = omega (arith, q .ends);
         are = drop-tail (children s i) j c _ (q .are);
         on = omega (arith, q .on, size-positive t);
+        passed = λ k a b. go k a b (ltb k c) refl;
       }
+        where
+          go : (k : ℕ) → i < k → k < c + size t → (x : Bool) → ltb k c ≡ x → end-at s k ≤ c + size t
+          go k a b true e = omega (arith, q .passed k a (ltb-true k c e))
+          go k a b false e = nested s c _ _ t first-stands k (ltb-false k c e) b
 
     pub walk-child : Walk s i j c → c < end-at s i → Child s i j c
     walk-child w lt = go (w .trees) (w .left)
@@ -185,3 +206,36 @@ module _ (s : Bytes) (h : answer s ≡ 0) (c : ℕ) where
   pub inner : 0 < c → c < places s → Inner s c
   unfolding places
   inner pos lt = find-up (suc c) 0 0 1 (omega arith) (walk-start s 0 h (some-places s)) (omega arith) (omega (arith, ap (λ (x : Node). size (x .tree)) (root-node s)))
+
+-- It is the last one before it that goes on past it
+
+module _ (s : Bytes) (i j c : ℕ) (q : Child s i j c) where
+  past : c < end-at s i
+  past = omega (arith, q .fits, size-positive (tree-at s c))
+
+  around-up : (n : ℕ) → i < n → n ≤ c → around-below s c n ≡ i
+  unfolding around-below
+  around-up zero a b = absurd (omega arith)
+  around-up (suc n) a b = go (eqb i n) refl (λ x. around-up n x (omega arith))
+    where
+      go : (x : Bool) → eqb i n ≡ x → (i < n → around-below s c n ≡ i) → pick (ltb c (end-at s n)) n (around-below s c n) ≡ i
+      go true e f = let z = eqb-true i n e in rw (← z, lt-ltb c (end-at s i) past)
+      go false e f =
+          let z = eqb-false i n e in
+          let lt : i < n = omega arith in
+          rw (le-ltb c (end-at s n) (q .passed n lt (omega arith))) (f lt)
+
+  pub child-around : i ≡ around s c
+  unfolding around
+  child-around = sym (around-up c (omega (arith, q .behind)) (omega arith))
+
+pub record Around (s : Bytes) (c : ℕ) : Type 0 where
+  pub number : ℕ
+  pub child : Child s (around s c) number c
+  pub before : around s c < c
+
+pub around-is : (s : Bytes) (c : ℕ) → answer s ≡ 0 → 0 < c → c < places s → Around s c
+around-is s c h pos lt =
+    let n = inner s h c pos lt in
+    let e = child-around s (n .up) (n .number) c (n .child) in
+    record { number = n .number; child = subst (λ (i : ℕ). Child s i (n .number) c) e (n .child); before = omega (arith, n .child .behind) }

@@ -171,6 +171,31 @@ module _ (s : Bytes) where
   pub to-at : (n : ℕ) (p : List Bytes) (a : Bool) (t : Tree) → Stands s (all-nodes s) n p a t → At s n
   to-at n p a t h = subst (λ (x : Node). Stands s (all-nodes s) n (x .path) (x .live) (x .tree)) (sym (node-is n p a t h)) h
 
+-- what starts inside a value ends inside it
+mutual
+  pub nested : (s : Bytes) (n : ℕ) (p : List Bytes) (a : Bool) (t : Tree) → Stands s (all-nodes s) n p a t → (k : ℕ) → n ≤ k → k < n + size t → k + size (tree-at s k) ≤ n + size t
+  nested s n p a (tree i m l) h k le lt =
+      go (ltb n k) refl (λ x. nested-all s (n + 1) p a (eqb (byte-at s i) 123) 0 l (stands-inside s (all-nodes s) n p a i m l h) k x (omega arith))
+    where
+      go : (x : Bool) → ltb n k ≡ x → (n + 1 ≤ k → k + size (tree-at s k) ≤ n + 1 + sizes l) → k + size (tree-at s k) ≤ n + size (tree i m l)
+      go true e f = let z = ltb-true n k e in omega (arith, f (omega arith))
+      go false e f =
+          let z : n ≡ k = omega (arith, ltb-false n k e) in
+          rw (← z) (omega (arith, ap (λ (x : Node). size (x .tree)) (node-is s n p a (tree i m l) h)))
+
+  nested-all : (s : Bytes) (n : ℕ) (p : List Bytes) (a named : Bool) (j : ℕ) (l : Trees) → StandsAll s (all-nodes s) n p a named j l → (k : ℕ) → n ≤ k → k < n + sizes l
+      → k + size (tree-at s k) ≤ n + sizes l
+  nested-all s n p a named j tree-nil h k le lt = absurd (omega arith)
+  nested-all s n p a named j (tree-cons t l) h k le lt =
+      go (ltb k (n + size t)) refl
+      (λ x. nested s n _ _ t (stands-first s (all-nodes s) n p a named j t l h) k le x)
+      (λ x. nested-all s (n + size t) p a named (suc j) l (stands-others s (all-nodes s) n p a named j t l h) k x (omega arith))
+    where
+      go : (x : Bool) → ltb k (n + size t) ≡ x → (k < n + size t → k + size (tree-at s k) ≤ n + size t) → (n + size t ≤ k → k + size (tree-at s k) ≤ n + size t + sizes l)
+          → k + size (tree-at s k) ≤ n + sizes (tree-cons t l)
+      go true e f g = omega (arith, f (ltb-true k (n + size t) e))
+      go false e f g = omega (arith, g (ltb-false k (n + size t) e))
+
 module _ (s : Bytes) (h : answer s ≡ 0) where
   pub root-is : root s ≡ plan-read s h .tree
   unfolding root

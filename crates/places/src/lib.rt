@@ -13,7 +13,7 @@ ghost use Rattle.saying.specs.Compared.{name-bytes, NameFits};
 ghost use Rattle.places.specs.Places.{start-of, places, tree-at, json-at, name-at, children, member, above, better, next-member};
 ghost use Rattle.places.specs.Kinds.{found, found-name, FoundIn, kind-of, kind-by, is-other, magnitude-of, members-of, is-empty};
 ghost use Rattle.places.specs.Accepted.{Accepted};
-ghost use Rattle.places.specs.Children.{end-at, Child};
+ghost use Rattle.places.specs.Children.{end-at, behind, around};
 use saying::Name;
 use saying::Ordering;
 
@@ -112,10 +112,10 @@ pub fn first(s: &[u8], tab: &[u64], i: usize) -> Found
     Found::Nothing
 }
 
-// The value behind the one at c; both stand directly inside the one at i.
+// The value behind the one at c; where that one stands directly inside the one at i, the next one there.
 pub fn next(s: &[u8], tab: &[u64], i: usize, c: usize) -> Found
     requires { ⌜ Accepted (now s) (now tab) × (i < places (now s)) × (c < places (now s)) ⌝ }
-    ensures { λ r. ⌜ ((j : ℕ) → getElem? (children (now (s .entry)) i) j ≡ some c → found r ≡ getElem? (children (now (s .entry)) i) (suc j)) ⌝ }
+    ensures { λ r. ⌜ ((j : ℕ) → getElem? (children (now (s .entry)) i) j ≡ some c → found r ≡ getElem? (children (now (s .entry)) i) (suc j)) × (found r ≡ behind (now (s .entry)) i c) ⌝ }
 {
     let n = end(s, tab, c);
     if n < end(s, tab, i) {
@@ -258,7 +258,7 @@ pub fn members(s: &[u8], tab: &[u64], i: usize) -> usize
 // The place that the value at c stands directly inside.
 pub fn parent(s: &[u8], tab: &[u64], c: usize) -> usize
     requires { ⌜ Accepted (now s) (now tab) × (0 < c) × (c < places (now s)) ⌝ }
-    ensures { λ r. ⌜ (r < c) × ((j : ℕ) × Child (now (s .entry)) r j c) ⌝ }
+    ensures { λ r. ⌜ r ≡ around (now (s .entry)) c ⌝ }
 {
     let mut i: usize = 0;
     let mut d: usize = 1;

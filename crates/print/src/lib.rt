@@ -1,10 +1,13 @@
 // json/value.rs: `render`. What a value prints is fed to a writer as it stands, or compared, and never made up first.
 ghost use mathlib.Core.Path.{_≡_};
-ghost use Prim.Native.Nat.{_≤_, _<_};
-ghost use lib.ListN.{length};
+ghost use Prim.Native.Nat.{_+_, _-_, _*_, _≤_, _<_};
+ghost use lib.ListN.{length, take, drop};
 ghost use Rattle.rules.specs.Bytes.{same};
 ghost use Rattle.rules.specs.Json.{jbool};
 ghost use Rattle.rules.specs.Value.{render};
+ghost use Rattle.rules.specs.Bits.{bits};
+ghost use Rattle.bits.specs.Packed.{bytes-at};
+ghost use Rattle.saying.specs.Said.{remaining, Inside};
 ghost use Rattle.output.specs.Writer.{output};
 ghost use Rattle.places.specs.Accepted.{Accepted};
 ghost use Rattle.places.specs.Places.{places, json-at};
@@ -22,7 +25,8 @@ use text::Step;
 use text::Text;
 use value::Value;
 
-fn write_text(
+// Byte by byte.
+fn write_steps(
     out: &mut [u8],
     indent: &[u8],
     w: Writer,
@@ -42,6 +46,90 @@ fn write_text(
         };
         q = support::feed_escaped(out, indent, q, c, escape);
         u = v;
+    }
+}
+
+// The bytes of the plan from i up to e.
+fn write_part(
+    out: &mut [u8],
+    indent: &[u8],
+    w: Writer,
+    s: &[u8],
+    i: usize,
+    e: usize,
+    escape: bool,
+) -> Writer
+    requires { ⌜ (i < e → e ≤ length (now s)) ⌝ }
+    ensures { λ r. ⌜ output r (now (out .exit)) ≡ printed (now (indent .entry)) escape (take (e - i) (drop i (now (s .entry)))) (output w (now (out .entry))) ⌝ }
+{
+    if i < e {
+        return support::feed_bytes(out, indent, w, &s[i..e], escape);
+    }
+    w
+}
+
+// What a string of the plan says from a place on: what stands for itself at once, escapes byte by byte.
+fn write_said(
+    out: &mut [u8],
+    indent: &[u8],
+    w: Writer,
+    s: &[u8],
+    at: usize,
+    k: usize,
+    escape: bool,
+) -> Writer
+    requires { ⌜ (length (now s) ≤ 65536) × Inside (now s) at k ⌝ }
+    ensures { λ r. ⌜ output r (now (out .exit)) ≡ printed (now (indent .entry)) escape (remaining (now (s .entry)) at k) (output w (now (out .entry))) ⌝ }
+{
+    let mut q = w;
+    let mut i = at;
+    let mut j = k;
+    loop {
+        let e = saying::own_end(s, i);
+        q = write_part(out, indent, q, s, i, e, escape);
+        let saying::Step::Byte(c, p) = saying::next_byte(s, e, j) else {
+            return q;
+        };
+        q = support::feed_escaped(out, indent, q, c, escape);
+        i = p.at;
+        j = p.k;
+    }
+}
+
+fn write_packed(
+    out: &mut [u8],
+    indent: &[u8],
+    w: Writer,
+    b: &[u8],
+    p: usize,
+    n: usize,
+    escape: bool,
+) -> Writer
+    requires { ⌜ p + 8 * n < 18446744073709551616 ⌝ }
+    ensures { λ r. ⌜ output r (now (out .exit)) ≡ printed (now (indent .entry)) escape (bytes-at (bits (now (b .entry))) p n) (output w (now (out .entry))) ⌝ }
+{
+    if escape {
+        return support::feed_packed_escaped(out, indent, w, b, p, n);
+    }
+    support::feed_packed(out, indent, w, b, p, n)
+}
+
+fn write_text(
+    out: &mut [u8],
+    indent: &[u8],
+    w: Writer,
+    s: &[u8],
+    b: &[u8],
+    t: Text,
+    escape: bool,
+) -> Writer
+    requires { ⌜ (length (now s) ≤ 65536) × Stands (now s) (now b) t ⌝ }
+    ensures { λ r. ⌜ output r (now (out .exit)) ≡ printed (now (indent .entry)) escape (rest (now (s .entry)) (now (b .entry)) t) (output w (now (out .entry))) ⌝ }
+{
+    match t {
+        Text::Said(at, k) => write_said(out, indent, w, s, at, k, escape),
+        Text::Packed(p, n) => write_packed(out, indent, w, b, p, n, escape),
+        u => write_steps(out, indent, w, s, b, u, escape),
     }
 }
 

@@ -1,13 +1,14 @@
 // The templates of an accepted bundle. The first stands at bit 16, behind the version and the count.
 ghost use mathlib.Core.Path.{_≡_};
 ghost use Prim.Native.Nat.{_≤_, _<_};
-ghost use lib.ListN.{length};
+ghost use lib.ListN.{length, getD};
 ghost use Rattle.rules.specs.Bits.{bits};
 ghost use Rattle.rules.specs.Layout.{field};
-ghost use Rattle.rules.specs.Bundle.{body, templates, find-template};
+ghost use Rattle.rules.specs.Bundle.{string, body, templates, find-template};
 ghost use Rattle.layout.specs.Text.{text-at};
 ghost use Rattle.parts.specs.Holds.{Holds};
 ghost use Rattle.registry.specs.Templates.{templates-at, place-of, template-view, found-view};
+ghost use Rattle.registry.specs.Index.{Indexed};
 
 // How many templates a bundle has, 1 to 64.
 pub fn template_count(b: &[u8]) -> usize
@@ -36,6 +37,34 @@ pub fn template_at(b: &[u8], w: usize, k: usize) -> Template
     Template {
         name: cur,
         body: parts::skip_string(b, cur),
+    }
+}
+
+// Fills in the place of each template, and zeroes the rest.
+pub fn index(b: &[u8], w: usize, places: &mut [u32])
+    requires { ⌜ (length (now b) ≤ 65536) × Holds (templates w) (bits (now b)) 8 × (field (bits (now b)) 8 8 ≤ length (now places)) ⌝ }
+    ensures { λ _. ⌜ (length (now (places .exit)) ≡ length (now (places .entry))) × Indexed (body w 16) (bits (now (b .entry))) (field (bits (now (b .entry))) 8 8) (now (places .exit)) ⌝ }
+{
+    clear::clear_u32(places);
+    let n = template_count(b);
+    let mut cur: usize = 16;
+    let mut i: usize = 0;
+    while i < n {
+        places[i] = cur as u32;
+        cur = template::skip_body(b, parts::skip_string(b, cur), w, 16);
+        i += 1;
+    }
+}
+
+// The template number k, by its place.
+pub fn indexed_at(b: &[u8], places: &[u32], k: usize) -> Template
+    requires { ⌜ (length (now b) ≤ 65536) × (k < length (now places)) × Holds string (bits (now b)) (getD (now places) k 0) ⌝ }
+    ensures { λ r. ⌜ r ≡ template-view (bits (now (b .entry))) (getD (now (places .entry)) k 0) ⌝ }
+{
+    let p = places[k] as usize;
+    Template {
+        name: p,
+        body: parts::skip_string(b, p),
     }
 }
 

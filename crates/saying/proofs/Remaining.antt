@@ -1,19 +1,21 @@
 -- The bytes of a string, one by one: what is left at a place.
-use mathlib.Core.Bool.{Bool, true, false}
+use mathlib.Core.Bool.{Bool, true, false, _&&_, not}
 use mathlib.Core.List.{[], _∷_, _++_}
-use mathlib.Core.Path.{_≡_, refl, sym, ap, _∙_}
+use mathlib.Core.Path.{_≡_, refl, sym, ap, _∙_, subst}
 use Prim.Native.Nat.{ℕ, zero, suc, _+_, _≤_, _<_}
 use native.Mathlib.Numerals.{add-one}
 use native.Mathlib.Omega.{arith}
-use lib.Dec.{eqb, ltb}
-use lib.ListN.{length, getD, drop, length-append, List·getD-eq-default, List·getD-append}
+use lib.Dec.{eqb, ltb, leb}
+use lib.ListN.{length, getD, take, drop, length-append, List·getD-eq-default, List·getD-append}
 use lib.Seq.{drop-cons, drop-nil, drop-at}
-use borrow.Author.Tests.{eq-eqb, ne-eqb, eqb-false, le-ltb, lt-ltb}
-use Rattle.rules.specs.Bytes.{Bytes, pick, byte-at}
+use borrow.Author.Tests.{eq-eqb, ne-eqb, eqb-false, le-ltb, lt-ltb, ltb-true, ltb-false, leb-true}
+use Rattle.rules.specs.Bytes.{Bytes, pick, run, byte-at}
+use Rattle.rules.specs.Order.{differ}
 use Rattle.rules.specs.Scan.{encoded, code-point, escaped-byte, escape-length, step-length, says, saying-from}
 use Rattle.scan.proofs.Bounds.{by-cases, in-text}
+use Rattle.scan.proofs.Runs.{run-on, run-off, run-end}
 use Rattle.strings.proofs.Lengths.{Short, escape-most}
-use Rattle.saying.specs.Said.{remaining, Inside}
+use Rattle.saying.specs.Said.{remaining, Inside, is-own, own-end}
 
 -- something is said everywhere
 record Some (l : Bytes) : Type 0 where
@@ -164,3 +166,60 @@ pub inside-behind : (s : Bytes) (i : ℕ) → (step-length s i ≡ 0 → ⊥) �
 inside-behind s i n ls =
     let l = step-in s i n in
     inside-start s (i + step-length s i) (omega (arith, step-most s i .most))
+
+-- Bytes that stand for themselves
+
+own-by : (a b c : Bool) → a && (not b && not c) ≡ true → (a ≡ true) × (b ≡ false) × (c ≡ false)
+own-by true false false h = (refl, refl, refl)
+own-by true false true h = differ (sym h)
+own-by true true c h = differ (sym h)
+own-by false b c h = differ (sym h)
+
+module _ (s : Bytes) where
+  -- one
+  own-step : (i k : ℕ) → is-own (byte-at s i) ≡ true → Inside s i k → remaining s i k ≡ byte-at s i ∷ remaining s (i + 1) 0
+  own-step i k h q =
+      let o = own-by (leb 32 (byte-at s i)) (eqb (byte-at s i) 34) (eqb (byte-at s i) 92) h in
+      left-plain-at s i (leb-true 32 (byte-at s i) (o .0)) (eqb-false (byte-at s i) 34 (o .1)) (eqb-false (byte-at s i) 92 (o .2)) k (q .here)
+
+  -- a run of them
+  pub record OwnRun (i k : ℕ) : Type 0 where
+    pub is : remaining s i k ≡ take (run is-own (drop i s)) (drop i s) ++ remaining s (own-end s i) k
+    pub inside : Inside s (own-end s i) k
+
+  own-none : (i k : ℕ) → run is-own (drop i s) ≡ 0 → Inside s i k → OwnRun i k
+  own-none i k e q = let x : i + 0 ≡ i = omega arith in record { is = rw (e, x); inside = rw (e, x) q }
+
+  own-more : (i k : ℕ) → i < length s → is-own (byte-at s i) ≡ true → Inside s i k → OwnRun (i + 1) 0 → OwnRun i k
+  own-more i k lt h q r =
+      let d : drop i s ≡ byte-at s i ∷ drop (i + 1) s = drop-cons s i 0 lt ∙ ap (λ (n : ℕ). byte-at s i ∷ drop n s) (sym (add-one i)) in
+      let e : own-end s i ≡ own-end s (i + 1) = run-on is-own s i lt h in
+      let n : run is-own (drop i s) ≡ suc (run is-own (drop (i + 1) s)) = omega arith in
+      let z : k ≡ 0 = own-zero i k h q in
+      record {
+        is =
+            own-step i k h q ∙ ap (λ (l : Bytes). byte-at s i ∷ l) (r .is)
+            ∙ ap (λ (j : ℕ). byte-at s i ∷ (take (run is-own (drop (i + 1) s)) (drop (i + 1) s) ++ remaining s j 0)) (sym e)
+            ∙ ap (λ (j : ℕ). byte-at s i ∷ (take (run is-own (drop (i + 1) s)) (drop (i + 1) s) ++ remaining s (own-end s i) j)) (sym z)
+            ∙ ap (λ (l : Bytes). take (suc (run is-own (drop (i + 1) s))) l ++ remaining s (own-end s i) k) (sym d)
+            ∙ ap (λ (m : ℕ). take m (drop i s) ++ remaining s (own-end s i) k) (sym n);
+        inside = subst (λ (j : ℕ). Inside s j k) (sym e) (subst (Inside s (own-end s (i + 1))) (sym z) (r .inside));
+      }
+    where
+      own-zero : (i k : ℕ) → is-own (byte-at s i) ≡ true → Inside s i k → k ≡ 0
+      own-zero i k h q =
+          let o = own-by (leb 32 (byte-at s i)) (eqb (byte-at s i) 34) (eqb (byte-at s i) 92) h in
+          omega (arith, q .here, ap length (says-plain s i (eqb-false (byte-at s i) 92 (o .2))))
+
+  own-from : (f i k : ℕ) → length s ≤ f + i → length s ≤ 65536 → Inside s i k → OwnRun i k
+  own-from zero i k le ls q = own-none i k (let e = run-end is-own s i (omega arith) in omega arith) q
+  own-from (suc f) i k le ls q =
+      go (ltb i (length s)) refl (is-own (byte-at s i)) refl (λ lt. own-from f (i + 1) 0 (omega arith) ls (inside-start s (i + 1) (omega arith)))
+    where
+      go : (a : Bool) → ltb i (length s) ≡ a → (b : Bool) → is-own (byte-at s i) ≡ b → (i < length s → OwnRun (i + 1) 0) → OwnRun i k
+      go false x b y r = own-none i k (let e = run-end is-own s i (ltb-false i (length s) x) in omega arith) q
+      go true x true y r = let lt = ltb-true i (length s) x in own-more i k lt y q (r lt)
+      go true x false y r = own-none i k (let e = run-off is-own s i (ltb-true i (length s) x) y in omega arith) q
+
+  pub own-run : (i k : ℕ) → length s ≤ 65536 → Inside s i k → OwnRun i k
+  own-run i k ls q = own-from (length s) i k (omega arith) ls q

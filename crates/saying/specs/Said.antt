@@ -1,9 +1,11 @@
 -- The bytes of a string that are left from a place on.
-use Prim.Native.Nat.{ℕ, suc, _≤_, _<_}
+use Prim.Native.Nat.{ℕ, suc, _+_, _≤_, _<_}
+use mathlib.Core.Bool.{Bool, _&&_, not}
 use mathlib.Core.List.{[], _∷_}
 use mathlib.Core.Path.{_≡_}
+use lib.Dec.{eqb, leb}
 use lib.ListN.{length, drop}
-use Rattle.rules.specs.Bytes.{Bytes}
+use Rattle.rules.specs.Bytes.{Bytes, run}
 use Rattle.rules.specs.Scan.{says, saying-from}
 use Rattle.saying.specs.declared.Step.{Step}
 use Rattle.saying.specs.declared.Step.the-variants.{Byte, End}
@@ -21,3 +23,11 @@ pub record Inside (s : Bytes) (i k : ℕ) : Type 0 where
 abbrev pub Stepped : Bytes → Bytes → Step → Type 0
 Stepped s l (Byte b c) = (l ≡ b ∷ remaining s (c .at) (c .k)) × Inside s (c .at) (c .k)
 Stepped s l End = l ≡ []
+
+-- a byte that stands for itself
+abbrev pub is-own : ℕ → Bool
+is-own c = leb 32 c && (not (eqb c 34) && not (eqb c 92))
+
+-- the first place from i on that has no such byte
+abbrev pub own-end : Bytes → ℕ → ℕ
+own-end s i = i + run is-own (drop i s)

@@ -8,7 +8,7 @@ ghost use Rattle.rules.specs.Bytes.{same};
 ghost use Rattle.rules.specs.Bits.{bits};
 ghost use Rattle.rules.specs.Order.{cmp};
 ghost use Rattle.rules.specs.Scan.{encoded, code-point, escaped-byte, says, saying};
-ghost use Rattle.saying.specs.Said.{remaining, Inside, Stepped};
+ghost use Rattle.saying.specs.Said.{remaining, Inside, Stepped, is-own, own-end};
 ghost use Rattle.bits.specs.Packed.{bytes-at};
 ghost use Rattle.saying.specs.Compared.{ordering, name-bytes, NameFits};
 ghost use Rattle.saying.specs.Characters.{Charred};
@@ -196,6 +196,27 @@ pub fn next_byte(s: &[u8], at: usize, k: usize) -> Step
         return Step::Byte(b, Cursor { at: at, k: k + 1 });
     }
     Step::Byte(b, Cursor { at: at + n, k: 0 })
+}
+
+// Whether a byte stands for itself.
+fn is_own(c: u8) -> bool
+    ensures { λ r. ⌜ r ≡ is-own c ⌝ }
+{
+    (32 <= c) & ((c != 34) & (c != 92))
+}
+
+// The first place from i on that has no such byte: what is said up to there are the bytes of the text.
+pub fn own_end(s: &[u8], i: usize) -> usize
+    ensures { λ r. ⌜ r ≡ own-end (now (s .entry)) i ⌝ }
+{
+    let mut j = i;
+    while j < s.len() {
+        if !is_own(s[j]) {
+            return j;
+        }
+        j += 1;
+    }
+    j
 }
 
 // The character at a place of a string.

@@ -88,7 +88,7 @@ module _ (s b : Bytes) (ent ent′ : List ℕ) where
       ap (define (inline-name s b ent′ (e + n)) (inline-body s b ent′ (e + n))) (sym (partials-kept s b ent ent′ e n (e + n) a (omega arith) st))
 
   -- a name is no merged object, so that no entry is behind it
-  name-plain : (t : ℕ) (v : Value) (x : Bytes) → Stands s b ent t v → as-str (json-of s b ent v) ≡ some x → merged-of v ≡ none
+  pub name-plain : (t : ℕ) (v : Value) (x : Bytes) → Stands s b ent t v → as-str (json-of s b ent v) ≡ some x → merged-of v ≡ none
   name-plain t v x (plain e p) f = e
   name-plain t v x (merged h n le k base values) f =
       let g : none ≡ some x = sym (ap as-str (stands-merged-is s b ent h n base values) ∙ go n (k .some)) ∙ f in

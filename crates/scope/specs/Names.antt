@@ -120,6 +120,19 @@ param-by b ent c k (suc zero) = one-param b c k
 param-by b ent c k (suc (suc zero)) = two-params b c k
 param-by b ent c k (suc (suc (suc n))) = maybe (merged-of (base-of c)) Nothing (λ m. hash-param b ent k (m .0) (m .1))
 
+-- what the name k stands for in one scope
+abbrev pub param-of : Bytes → List ℕ → Scope → Bytes → Param
+param-of b ent c k = param-by b ent c k (c .kind)
+
+abbrev pub or-param : Param → Param → Param
+or-param (Is w) r = Is w
+or-param Nothing r = r
+
+-- in the first n scopes, from the newest on
+unfoldable pub first-param : Bytes → List ℕ → List Scope → Bytes → ℕ → Param
+first-param b ent l k zero = Nothing
+first-param b ent l k (suc n) = let outer = first-param b ent l k n in or-param (param-of b ent (getD l n blank) k) outer
+
 -- the place in the list of the k-th from the newest on, or of the newest
 abbrev pub level-place : ℕ → ℕ → ℕ
 level-place n k = pick (ltb k n) (n - 1 - k) (n - 1)
@@ -136,3 +149,7 @@ local-variable c k =
     (pick (same k (ascii "first")) (Is (flag (is-first c)))
     (pick (same k (ascii "last")) (Is (flag (is-last c)))
     (pick (same k (ascii "index")) (Is (Index (c .index))) (pick (same k (ascii "key")) (local-key c) Nothing))))
+
+-- in the scope at a level, where there are so many
+abbrev pub local-param : List Scope → ℕ → ℕ → Bytes → Param
+local-param l n level k = pick (leb n level) Nothing (local-variable (getD l (n - 1 - level) blank) k)

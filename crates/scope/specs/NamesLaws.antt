@@ -7,7 +7,7 @@ use mathlib.Core.Path.{_≡_, refl, sym, ap, _∙_, subst}
 use native.Mathlib.Omega.{arith}
 use lib.Dec.{eqb, ltb, leb}
 use lib.ListN.{length, getD, getElem?}
-use borrow.Author.Tests.{ltb-true, ltb-false}
+use borrow.Author.Tests.{ltb-true, ltb-false, le-leb, lt-leb}
 use Rattle.rules.specs.Bytes.{Bytes, pick, maybe, same, ascii}
 use Rattle.rules.specs.Json.{Json, jbool, jpos}
 use Rattle.rules.specs.Bits.{bits}
@@ -34,7 +34,7 @@ use Rattle.scope.specs.declared.Param.{Param}
 use Rattle.scope.specs.declared.Param.the-variants.{Is, Nothing}
 use Rattle.scope.specs.Scopes.{base-of, key-of, is-first, is-last, over-object, holder, second, params-by, locals-of, turn-locals, context-of, block-of, blocks-of, blank}
 use Rattle.scope.specs.Standing.{ScopeStands, ScopesStand}
-use Rattle.scope.specs.Names.{Readable, AllReadable, without-path, hash-param, resolved, LeadsAs, ParamIs, own-param, ValueIs, LocalIs, local-at, second-value, one-param, two-params, param-by, level-place, flag, local-key, local-variable}
+use Rattle.scope.specs.Names.{Readable, AllReadable, without-path, hash-param, resolved, LeadsAs, ParamIs, own-param, ValueIs, LocalIs, local-at, second-value, one-param, two-params, param-by, param-of, or-param, first-param, local-param, level-place, flag, local-key, local-variable}
 
 -- within a list the default does not matter
 pub getD-any : {A : Type 0} (l : List A) (i : ℕ) (d e : A) → i < length l → getD l i d ≡ getD l i e
@@ -361,3 +361,30 @@ module _ (s b : Bytes) (ent : List ℕ) where
   local-said t none (Is w) x = absurd x
   local-said t (some j) Nothing x = absurd x
   local-said t (some j) (Is w) x = rw (x .present, x .pathless, x .means)
+
+-- The code's own terms, whether or not the scopes stand
+
+pub own-settled : (b : Bytes) (ent : List ℕ) (c : Scope) (k : Bytes) (n : ℕ) → (n ≡ 2 → c .index < 65536) → c .kind ≡ n → (r : Param) → r ≡ param-by b ent c k n
+    → (r ≡ param-of b ent c k) × ((s : Bytes) → ScopeStands s b ent c → ParamIs s b ent (c .inline) (own-param s b ent c k) r)
+own-settled b ent c k n lt e r f = (f ∙ ap (param-by b ent c k) (sym e), λ s st. own-is s b ent c st k n lt e r f)
+
+module _ (b : Bytes) (ent : List ℕ) (l : List Scope) (k : Bytes) (i : ℕ) (d : Scope) (pos : 0 < i) (le : i ≤ length l) (r : Param) (own : r ≡ param-of b ent (getD l (i - 1) d) k) where
+  pub first-own : first-param b ent l k i ≡ or-param r (first-param b ent l k (i - 1))
+  unfolding first-param
+  first-own =
+      let x : i ≡ suc (i - 1) = omega arith in
+      let f = own ∙ ap (λ (c : Scope). param-of b ent c k) (getD-any l (i - 1) d blank (omega arith)) in
+      ap (first-param b ent l k) x ∙ ap (λ (z : Param). or-param z (first-param b ent l k (i - 1))) (sym f)
+
+  pub first-found : (w : Value) → r ≡ Is w → Is w ≡ first-param b ent l k i
+  first-found w e = sym (first-own ∙ ap (λ (z : Param). or-param z (first-param b ent l k (i - 1))) e)
+
+  pub first-outer : r ≡ Nothing → first-param b ent l k (i - 1) ≡ first-param b ent l k i
+  first-outer e = sym (first-own ∙ ap (λ (z : Param). or-param z (first-param b ent l k (i - 1))) e)
+
+module _ (l : List Scope) (n level : ℕ) (k : Bytes) where
+  pub no-local-param : n ≤ level → Nothing ≡ local-param l n level k
+  no-local-param le = rw (le-leb n level le)
+
+  pub local-param-is : (d : Scope) (r : Param) → level < n → n ≤ length l → r ≡ local-variable (getD l (n - 1 - level) d) k → r ≡ local-param l n level k
+  local-param-is d r lt le e = rw (lt-leb n level lt) (e ∙ ap (λ (c : Scope). local-variable c k) (getD-any l (n - 1 - level) d blank (omega arith)))

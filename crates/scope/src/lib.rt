@@ -11,7 +11,7 @@ ghost use Rattle.parts.specs.Holds.{Holds};
 ghost use Rattle.rules.specs.Context.{get-in-block-params};
 ghost use Rattle.scope.specs.Scopes.{blank, blocks-of};
 ghost use Rattle.scope.specs.Standing.{NamesStand, ScopeStands, ScopesStand};
-ghost use Rattle.scope.specs.Names.{Readable, AllReadable, HashReadable, without-path, hash-param, second-value, one-param, two-params, own-param, ParamIs, level-place, flag, local-key, local-variable, local-at, LocalIs};
+ghost use Rattle.scope.specs.Names.{Readable, AllReadable, HashReadable, without-path, hash-param, second-value, one-param, two-params, own-param, param-of, first-param, ParamIs, level-place, flag, local-key, local-variable, local-param, local-at, LocalIs};
 ghost use Rattle.scope.specs.Made.{child, with-names, with-locals, with-count, turned};
 use value::Value;
 
@@ -45,7 +45,7 @@ pub enum Param {
 }
 
 // A value without its path: what is missing is null.
-fn without_path(v: Value) -> Value
+pub fn without_path(v: Value) -> Value
     ensures { λ r. ⌜ r ≡ without-path v ⌝ }
 {
     match v {
@@ -118,7 +118,7 @@ fn two_params(b: &[u8], c: Scope, p: usize) -> Param
 // The value that the string at p stands for among the scope's own block names.
 pub fn block_param(b: &[u8], ent: &[u64], c: Scope, p: usize) -> Param
     requires { ⌜ (length (now b) ≤ 65536) × Holds string (bits (now b)) p × Readable (now b) (now ent) c ⌝ }
-    ensures { λ r. ⌜ ((s : Bytes) → ScopeStands s (now (b .entry)) (now (ent .entry)) c → ParamIs s (now (b .entry)) (now (ent .entry)) (c .inline) (own-param s (now (b .entry)) (now (ent .entry)) c (text-at (bits (now (b .entry))) p)) r) ⌝ }
+    ensures { λ r. ⌜ (r ≡ param-of (now (b .entry)) (now (ent .entry)) c (text-at (bits (now (b .entry))) p)) × ((s : Bytes) → ScopeStands s (now (b .entry)) (now (ent .entry)) c → ParamIs s (now (b .entry)) (now (ent .entry)) (c .inline) (own-param s (now (b .entry)) (now (ent .entry)) c (text-at (bits (now (b .entry))) p)) r) ⌝ }
 {
     if c.kind == 0 {
         return Param::Nothing;
@@ -139,7 +139,7 @@ pub fn block_param(b: &[u8], ent: &[u64], c: Scope, p: usize) -> Param
 // From the newest scope on.
 pub fn get_in_block_params(b: &[u8], ent: &[u64], list: [Scope; 32], used: usize, p: usize) -> Param
     requires { ⌜ (length (now b) ≤ 65536) × Holds string (bits (now b)) p × (used ≤ 32) × AllReadable (now b) (now ent) list used ⌝ }
-    ensures { λ r. ⌜ ((s : Bytes) (t : ℕ) → ScopesStand s (now (b .entry)) (now (ent .entry)) list used t → ParamIs s (now (b .entry)) (now (ent .entry)) t (get-in-block-params (blocks-of s (now (b .entry)) (now (ent .entry)) list used) (text-at (bits (now (b .entry))) p)) r) ⌝ }
+    ensures { λ r. ⌜ (r ≡ first-param (now (b .entry)) (now (ent .entry)) list (text-at (bits (now (b .entry))) p) used) × ((s : Bytes) (t : ℕ) → ScopesStand s (now (b .entry)) (now (ent .entry)) list used t → ParamIs s (now (b .entry)) (now (ent .entry)) t (get-in-block-params (blocks-of s (now (b .entry)) (now (ent .entry)) list used) (text-at (bits (now (b .entry))) p)) r) ⌝ }
 {
     let mut i = used;
     while 0 < i {
@@ -211,7 +211,7 @@ fn local_variable(b: &[u8], c: Scope, p: usize) -> Param
 // `evaluate2` of a local path: the string at p names a local variable of the scope at a level.
 pub fn local_value(b: &[u8], list: [Scope; 32], used: usize, level: usize, p: usize) -> Param
     requires { ⌜ (p ≤ 524288) × (used ≤ 32) ⌝ }
-    ensures { λ r. ⌜ ((s : Bytes) (ent : List ℕ) (t : ℕ) → ScopesStand s (now (b .entry)) ent list used t → LocalIs s (now (b .entry)) ent t (local-at s (now (b .entry)) ent list used level (text-at (bits (now (b .entry))) p)) r) ⌝ }
+    ensures { λ r. ⌜ (r ≡ local-param list used level (text-at (bits (now (b .entry))) p)) × ((s : Bytes) (ent : List ℕ) (t : ℕ) → ScopesStand s (now (b .entry)) ent list used t → LocalIs s (now (b .entry)) ent t (local-at s (now (b .entry)) ent list used level (text-at (bits (now (b .entry))) p)) r) ⌝ }
 {
     if used <= level {
         return Param::Nothing;

@@ -294,8 +294,7 @@ fn feed_packed_run(out: &mut [u8], indent: &[u8], w: Writer, s: &[u8], p: usize,
     r
 }
 
-// All of a packed string as it is, line by line: raw text of a bundle, which is never escaped.
-// (Strings lie within a bundle, so the sum fits. A packed string that may be escaped is fed byte by byte.)
+// All of a packed string as it is, line by line. (Strings lie within a bundle, so the sum fits.)
 pub fn feed_packed(out: &mut [u8], indent: &[u8], w: Writer, s: &[u8], p: usize, n: usize) -> Writer
     requires { ⌜ p + 8 * n < 2 ^ 64 ⌝ }
     ensures { λ r. ⌜ output r (now (out .exit)) ≡ all-emitted (now (indent .entry)) (bytes-at (bits (now (s .entry))) p n) (output w (now (out .entry))) ⌝ }
@@ -306,6 +305,47 @@ pub fn feed_packed(out: &mut [u8], indent: &[u8], w: Writer, s: &[u8], p: usize,
         let e = line_end(s, p, i, n, q.has_indent);
         q = feed_packed_run(out, indent, q, s, p + 8 * i, e - i);
         i = e;
+    }
+    q
+}
+
+// Where the quiet bytes of a packed string from i on end, when it is escaped.
+fn quiet_packed(s: &[u8], p: usize, i: usize, n: usize, has_indent: bool) -> usize
+    requires { ⌜ (p + 8 * n < 2 ^ 64) × (i ≤ n) ⌝ }
+    ensures { λ r. ⌜ (r ≡ i + run (quiet-byte «has_indent» true) (drop i (bytes-at (bits (now (s .entry))) p n))) × (r ≤ n) ⌝ }
+{
+    let mut j = i;
+    while j < n {
+        if !is_quiet(bits::byte(s, p + 8 * j), has_indent, true) {
+            return j;
+        }
+        j += 1;
+    }
+    j
+}
+
+// All of a packed string, escaped, by runs: as `feed_bytes`.
+pub fn feed_packed_escaped(
+    out: &mut [u8],
+    indent: &[u8],
+    w: Writer,
+    s: &[u8],
+    p: usize,
+    n: usize,
+) -> Writer
+    requires { ⌜ p + 8 * n < 2 ^ 64 ⌝ }
+    ensures { λ r. ⌜ output r (now (out .exit)) ≡ all-emitted (now (indent .entry)) (escaped true (bytes-at (bits (now (s .entry))) p n)) (output w (now (out .entry))) ⌝ }
+{
+    let mut q = w;
+    let mut i = 0;
+    while i < n {
+        let e = quiet_packed(s, p, i, n, q.has_indent);
+        q = feed_packed_run(out, indent, q, s, p + 8 * i, e - i);
+        if n <= e {
+            return q;
+        }
+        q = feed_escaped(out, indent, q, bits::byte(s, p + 8 * e), true);
+        i = e + 1;
     }
     q
 }

@@ -26,7 +26,7 @@ returns c =
     let level = c .before .before .before .before .before .args .level in
     let p = c .before .before .before .before .before .args .p in
     let l = c .before .before .before .before .before .args .list in
-    λ s ent t st. local-evaluates s b ent t (local-at s b ent l used level (text-at (bits b) p)) (c .before .found .given .0 .0) (subst (λ (r : Param). LocalIs s b ent t (local-at s b ent l used level (text-at (bits b) p)) r) (c .before .found .given .1) (c .before .before .before .local-value .ensures s ent t st))
+    λ s ent t st. local-evaluates s b ent t (local-at s b ent l used level (text-at (bits b) p)) (c .before .found .given .0 .0) (subst (λ (r : Param). LocalIs s b ent t (local-at s b ent l used level (text-at (bits b) p)) r) (c .before .found .given .1) (c .before .before .before .local-value .ensures .1 s ent t st))
 
 returns-2 : tie.Need-returns-2
 returns-2 c =
@@ -35,7 +35,7 @@ returns-2 c =
     let level = c .before .before .before .before .args .level in
     let p = c .before .before .before .before .args .p in
     let l = c .before .before .before .before .args .list in
-    λ s ent t st. local-nothing s b ent t (local-at s b ent l used level (text-at (bits b) p)) (subst (λ (r : Param). LocalIs s b ent t (local-at s b ent l used level (text-at (bits b) p)) r) (c .enum-told .given .1) (c .before .before .local-value .ensures s ent t st))
+    λ s ent t st. local-nothing s b ent t (local-at s b ent l used level (text-at (bits b) p)) (subst (λ (r : Param). LocalIs s b ent t (local-at s b ent l used level (text-at (bits b) p)) r) (c .enum-told .given .1) (c .before .before .local-value .ensures .1 s ent t st))
 
 pub local-value-spec : {M : Type 1} → statement M
 local-value-spec =

@@ -34,7 +34,7 @@ returns c =
     let q = c .before .before .before .before .before .before .args .q in
     let next = c .before .before .before .before .before .before .args .next in
     let l = c .before .before .before .before .before .before .args .list in
-    named-based b ent l used p n ups q next (c .before .before .before .before .before .before .pre .5) (c .based .result) (c .based .ensures .0) (c .based .ensures .1) (c .based .ensures .2) (λ s t st. subst (λ (r : Param). ParamIs s b ent t (get-in-block-params (blocks-of s b ent l used) (text-at (bits b) q)) r) (c .before .enum-told .given .1) (c .before .before .before .get-in-block-params .ensures s t st))
+    named-based b ent l used p n ups q next (c .before .before .before .before .before .before .pre .5) (c .based .result) (c .based .ensures .0) (c .based .ensures .1) (c .based .ensures .2) (λ s t st. subst (λ (r : Param). ParamIs s b ent t (get-in-block-params (blocks-of s b ent l used) (text-at (bits b) q)) r) (c .before .enum-told .given .1) (c .before .before .before .get-in-block-params .ensures .1 s t st))
 
 sub-t12 : tie.Need-sub-t12
 sub-t12 c = search needs
@@ -53,7 +53,7 @@ returns-2 c =
     let q = c .before .before .before .before .before .before .args .q in
     let next = c .before .before .before .before .before .before .args .next in
     let l = c .before .before .before .before .before .before .args .list in
-    named-found b ent l used p n ups q next (c .before .before .before .before .before .before .pre .5) (c .before .found .given .0 .0) (λ s t st. subst (λ (r : Param). ParamIs s b ent t (get-in-block-params (blocks-of s b ent l used) (text-at (bits b) q)) r) (c .before .found .given .1) (c .before .before .before .get-in-block-params .ensures s t st))
+    named-found b ent l used p n ups q next (c .before .before .before .before .before .before .pre .5) (c .before .found .given .0 .0) (λ s t st. subst (λ (r : Param). ParamIs s b ent t (get-in-block-params (blocks-of s b ent l used) (text-at (bits b) q)) r) (c .before .found .given .1) (c .before .before .before .get-in-block-params .ensures .1 s t st))
 
 pub named-start-spec : {M : Type 1} → statement M
 named-start-spec =

@@ -38,10 +38,10 @@ next-requires : tie.Need-next-requires Inv-loop μ-loop
 next-requires c κs = (c .before .before .before .before .before .before .before .before .before .pre .0, c .before .before .before .before .before .before .before .before .before .pre .1, at-child (c .before .before .before .before .before .before .before .before .before .args .s .now) (c .before .before .before .before .before .before .before .before .before .args .tab .now) (c .before .before .before .before .before .before .before .before .before .pre .0) (c .before .before .before .before .before .before .before .before .before .args .i) (c .before .before .before .before .before .before .before .before .before .pre .1) (c .before .before .before .before .loop .at) (c .before .before .before .before .loop .inv .walks) (c .before .before .at .given .0 .0) (c .before .before .at .given .1) .within)
 
 loop-less : tie.Need-loop-less Inv-loop μ-loop
-loop-less c = walks-less (c .before .before .before .before .before .before .before .before .before .before .args .s .now) (c .before .before .before .before .before .before .before .before .before .before .args .tab .now) (c .before .before .before .before .before .before .before .before .before .before .pre .0) (c .before .before .before .before .before .before .before .before .before .before .args .i) (c .before .before .before .before .before .before .before .before .before .before .pre .1) (c .before .before .before .before .before .loop .at) (c .before .before .before .before .before .loop .inv .walks) (c .next .result) (c .before .before .before .at .given .0 .0) (c .before .before .before .at .given .1) (c .next .ensures)
+loop-less c = walks-less (c .before .before .before .before .before .before .before .before .before .before .args .s .now) (c .before .before .before .before .before .before .before .before .before .before .args .tab .now) (c .before .before .before .before .before .before .before .before .before .before .pre .0) (c .before .before .before .before .before .before .before .before .before .before .args .i) (c .before .before .before .before .before .before .before .before .before .before .pre .1) (c .before .before .before .before .before .loop .at) (c .before .before .before .before .before .loop .inv .walks) (c .next .result) (c .before .before .before .at .given .0 .0) (c .before .before .before .at .given .1) (c .next .ensures .0)
 
 loop-again : tie.Need-loop-again Inv-loop μ-loop
-loop-again c = scan-on (c .before .before .before .before .before .before .before .before .before .before .args .s .now) (c .before .before .before .before .before .before .before .before .before .before .args .i) _ _ _ _ (c .before .before .before .before .before .before .before .before .before .before .args .tab .now) (c .before .before .before .before .before .before .before .before .before .before .pre .0) (c .before .before .before .before .before .before .before .before .before .before .pre .1) (found (c .before .before .before .before .before .loop .best)) (c .before .before .before .before .before .loop .at) (c .before .before .before .before .before .loop .inv) (c .before .before .before .at .given .0 .0) (c .before .before .before .at .given .1) (found (c .before .latest .result)) (c .next .result) (c .before .latest .ensures) (c .next .ensures)
+loop-again c = scan-on (c .before .before .before .before .before .before .before .before .before .before .args .s .now) (c .before .before .before .before .before .before .before .before .before .before .args .i) _ _ _ _ (c .before .before .before .before .before .before .before .before .before .before .args .tab .now) (c .before .before .before .before .before .before .before .before .before .before .pre .0) (c .before .before .before .before .before .before .before .before .before .before .pre .1) (found (c .before .before .before .before .before .loop .best)) (c .before .before .before .before .before .loop .at) (c .before .before .before .before .before .loop .inv) (c .before .before .before .at .given .0 .0) (c .before .before .before .at .given .1) (found (c .before .latest .result)) (c .next .result) (c .before .latest .ensures) (c .next .ensures .0)
 
 pub object-member-spec : {M : Type 1} → statement M
 object-member-spec =

@@ -1,5 +1,5 @@
 use Rattle.places.proofs.Walking.{Rising, rise-start, rise-child, rise-on, rise-up}
-use Rattle.places.specs.Children.{Child}
+use Rattle.places.specs.Children.{child-around}
 use lib.Dec.{ltb}
 use mathlib.Core.Path.{_≡_, _∙_, refl}
 use Prim.Native.Nat.{_+_, suc, _-_, _≤_, _<_}
@@ -46,7 +46,7 @@ loop-again c = rise-on (c .before .before .before .before .before .before .befor
 returns : tie.Need-returns Inv-loop μ-loop
 returns c =
     let q = rw (c .loop-test .left) at (rise-child (c .before .before .before .before .args .s .now) (c .before .before .before .before .pre .0 .answers) (c .before .before .before .before .args .c) (c .before .loop .i) (c .before .loop .d) (c .before .loop .inv)) in
-    (omega (arith, q .behind), (c .before .loop .inv .number, q))
+    child-around (c .before .before .before .before .args .s .now) (c .before .loop .i) (c .before .loop .inv .number) (c .before .before .before .before .args .c) q
 
 pub parent-spec : {M : Type 1} → statement M
 parent-spec =

@@ -205,7 +205,7 @@ strip-list-returns-4 t c =
     let l = y .inv .1 h lt e in
     let q = ap (target.left (a .s .now) (a .b .now) (a .w .now)) (sym (c .before .before .before .before .before .before .x .given .1)) ∙ means-place (a .s .now) (a .b .now) _ (y .c) (left-within (a .s .now) h (a .i) lt e (Option Bytes) target.taken target.taken-append (y .c) o o₀ l) (c .before .before .before .before .before .before .before .before .strip-value .ensures .means) in
     let r = c .strip-bytes3 in
-    let n = ap found (sym (c .before .before .enum-told4 .given .1)) ∙ c .before .before .before .before .next .ensures (l .number) (l .at) in
+    let n = ap found (sym (c .before .before .enum-told4 .given .1)) ∙ c .before .before .before .before .next .ensures .0 (l .number) (l .at) in
     record {
       is = list-is (a .s .now) h (a .i) lt e (Option Bytes) target.taken target.taken-append (some (target.rest (a .s .now) (a .b .now) (a .w .now) (a .g))) o₀ (target.left (a .s .now) (a .b .now) (a .w .now) (r .result)) (p .is)
           (left-end (a .s .now) h (a .i) lt e (Option Bytes) target.taken target.taken-append (y .c) o o₀ (some (target.rest (a .s .now) (a .b .now) (a .w .now) (c .before .before .before .before .before .before .x .given .0 .0))) (target.left (a .s .now) (a .b .now) (a .w .now) (r .result)) l q n (r .ensures .is));
@@ -242,7 +242,7 @@ strip-list-returns-5 t c =
     let l = y .inv .1 h lt e in
     let q = ap (target.left (a .s .now) (a .b .now) (a .w .now)) (sym (c .before .before .before .before .before .before .before .before .before .x .given .1)) ∙ means-place (a .s .now) (a .b .now) _ (y .c) (left-within (a .s .now) h (a .i) lt e (Option Bytes) target.taken target.taken-append (y .c) o o₀ l) (c .before .before .before .before .before .before .before .before .before .before .before .strip-value .ensures .means) in
     let r = subst (target.Stripped (a .s .now) (a .b .now) (a .w .now) _) (c .enum-told5 .given .1) (c .before .before .strip-bytes4 .ensures) in
-    let n = ap found (sym (c .before .before .before .before .before .d .given .1)) ∙ c .before .before .before .before .before .before .before .next .ensures (l .number) (l .at) in
+    let n = ap found (sym (c .before .before .before .before .before .d .given .1)) ∙ c .before .before .before .before .before .before .before .next .ensures .0 (l .number) (l .at) in
     let d = c .before .before .before .before .before .d .given .0 .0 in
     record {
       is = list-is (a .s .now) h (a .i) lt e (Option Bytes) target.taken target.taken-append (some (target.rest (a .s .now) (a .b .now) (a .w .now) (a .g))) o₀ none (p .is)
@@ -259,7 +259,7 @@ strip-list-loop-less t c =
     let e = z .pre .1 .4 in
     let y = c .before .before .before .before .before .before .before .before .before .before .before .before .before .loop in
     let l = y .inv .1 h lt e in
-    let n = ap found (sym (c .before .before .before .before .before .before .d .given .1)) ∙ c .before .before .before .before .before .before .before .before .next .ensures (l .number) (l .at) in
+    let n = ap found (sym (c .before .before .before .before .before .before .d .given .1)) ∙ c .before .before .before .before .before .before .before .before .next .ensures .0 (l .number) (l .at) in
     omega (arith, left-within (a .s .now) h (a .i) lt e (Option Bytes) target.taken target.taken-append _ _ _ l, next-behind (a .s .now) h (a .i) lt (l .number) (y .c) (c .before .before .before .before .before .before .d .given .0 .0) (l .at) (sym n))
 
 strip-list-loop-again : (t : ℕ) → strip-list-lts.Need-loop-again (strip-list-claims t) (strip-list-at t) strip-list.Post strip-list-Inv-loop strip-list-μ-loop
@@ -273,7 +273,7 @@ strip-list-loop-again t c =
       λ h lt e.
           let l = y .inv .1 h lt e in
           let q = ap (target.left (a .s .now) (a .b .now) (a .w .now)) (sym (c .before .before .before .before .before .before .before .before .before .before .x .given .1)) ∙ means-place (a .s .now) (a .b .now) _ (y .c) (left-within (a .s .now) h (a .i) lt e (Option Bytes) target.taken target.taken-append (y .c) o o₀ l) (c .before .before .before .before .before .before .before .before .before .before .before .before .strip-value .ensures .means) in
-          let n = ap found (sym (c .before .before .before .before .before .before .d .given .1)) ∙ c .before .before .before .before .before .before .before .before .next .ensures (l .number) (l .at) in
+          let n = ap found (sym (c .before .before .before .before .before .before .d .given .1)) ∙ c .before .before .before .before .before .before .before .before .next .ensures .0 (l .number) (l .at) in
           left-on (a .s .now) h (a .i) lt e (Option Bytes) target.taken target.taken-append (y .c) o o₀ (some (target.rest (a .s .now) (a .b .now) (a .w .now) (c .before .before .before .before .before .before .before .before .before .before .x .given .0 .0))) (some (target.rest (a .s .now) (a .b .now) (a .w .now) (c .before .y .given .0 .0))) l q (c .before .before .before .before .before .before .d .given .0 .0) n (r .is),
     )
 

@@ -163,7 +163,7 @@ write-list-returns-2 t c =
     let o₂ = output (g .result) (g .last .0) in
     list-is (a .s .now) h (a .i) lt e Output (printed (a .indent .now) (a .escape)) (printed-append (a .indent .now) (a .escape)) (output (a .w) (a .out .now)) o₀ o₂ (f .ensures)
     (left-end (a .s .now) h (a .i) lt e Output (printed (a .indent .now) (a .escape)) (printed-append (a .indent .now) (a .escape)) (y .c) o o₀ (output (v .result) (v .last .0)) o₂ l (means-place (a .s .now) (a .b .now) _ (y .c) (left-within (a .s .now) h (a .i) lt e Output (printed (a .indent .now) (a .escape)) (printed-append (a .indent .now) (a .escape)) (y .c) o o₀ l) (v .ensures))
-    (ap found (sym (c .before .before .before .before .before .enum-told2 .given .1)) ∙ c .before .before .before .before .before .before .before .next .ensures (l .number) (l .at)) (g .ensures))
+    (ap found (sym (c .before .before .before .before .before .enum-told2 .given .1)) ∙ c .before .before .before .before .before .before .before .next .ensures .0 (l .number) (l .at)) (g .ensures))
 
 write-list-slice-aggregate-feed-bytes-4 :
     (t : ℕ) → write-list-lts.Need-slice-aggregate-feed-bytes-4 (write-list-claims t) (write-list-at t) write-list.Post write-list-Inv-loop write-list-μ-loop
@@ -181,7 +181,7 @@ write-list-loop-less t c =
     let e = z .pre .1 .3 in
     let y = c .before .before .before .before .before .before .before .before .before .before .before .before .before .loop in
     let l = y .inv .1 h lt e in
-    let n = ap found (sym (c .before .before .before .before .before .before .d .given .1)) ∙ c .before .before .before .before .before .before .before .before .next .ensures (l .number) (l .at) in
+    let n = ap found (sym (c .before .before .before .before .before .before .d .given .1)) ∙ c .before .before .before .before .before .before .before .before .next .ensures .0 (l .number) (l .at) in
     omega (arith, left-within (a .s .now) h (a .i) lt e Output (printed (a .indent .now) (a .escape)) (printed-append (a .indent .now) (a .escape)) _ _ _ l, next-behind (a .s .now) h (a .i) lt (l .number) (y .c) (c .before .before .before .before .before .before .d .given .0 .0) (l .at) (sym n))
 
 write-list-loop-again : (t : ℕ) → write-list-lts.Need-loop-again (write-list-claims t) (write-list-at t) write-list.Post write-list-Inv-loop write-list-μ-loop
@@ -198,7 +198,7 @@ write-list-loop-again t c =
           let l = y .inv .1 h lt e in
           left-on (a .s .now) h (a .i) lt e Output (printed (a .indent .now) (a .escape)) (printed-append (a .indent .now) (a .escape)) (y .c) o o₀ (output (v .result) (v .last .0)) (output (g .result) (g .last .0)) l
           (means-place (a .s .now) (a .b .now) _ (y .c) (left-within (a .s .now) h (a .i) lt e Output (printed (a .indent .now) (a .escape)) (printed-append (a .indent .now) (a .escape)) (y .c) o o₀ l) (v .ensures))
-          (c .before .before .before .before .before .before .d .given .0 .0) (ap found (sym (c .before .before .before .before .before .before .d .given .1)) ∙ c .before .before .before .before .before .before .before .before .next .ensures (l .number) (l .at)) (g .ensures),
+          (c .before .before .before .before .before .before .d .given .0 .0) (ap found (sym (c .before .before .before .before .before .before .d .given .1)) ∙ c .before .before .before .before .before .before .before .before .next .ensures .0 (l .number) (l .at)) (g .ensures),
     )
 
 write-value-form-of-requires : (t : ℕ) → write-value-lts.Need-form-of-requires (write-value-claims t) (write-value-at t) write-value.Post

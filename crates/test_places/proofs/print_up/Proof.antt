@@ -1,3 +1,4 @@
+use Rattle.places.specs.Children.{around-is}
 use native.Mathlib.Omega.{arith}
 use borrow.Author.Needs.{needs}
 use Rattle.test_places.proofs.print_up.Statement.{statement}
@@ -16,7 +17,10 @@ parent-requires : tie.Need-parent-requires
 parent-requires c κs = (c .before .before .before .pre .0, omega (arith, c .if1 .left), c .before .before .before .pre .1)
 
 print-value-requires : tie.Need-print-value-requires
-print-value-requires c κs = (c .before .before .before .before .pre .0, omega (arith, c .parent .ensures .0, c .before .before .before .before .pre .1))
+print-value-requires c κs =
+    let a = c .before .before .before .before .pre in
+    let x = around-is (c .before .before .before .before .args .s .now) (c .before .before .before .before .args .p) (a .0 .answers) (omega (arith, c .before .if1 .left)) (a .1) in
+    (a .0, omega (arith, c .parent .ensures, x .before, a .1))
 
 slice-aggregate-print-2 : tie.Need-slice-aggregate-print-2
 slice-aggregate-print-2 c = search needs
