@@ -1,0 +1,2 @@
+pub mod Inlining
+mod Naming

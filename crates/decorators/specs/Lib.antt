@@ -1,0 +1,3 @@
+pub mod Indents
+pub mod Inlined
+pub mod Defined

@@ -1,0 +1,339 @@
+// helpers/*.rs, and render.rs for an expression: what is about to be drawn, worked out before anything is.
+// s is the plan, b the bundle, ent holds the entries of open partials, and used scopes are open.
+ghost use mathlib.Core.Bool.{Bool};
+ghost use mathlib.Core.Option.{none, some};
+ghost use mathlib.Core.Path.{_≡_};
+ghost use mathlib.Core.List.{List};
+ghost use Prim.Native.Nat.{ℕ, _≤_, _<_};
+ghost use lib.ListN.{length};
+ghost use Rattle.rules.specs.Bytes.{pick};
+ghost use Rattle.rules.specs.Bits.{bits};
+ghost use Rattle.rules.specs.Bundle.{param, call-of};
+ghost use Rattle.rules.specs.Template.{name-only};
+ghost use Rattle.rules.specs.Value.{render};
+ghost use Rattle.rules.specs.State.{RenderContext};
+ghost use Rattle.rules.specs.Registry.{Registry, get-helper};
+ghost use Rattle.rules.specs.HelperEach.{each-helper};
+ghost use Rattle.rules.specs.HelperWith.{with-helper};
+ghost use Rattle.rules.specs.HelperIf.{if-helper};
+ghost use Rattle.rules.specs.Helpers.{lookup-helper};
+ghost use Rattle.rules.specs.Render.{render-expression};
+ghost use Rattle.parts.specs.Holds.{Holds};
+ghost use Rattle.calls.specs.Calls.{param-at, call-at};
+ghost use Rattle.places.specs.Accepted.{Accepted};
+ghost use Rattle.meaning.specs.Forms.{Known};
+ghost use Rattle.meaning.specs.Means.{Means};
+ghost use Rattle.scope.specs.Standing.{ScopesStand};
+ghost use Rattle.expand.specs.Answers.{Setting, ExpandedHeld};
+ghost use Rattle.helpers.specs.Does.{has, Helping, Decides, Expresses, unless-strict, inverse, in-scope, branch, truth, is-collection, shown, rendered};
+use expand::Expanded;
+use expand::Got;
+use expand::HelperDef;
+use expand::Options;
+use lookup::Found;
+use meaning::Form;
+use scope::Scope;
+use value::Value;
+
+// What a helper does.
+pub enum Does {
+    // the paper's number of the refusal
+    Bad(u8),
+    Nothing,
+    // draws its template or its inverse, if there is one
+    Template,
+    Inverse,
+    // draws its template in a scope of that value
+    Within(Value),
+    // draws its template for each turn over that value, in one scope
+    Turns(Value),
+    // writes that value
+    Write(Value),
+}
+
+// Parts
+
+fn unless_strict(strict: bool, d: Does) -> Does
+    ensures { λ r. ⌜ r ≡ unless-strict strict d ⌝ }
+{
+    if strict {
+        return Does::Bad(11);
+    }
+    d
+}
+
+// The inverse; without it nothing, or an error under strict.
+fn inverse(strict: bool, has_inverse: bool) -> Does
+    ensures { λ r. ⌜ r ≡ inverse strict «has_inverse» ⌝ }
+{
+    if has_inverse {
+        return Does::Inverse;
+    }
+    unless_strict(strict, Does::Nothing)
+}
+
+// Under one more scope, if there may be one.
+fn in_scope(used: usize, d: Does) -> Does
+    ensures { λ r. ⌜ r ≡ in-scope used d ⌝ }
+{
+    if used < 32 {
+        return d;
+    }
+    Does::Bad(23)
+}
+
+fn branch(template: bool) -> Does
+    ensures { λ r. ⌜ r ≡ branch template ⌝ }
+{
+    if template {
+        return Does::Template;
+    }
+    Does::Inverse
+}
+
+// Guide truth (added) does not heed includeZero.
+fn truth(s: &[u8], tab: &[u64], b: &[u8], v: Value, guide: bool, zero: bool) -> bool
+    requires { ⌜ Accepted (now s) (now tab) × (length (now b) ≤ 65536) × Known (now s) (now b) v ⌝ }
+    ensures { λ r. ⌜ Means (now (s .entry)) (now (b .entry)) v (λ j. r ≡ truth guide zero j) ⌝ }
+{
+    if guide {
+        return meaning::guide_truthy(s, tab, b, v);
+    }
+    meaning::is_truthy(s, tab, b, v, zero)
+}
+
+// Whether a value is a list or an object.
+fn is_collection(s: &[u8], tab: &[u64], b: &[u8], v: Value) -> bool
+    requires { ⌜ Accepted (now s) (now tab) × (length (now b) ≤ 65536) × Known (now s) (now b) v ⌝ }
+    ensures { λ r. ⌜ Means (now (s .entry)) (now (b .entry)) v (λ j. r ≡ is-collection j) ⌝ }
+{
+    match meaning::form_of(s, tab, b, v) {
+        Form::Null => false,
+        Form::Boolean(t) => false,
+        Form::Unsigned(n) => false,
+        Form::Negative(n) => false,
+        Form::String(t) => false,
+        Form::List(i) => true,
+        Form::Object(i) => true,
+        Form::Merged(h, n) => true,
+    }
+}
+
+// The helpers
+
+fn each_helper(
+    s: &[u8],
+    tab: &[u64],
+    b: &[u8],
+    used: usize,
+    options: Options,
+    w: Expanded,
+    has_template: bool,
+    has_inverse: bool,
+) -> Does
+    requires { ⌜ Accepted (now s) (now tab) × (length (now b) ≤ 65536) × Known (now s) (now b) (w .first) ⌝ }
+    ensures { λ r. ⌜ ((ent : List ℕ) → Helping (now (s .entry)) (now (b .entry)) ent used options w «has_template» «has_inverse» (λ g e ns T I st. each-helper g (e .params) ns T I st) r) ⌝ }
+{
+    if w.count == 0 {
+        return Does::Bad(15);
+    }
+    if !has_template {
+        return Does::Nothing;
+    }
+    let v = w.first;
+    if !is_collection(s, tab, b, v) {
+        return inverse(options.strict, has_inverse);
+    }
+    // of lists and objects, those that are not empty
+    if meaning::is_truthy(s, tab, b, v, false) {
+        return in_scope(used, Does::Turns(v));
+    }
+    if has_inverse {
+        return Does::Inverse;
+    }
+    // its scope is opened and closed again
+    in_scope(used, Does::Nothing)
+}
+
+fn with_helper(
+    s: &[u8],
+    tab: &[u64],
+    b: &[u8],
+    used: usize,
+    options: Options,
+    w: Expanded,
+    has_template: bool,
+    has_inverse: bool,
+) -> Does
+    requires { ⌜ Accepted (now s) (now tab) × (length (now b) ≤ 65536) × Known (now s) (now b) (w .first) ⌝ }
+    ensures { λ r. ⌜ ((ent : List ℕ) → Helping (now (s .entry)) (now (b .entry)) ent used options w «has_template» «has_inverse» (λ g e ns T I st. with-helper g (e .params) ns T I st) r) ⌝ }
+{
+    if w.count == 0 {
+        return Does::Bad(15);
+    }
+    let v = w.first;
+    if meaning::is_truthy(s, tab, b, v, false) {
+        return in_scope(used, Does::Within(v));
+    }
+    inverse(options.strict, has_inverse)
+}
+
+// if, or where it is not positive unless.
+fn if_helper(s: &[u8], tab: &[u64], b: &[u8], options: Options, w: Expanded, positive: bool) -> Does
+    requires { ⌜ Accepted (now s) (now tab) × (length (now b) ≤ 65536) × Known (now s) (now b) (w .first) ⌝ }
+    ensures { λ r. ⌜ ((ent : List ℕ) (used : ℕ) (ht hi : Bool) → Helping (now (s .entry)) (now (b .entry)) ent used options w ht hi (λ g e ns T I st. if-helper g positive (e .params) (e .hash) T I st) r) ⌝ }
+{
+    if w.count == 0 {
+        return Does::Bad(15);
+    }
+    let v = w.first;
+    if truth(s, tab, b, v, options.guide_truth, w.zero) {
+        return branch(positive);
+    }
+    branch(!positive)
+}
+
+fn lookup_helper(
+    s: &[u8],
+    tab: &[u64],
+    b: &[u8],
+    ent: &[u64],
+    options: Options,
+    w: Expanded,
+) -> Does
+    requires { ⌜ Accepted (now s) (now tab) × (length (now b) ≤ 65536) × ExpandedHeld (now s) (now b) (now ent) w ⌝ }
+    ensures { λ r. ⌜ ((used : ℕ) (ht hi : Bool) → Helping (now (s .entry)) (now (b .entry)) (now (ent .entry)) used options w ht hi (λ g e ns T I st. lookup-helper g (e .params) st) r) ⌝ }
+{
+    if w.count < 2 {
+        return Does::Bad(15);
+    }
+    let v = w.first;
+    let i = w.second;
+    let Found::Is(x) = lookup::looked_up(s, tab, b, ent, v, i) else {
+        return unless_strict(options.strict, Does::Write(Value::Null));
+    };
+    Does::Write(x)
+}
+
+// What the helper h is going to do with what its call works out; the two tests say which bodies it has.
+pub fn call_helper(
+    s: &[u8],
+    tab: &[u64],
+    b: &[u8],
+    ent: &[u64],
+    used: usize,
+    options: Options,
+    h: HelperDef,
+    w: Expanded,
+    has_template: bool,
+    has_inverse: bool,
+) -> Does
+    requires { ⌜ Accepted (now s) (now tab) × (length (now b) ≤ 65536) × ExpandedHeld (now s) (now b) (now ent) w ⌝ }
+    ensures { λ r. ⌜ Decides (now (s .entry)) (now (b .entry)) (now (ent .entry)) used options h w «has_template» «has_inverse» r ⌝ }
+{
+    match h {
+        HelperDef::Each => each_helper(s, tab, b, used, options, w, has_template, has_inverse),
+        HelperDef::With => with_helper(s, tab, b, used, options, w, has_template, has_inverse),
+        HelperDef::If => if_helper(s, tab, b, options, w, true),
+        HelperDef::Unless => if_helper(s, tab, b, options, w, false),
+        HelperDef::Lookup => lookup_helper(s, tab, b, ent, options, w),
+        HelperDef::Unknown => Does::Bad(14),
+    }
+}
+
+// Expressions
+
+// What an expression does.
+pub enum Shows {
+    // the paper's number of the refusal
+    Bad(u8),
+    // calls a helper with no bodies
+    Helper,
+    // writes that value
+    Value(Value),
+    Nothing,
+}
+
+// Whether the call at p is its name alone.
+fn name_only(b: &[u8], p: usize, d: usize) -> bool
+    requires { ⌜ (length (now b) ≤ 65536) × Holds (call-of (param d)) (bits (now b)) p ⌝ }
+    ensures { λ r. ⌜ name-only (call-at d (bits (now (b .entry))) p) ≡ pick r (some (param-at d (bits (now (b .entry))) p)) none ⌝ }
+{
+    let c = calls::call_at(b, p, d);
+    if c.params == 0 {
+        return c.pairs == 0;
+    }
+    false
+}
+
+// Whether there is a helper whose name a value prints.
+fn is_helper(s: &[u8], tab: &[u64], b: &[u8], v: Value) -> bool
+    requires { ⌜ Accepted (now s) (now tab) × (length (now b) ≤ 65536) × Known (now s) (now b) v ⌝ }
+    ensures { λ r. ⌜ Means (now (s .entry)) (now (b .entry)) v (λ j. r ≡ has (get-helper (render j))) ⌝ }
+{
+    match expand::get_helper(s, tab, b, v) {
+        HelperDef::Each => true,
+        HelperDef::With => true,
+        HelperDef::If => true,
+        HelperDef::Unless => true,
+        HelperDef::Lookup => true,
+        HelperDef::Unknown => false,
+    }
+}
+
+// A missing value is nothing, or an error under strict.
+fn shown(strict: bool, v: Value) -> Shows
+    ensures { λ r. ⌜ r ≡ shown strict v ⌝ }
+{
+    match v {
+        Value::Missing => {
+            if strict {
+                return Shows::Bad(11);
+            }
+            Shows::Nothing
+        }
+        w => Shows::Value(w),
+    }
+}
+
+fn rendered(strict: bool, x: Got) -> Shows
+    ensures { λ r. ⌜ r ≡ rendered strict x ⌝ }
+{
+    match x {
+        Got::Is(v) => shown(strict, v),
+        Got::Bad(n) => Shows::Bad(n),
+    }
+}
+
+// What the expression with the call at p does.
+pub fn expression(
+    s: &[u8],
+    tab: &[u64],
+    b: &[u8],
+    ent: &[u64],
+    list: [Scope; 32],
+    used: usize,
+    options: Options,
+    p: usize,
+    d: usize,
+) -> Shows
+    requires { ⌜ Accepted (now s) (now tab) × (length (now b) ≤ 65536) × (0 < used) × (used ≤ 32) × ((t : ℕ) × ScopesStand (now s) (now b) (now ent) list used t) × Holds (call-of (param d)) (bits (now b)) p ⌝ }
+    ensures { λ r. ⌜ ((g : Registry) (st : RenderContext) (t : ℕ) (ibw : Bool) → Setting (now (s .entry)) (now (b .entry)) (now (ent .entry)) list used options g st t → Expresses (now (s .entry)) (now (b .entry)) (now (ent .entry)) t g (call-at d (bits (now (b .entry))) p) ibw st (render-expression g (call-at d (bits (now (b .entry))) p) ibw st) r) ⌝ }
+{
+    if !name_only(b, p, d) {
+        return Shows::Helper;
+    }
+    let name = expand::expand_as_name(s, tab, b, ent, list, used, options, p, d);
+    match name {
+        Got::Bad(n) => Shows::Bad(n),
+        Got::Is(v) => {
+            if is_helper(s, tab, b, v) {
+                return Shows::Helper;
+            }
+            rendered(
+                options.strict,
+                expand::expand(s, tab, b, ent, list, used, options, p, d),
+            )
+        }
+    }
+}

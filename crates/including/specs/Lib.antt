@@ -1,0 +1,9 @@
+pub mod Values
+pub mod ValuesLaws
+pub mod Pairs
+pub mod PairsLaws
+pub mod Starting
+pub mod Included
+pub mod IncludedLaws
+pub mod Counted
+pub mod Including
