@@ -1,0 +1,111 @@
+// partial.rs: what stands around the drawing of a partial whose scope is open: its block text, its indent, and what is set again behind it.
+ghost use mathlib.Core.Path.{_≡_};
+ghost use Prim.Native.Nat.{_+_, _-_, _^_, _≤_, _<_};
+ghost use lib.ListN.{length};
+ghost use lib.Seq.{sets, slice};
+ghost use Rattle.state.specs.World.{sizes-of};
+ghost use Rattle.texts.specs.Setters.{text-opened, with-block, text-closed, text-place, without-text, indented, cleaned};
+ghost use Rattle.texts.specs.Peeking.{peeked};
+use scope::Scope;
+use state::RenderContext;
+
+// What a partial's own body writes is its block text from here on.
+pub fn open_text(rc: RenderContext) -> RenderContext
+    ensures { λ r. ⌜ r ≡ text-opened rc ⌝ }
+{
+    let mut w = rc.writer;
+    w.block_text = true;
+    state::set_writer(rc, w)
+}
+
+fn with_block(c: Scope, block: u8, text: u16) -> Scope
+    ensures { λ r. ⌜ r ≡ with-block c block text ⌝ }
+{
+    let mut q = c;
+    q.block = block;
+    q.text = text;
+    q
+}
+
+// The text is drawn, from begin on: it goes to the finished ones, and the newest scope has it.
+// The output in force is again the one from before.
+pub fn close_text(
+    texts: &mut [u8],
+    rc: RenderContext,
+    begin: usize,
+    block_text: bool,
+) -> RenderContext
+    requires { ⌜ (0 < rc .used) × (rc .used ≤ 32) × (length (rc .scopes) ≡ 32) ⌝ }
+    requires { ⌜ (begin ≤ rc .writer .low) × (rc .writer .low ≤ rc .writer .high) × (rc .writer .high ≤ length (now texts)) × (rc .writer .low < begin + 65536) ⌝ }
+    ensures { λ r. ⌜ (r ≡ text-closed rc begin «block_text») × (now (texts .exit) ≡ sets (now (texts .entry)) (text-place rc begin) (slice begin (rc .writer .low) (now (texts .entry)))) ⌝ }
+{
+    let mut w = rc.writer;
+    let n = w.low - begin;
+    w.high = output::move_text(texts, begin, w.low, w.high);
+    w.low = begin;
+    w.block_text = block_text;
+    let c = with_block(state::front(rc), 2, n as u16);
+    state::set_writer(state::set_block(rc, c), w)
+}
+
+// A partial without a text.
+pub fn no_text(rc: RenderContext) -> RenderContext
+    requires { ⌜ (0 < rc .used) × (rc .used ≤ 32) × (length (rc .scopes) ≡ 32) ⌝ }
+    ensures { λ r. ⌜ r ≡ without-text rc ⌝ }
+{
+    let c = state::front(rc);
+    state::set_block(rc, with_block(c, 1, c.text))
+}
+
+// The indent is the first len bytes of the lent buffer.
+pub fn with_indent(rc: RenderContext, has: bool, len: usize) -> RenderContext
+    ensures { λ r. ⌜ r ≡ indented rc has len ⌝ }
+{
+    let mut w = rc.writer;
+    w.has_indent = has;
+    w.indent = len;
+    state::set_writer(rc, w)
+}
+
+// The scope of a partial is closed, its block text is given up, and what was saved is set again.
+pub fn cleanup(rc: RenderContext, before: RenderContext) -> RenderContext
+    ensures { λ r. ⌜ r ≡ cleaned rc before ⌝ }
+{
+    let mut q = rc;
+    q.used = before.used;
+    q.total = before.total;
+    q.template = before.template;
+    q.writer.high = before.writer.high;
+    q.writer.indent = before.writer.indent;
+    q.writer.has_indent = before.writer.has_indent;
+    q
+}
+
+// What `@partial-block` stands for: nothing where no partial is open, or where the newest one has no text; or its text, by its
+// place in the buffer and its length.
+pub enum Peek {
+    Absent,
+    Nothing,
+    Text(usize, usize),
+}
+
+pub fn peek_partial_block(rc: RenderContext) -> Peek
+    requires { ⌜ (rc .used ≤ 32) × (length (rc .scopes) ≡ 32) × (rc .writer .high + sizes-of (rc .scopes) (rc .used) < 2 ^ 64) ⌝ }
+    ensures { λ r. ⌜ r ≡ peeked (rc .scopes) (rc .used) (rc .writer .high) ⌝ }
+{
+    let mut from = rc.writer.high;
+    let mut i = rc.used;
+    while 0 < i {
+        i -= 1;
+        let c = rc.scopes[i];
+        let n = c.text as usize;
+        if c.block == 1 {
+            return Peek::Nothing;
+        }
+        if c.block != 0 {
+            return Peek::Text(from, n);
+        }
+        from += n;
+    }
+    Peek::Absent
+}

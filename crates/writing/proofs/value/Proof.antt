@@ -1,0 +1,60 @@
+use mathlib.Core.Bool.{not}
+use mathlib.Core.Path.{_≡_, subst}
+use Rattle.rules.specs.Bytes.{Bytes}
+use Rattle.rules.specs.Value.{render}
+use Rattle.rules.specs.Output.{indent-aware-write}
+use Rattle.output.specs.Outputs.{outputs, on}
+use Rattle.support.specs.Feed.{escaped, fed}
+use Rattle.meaning.specs.Meaning.{json-of}
+use Rattle.meaning.specs.Means.{means-so}
+use Rattle.print.specs.Printed.{printed}
+use Rattle.state.specs.World.{world, abs, Draws}
+use Rattle.writing.specs.Writes.{Wrote}
+use Rattle.writing.specs.Laws.{draws-fed, escape-is, wrote-fed}
+use borrow.Author.Needs.{needs}
+use Rattle.writing.proofs.value.Statement.{statement}
+use Rattle.writing.proofs.value.Tie as tie
+
+begin-requires : tie.Need-begin-requires
+begin-requires c κs = search needs
+
+feed-value-requires : tie.Need-feed-value-requires
+feed-value-requires c κs = search needs
+
+finish-requires : tie.Need-finish-requires
+finish-requires c κs = search needs
+
+wrote-requires : tie.Need-wrote-requires
+wrote-requires c κs = search needs
+
+same-length : tie.Need-same-length
+same-length c = search needs
+
+same-length-2 : tie.Need-same-length-2
+same-length-2 c = search needs
+
+returns : tie.Need-returns
+returns c =
+    let a = c .before .before .before .before .before .before .before .before .before .before .before .before .before .before .before .before .before .args in
+    let f = c .before .before .before .before .before .before .feed-value in
+    let page = f .last .0 in
+    let texts = f .last .1 .0 in
+    let r = c .wrote .result in
+    let w = c .before .before .before .before .before .before .before .before .before .before .begin .result in
+    let i = a .indent .now in
+    let e = not (a .rc .«disable_escape») in
+    let m = means-so (a .s .now) (a .b .now) (a .v)
+    (λ j. outputs (f .result) page texts ≡ on (printed i e (render j)) (outputs w (a .page .now) (a .texts .now)))
+    (λ j. Wrote (a .rc) r page texts (fed i (escaped e (render j)) (outputs (a .rc .writer) (a .page .now) (a .texts .now))))
+    (λ j h. wrote-fed (a .rc) r w (f .result) (c .before .finish .result) i (escaped e (render j)) (a .page .now) (a .texts .now) page texts (c .before .before .before .before .before .before .before .before .before .before .begin .ensures) h (c .before .finish .ensures) (c .wrote .ensures))
+    (f .ensures) in (
+      m,
+      λ ent t st ready.
+          let j = render (json-of (a .s .now) (a .b .now) ent (a .v)) in
+          let x = world (a .rc) (a .page .now) (a .texts .now) i ent in
+          subst (λ (y : Bytes). Draws (a .s .now) (a .b .now) x (world r page texts i ent) (indent-aware-write y (abs (a .s .now) (a .b .now) x))) (escape-is (a .s .now) (a .b .now) x j)
+          (draws-fed (a .s .now) (a .b .now) x r page texts ready (escaped e j) (m .at ent t st)),
+    )
+
+pub value-spec : {M : Type 1} → statement M
+value-spec = tie.close (tie.spec begin-requires feed-value-requires finish-requires wrote-requires same-length same-length-2 returns)

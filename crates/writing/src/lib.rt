@@ -1,0 +1,126 @@
+// render.rs and partial.rs: the leaves that write. Each writes into the output in force, page or block texts, and leaves what
+// the rules draw: where it does not fit, 24 or 25. s is the plan, b the bundle; indent is the buffer of which the indent in
+// force is a prefix.
+ghost use mathlib.Core.Bool.{not};
+ghost use mathlib.Core.List.{List};
+ghost use mathlib.Core.Path.{_≡_};
+ghost use Prim.Native.Nat.{ℕ, _+_, _*_, _^_, _≤_, _<_};
+ghost use lib.ListN.{length, take, drop};
+ghost use Rattle.rules.specs.Bytes.{Bytes};
+ghost use Rattle.rules.specs.Bits.{bits};
+ghost use Rattle.rules.specs.Bundle.{string};
+ghost use Rattle.rules.specs.Output.{write, do-escape, indent-aware-write};
+ghost use Rattle.rules.specs.Value.{render};
+ghost use Rattle.bits.specs.Packed.{bytes-at};
+ghost use Rattle.output.specs.Writer.{all-put};
+ghost use Rattle.output.specs.Outputs.{outputs, on};
+ghost use Rattle.support.specs.Feed.{all-emitted, escaped, fed};
+ghost use Rattle.layout.specs.Text.{text-at};
+ghost use Rattle.parts.specs.Holds.{Holds};
+ghost use Rattle.places.specs.Accepted.{Accepted};
+ghost use Rattle.meaning.specs.Meaning.{json-of};
+ghost use Rattle.meaning.specs.Standing.{Stands};
+ghost use Rattle.meaning.specs.Forms.{Known};
+ghost use Rattle.meaning.specs.Means.{Means};
+ghost use Rattle.print.specs.Printed.{printed};
+ghost use Rattle.state.specs.World.{world};
+ghost use Rattle.writing.specs.Writes.{Wrote, Writes};
+use output::Writer;
+use state::RenderContext;
+use value::Value;
+
+// The n bytes of a packed string, into the output in force.
+fn feed_packed(
+    page: &mut [u8],
+    texts: &mut [u8],
+    indent: &[u8],
+    w: Writer,
+    b: &[u8],
+    p: usize,
+    n: usize,
+) -> Writer
+    requires { ⌜ p + 8 * n < 2 ^ 64 ⌝ }
+    ensures { λ r. ⌜ outputs r (now (page .exit)) (now (texts .exit)) ≡ on (all-emitted (now (indent .entry)) (bytes-at (bits (now (b .entry))) p n)) (outputs w (now (page .entry)) (now (texts .entry))) ⌝ }
+{
+    if w.block_text {
+        return support::feed_packed(texts, indent, w, b, p, n);
+    }
+    support::feed_packed(page, indent, w, b, p, n)
+}
+
+// `RawString`: its text, the string at p, as it is.
+pub fn raw_string(
+    page: &mut [u8],
+    texts: &mut [u8],
+    indent: &[u8],
+    b: &[u8],
+    p: usize,
+    rc: RenderContext,
+) -> RenderContext
+    requires { ⌜ (length (now b) ≤ 65536) × Holds string (bits (now b)) p ⌝ }
+    ensures { λ r. ⌜ Wrote rc r (now (page .exit)) (now (texts .exit)) (fed (now (indent .entry)) (text-at (bits (now (b .entry))) p) (outputs (rc .writer) (now (page .entry)) (now (texts .entry)))) ⌝ }
+    ensures { λ r. ⌜ ((s : Bytes) (ent : List ℕ) → Writes s (now (b .entry)) (world rc (now (page .entry)) (now (texts .entry)) (now (indent .entry)) ent) (world r (now (page .exit)) (now (texts .exit)) (now (indent .entry)) ent) (indent-aware-write (text-at (bits (now (b .entry))) p))) ⌝ }
+{
+    let t = parts::text_at(b, p);
+    let w = support::begin(rc.writer);
+    let q = feed_packed(page, texts, indent, w, b, t.first, t.count);
+    state::wrote(rc, support::finish(q))
+}
+
+// What a value prints, into the output in force.
+fn feed_value(
+    page: &mut [u8],
+    texts: &mut [u8],
+    indent: &[u8],
+    w: Writer,
+    s: &[u8],
+    tab: &[u64],
+    b: &[u8],
+    v: Value,
+    escape: bool,
+) -> Writer
+    requires { ⌜ Accepted (now s) (now tab) × (length (now b) ≤ 65536) × Known (now s) (now b) v ⌝ }
+    ensures { λ r. ⌜ Means (now (s .entry)) (now (b .entry)) v (λ j. outputs r (now (page .exit)) (now (texts .exit)) ≡ on (printed (now (indent .entry)) escape (render j)) (outputs w (now (page .entry)) (now (texts .entry)))) ⌝ }
+{
+    if w.block_text {
+        return print::write_value(texts, indent, w, s, tab, b, v, escape);
+    }
+    print::write_value(page, indent, w, s, tab, b, v, escape)
+}
+
+// `Expression` and `HtmlExpression`: what a value prints, escaped unless that is disabled.
+pub fn value(
+    page: &mut [u8],
+    texts: &mut [u8],
+    indent: &[u8],
+    s: &[u8],
+    tab: &[u64],
+    b: &[u8],
+    v: Value,
+    rc: RenderContext,
+) -> RenderContext
+    requires { ⌜ Accepted (now s) (now tab) × (length (now b) ≤ 65536) × Known (now s) (now b) v ⌝ }
+    ensures { λ r. ⌜ Means (now (s .entry)) (now (b .entry)) v (λ j. Wrote rc r (now (page .exit)) (now (texts .exit)) (fed (now (indent .entry)) (escaped (not (rc .«disable_escape»)) (render j)) (outputs (rc .writer) (now (page .entry)) (now (texts .entry))))) ⌝ }
+    ensures { λ r. ⌜ ((ent : List ℕ) (t : ℕ) → Stands (now (s .entry)) (now (b .entry)) ent t v → Writes (now (s .entry)) (now (b .entry)) (world rc (now (page .entry)) (now (texts .entry)) (now (indent .entry)) ent) (world r (now (page .exit)) (now (texts .exit)) (now (indent .entry)) ent) (λ x. indent-aware-write (do-escape x (render (json-of (now (s .entry)) (now (b .entry)) ent v))) x)) ⌝ }
+{
+    let w = support::begin(rc.writer);
+    let u = feed_value(page, texts, indent, w, s, tab, b, v, !rc.disable_escape);
+    state::wrote(rc, support::finish(u))
+}
+
+// `@partial-block`: the finished block text of n bytes at the place from is written out again, plainly.
+pub fn partial_block_text(
+    page: &mut [u8],
+    texts: &mut [u8],
+    rc: RenderContext,
+    from: usize,
+    n: usize,
+) -> RenderContext
+    requires { ⌜ (rc .writer .high ≤ from) × (from + n ≤ length (now texts)) ⌝ }
+    ensures { λ r. ⌜ Wrote rc r (now (page .exit)) (now (texts .exit)) (on (all-put (take n (drop from (now (texts .entry))))) (outputs (rc .writer) (now (page .entry)) (now (texts .entry)))) ⌝ }
+    ensures { λ r. ⌜ ((s b indent : Bytes) (ent : List ℕ) → Writes s b (world rc (now (page .entry)) (now (texts .entry)) indent ent) (world r (now (page .exit)) (now (texts .exit)) indent ent) (write (take n (drop from (now (texts .entry)))))) ⌝ }
+{
+    let w = rc.writer;
+    let q = output::write_text(page, texts, w, from, n);
+    state::wrote(rc, q)
+}
