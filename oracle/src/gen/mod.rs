@@ -1,5 +1,6 @@
 //! Generated cases: one module for each profile, and what they share.
 
+pub mod calls;
 pub mod damaged;
 pub mod json;
 pub mod limits;
@@ -89,8 +90,9 @@ pub struct Order {
     pub cabinets: usize,
 }
 
-/// `marks` and `nest` are narrower than `rich`, and denser: indents, and paths.
-pub const PROFILES: [&str; 7] = ["rich", "marks", "nest", "limits", "damaged", "json", "sheets"];
+/// `marks`, `nest` and `calls` are narrower than `rich`, and denser: indents, paths, and calls.
+pub const PROFILES: [&str; 8] =
+    ["rich", "marks", "nest", "limits", "damaged", "json", "sheets", "calls"];
 
 /// One case of a run.
 fn one(order: &Order, index: u64) -> Case {
@@ -102,6 +104,7 @@ fn one(order: &Order, index: u64) -> Case {
         "limits" => limits::case(&mut rng, index).0,
         "damaged" => damaged::case(&mut rng),
         "json" => json::case(&mut rng),
+        "calls" => calls::case(&mut rng),
         _ => sheets::case(&mut rng, order.cabinets),
     }
 }

@@ -86,6 +86,9 @@ pub const PARTS: [Part; 9] = [
     Part { profile: "sheets", seed: 7, count: 1, max_bytes: 65_536, cabinets: 120, most_of_one: 3 },
 ];
 
+/// The list of calls, which stands on its own.
+pub const CALLS: [Part; 2] = [part("calls", 1, 900, 330, 560), part("calls", 2, 300, 420, 110)];
+
 impl Part {
     fn order(&self) -> Order {
         Order {
@@ -120,11 +123,11 @@ impl Part {
     }
 }
 
-/// The whole list, one list for each part.
-pub fn make() -> Result<Vec<(&'static Part, Vec<Vector>)>, String> {
+/// A whole list, one list for each part.
+pub fn make(parts: &'static [Part]) -> Result<Vec<(&'static Part, Vec<Vector>)>, String> {
     with_big_stack(|| {
         let mut seen = HashSet::new();
-        PARTS.iter().map(|p| Ok((p, p.make(&mut seen)?))).collect()
+        parts.iter().map(|p| Ok((p, p.make(&mut seen)?))).collect()
     })
 }
 
