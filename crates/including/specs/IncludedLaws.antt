@@ -7,7 +7,7 @@ use mathlib.Core.Path.{_≡_, refl, sym, ap, ap₂, _∙_, subst}
 use native.Mathlib.Omega.{arith}
 use lib.Dec.{eqb}
 use lib.ListN.{getD}
-use borrow.Author.Tests.{eqb-true, eqb-false}
+use borrow.Author.Tests.{eqb-true, eqb-false, ne-eqb}
 use Rattle.rules.specs.Bytes.{Bytes, pick, before}
 use Rattle.rules.specs.Bits.{bits}
 use Rattle.rules.specs.Json.{Json, count}
@@ -32,11 +32,12 @@ use Rattle.scope.specs.Standing.{ScopeStands}
 use Rattle.scope.specs.StackLaws.{context-kept, scope-kept}
 use Rattle.scope.specs.Made.{child, with-names, with-locals}
 use Rattle.scope.specs.MadeLaws.{child-stands, with-locals-stands, with-names-stands, partial-is, partial-hash-is}
+use Rattle.members.specs.Parts.{Parts}
 use Rattle.expand.proofs.Calling.{as-json-of}
 use Rattle.including.specs.Values.{pair-place, hash-pairs}
 use Rattle.including.specs.ValuesLaws.{encoded-near}
 use Rattle.including.specs.Pairs.{with-pairs}
-use Rattle.including.specs.PairsLaws.{PairAt, key-holds, pairs-agree, pair-stored}
+use Rattle.including.specs.PairsLaws.{PairAt, key-holds, pairs-length, pairs-agree, pair-stored}
 use Rattle.including.specs.Included.{included, entries-of, Mergeable}
 
 module _ (s b : Bytes) (ent : List ℕ) (t : ℕ) (base : Value) (l : List ℕ) (d p n : ℕ) (M : Mergeable s b ent t base l d p n) where
@@ -73,8 +74,13 @@ module _ (s b : Bytes) (ent : List ℕ) (t : ℕ) (base : Value) (l : List ℕ) 
   values-stand : (i : ℕ) → i < n → Stands s b after t (hash-value after (t + i))
   values-stand i lt = subst (Stands s b after t) (sym (value-at i lt)) (kept s b ent after t (decoded (getD l i 0)) agree (M .values i lt) .stands)
 
-  pub merged-stands : 0 < n → Stands s b after (t + n) (Merged t n)
-  merged-stands lt = merged {t = t + n} t n (omega arith) (keys-stand lt) (base-stands lt) values-stand
+  pub merged-parts : 0 < n → Parts s b after t n
+  merged-parts lt = record {
+    room = omega (arith, M .room, pairs-length ent (bits b) t (encoded base) l d p n);
+    keys = keys-stand lt;
+    base = base-stands lt;
+    values = values-stand;
+  }
 
   -- the pairs in the table are the hash
   pairs-from : (m i : ℕ) → i + m ≤ n → pairs b after (json-of s b after) (t + i) m ≡ hash-ctx (hash-pairs s b ent d p l i m)
@@ -95,6 +101,30 @@ module _ (s b : Bytes) (ent : List ℕ) (t : ℕ) (base : Value) (l : List ℕ) 
       stands-merged-is s b after t n (base-stands lt) values-stand
       ∙ ap₂ merge-json (ap (json-of s b after) (base-at lt) ∙ sym (kept s b ent after t base agree (M .stands) .means)) pairs-are
 
+  -- Entries
+
+  pub entries-are : entries-of n (json-of s b after (Merged t n)) ≡ merged-entries hash (merge-json (json-of s b ent base) hash)
+  entries-are = go (eqb n 0) refl
+    where
+      some-entries : (m : ℕ) → 0 < m → count (base-map (merge-json (json-of s b ent base) (hash-ctx (hash-pairs s b ent d p l 0 m)))) ≡ merged-entries (hash-ctx (hash-pairs s b ent d p l 0 m)) (merge-json (json-of s b ent base) (hash-ctx (hash-pairs s b ent d p l 0 m)))
+      some-entries zero lt = absurd (omega arith)
+      some-entries (suc m) lt = refl
+
+      go : (y : Bool) → eqb n 0 ≡ y → pick y 0 (count (base-map (json-of s b after (Merged t n)))) ≡ merged-entries hash (merge-json (json-of s b ent base) hash)
+      go true e = ap (λ (k : ℕ). merged-entries (hash-ctx (hash-pairs s b ent d p l 0 k)) (merge-json (json-of s b ent base) (hash-ctx (hash-pairs s b ent d p l 0 k)))) (sym (eqb-true n 0 e))
+      go false e =
+          let lt : 0 < n = omega (arith, eqb-false n 0 e) in
+          ap (λ (j : Json). count (base-map j)) (merged-means lt) ∙ some-entries n lt
+
+  -- within limit 22 the merged object stands
+  abbrev Admitted : Type 0
+  Admitted = merged-entries hash (merge-json (json-of s b ent base) hash) ≤ 4096
+
+  pub merged-stands : Admitted → 0 < n → Stands s b after (t + n) (Merged t n)
+  merged-stands few lt =
+      let e : entries-of n (json-of s b after (Merged t n)) ≡ count (base-map (json-of s b after (Merged t n))) = rw (ne-eqb n 0 (λ z. omega arith)) in
+      merged {t = t + n} t n (omega arith) (keys-stand lt) (base-stands lt) values-stand (omega (arith, few, entries-are))
+
   -- The scope
 
   merged-fits : Fits (Merged t n)
@@ -113,8 +143,8 @@ module _ (s b : Bytes) (ent : List ℕ) (t : ℕ) (base : Value) (l : List ℕ) 
     around : ScopeStands s b after front
     around = scope-kept s b ent after front t agree F le ends
 
-    pub included-stands : is-missing base ≡ false → ScopeStands s b after (included base t n front)
-    included-stands present = go (eqb n 0) refl
+    pub included-stands : Admitted → is-missing base ≡ false → ScopeStands s b after (included base t n front)
+    included-stands bound present = go (eqb n 0) refl
       where
         go : (y : Bool) → eqb n 0 ≡ y → ScopeStands s b after (pick y (with-locals (child (encoded base) t) front) (with-names (with-locals (child (encoded (Merged t n)) (t + n)) front) 3 0))
         go true e =
@@ -124,7 +154,7 @@ module _ (s b : Bytes) (ent : List ℕ) (t : ℕ) (base : Value) (l : List ℕ) 
             let lt : 0 < n = omega (arith, eqb-false n 0 e) in
             with-names-stands s b after (with-locals (child (encoded (Merged t n)) (t + n)) front) 3 0
             (with-locals-stands s b after (child (encoded (Merged t n)) (t + n)) front
-            (child-stands s b after (encoded (Merged t n)) (t + n) (ap is-missing merged-number) (subst (Stands s b after (t + n)) (sym merged-number) (merged-stands lt))) around (omega arith))
+            (child-stands s b after (encoded (Merged t n)) (t + n) (ap is-missing merged-number) (subst (Stands s b after (t + n)) (sym merged-number) (merged-stands bound lt))) around (omega arith))
             (refl, λ q. let x : some (t, n) ≡ none = sym (ap merged-of merged-number) ∙ q in let z : _≡_ {A = ℕ} 0 1 = cc in absurd (omega arith))
 
     module _ (st : RenderContext) (block : st .kept .block ≡ context-of s b ent front) where
@@ -144,18 +174,3 @@ module _ (s b : Bytes) (ent : List ℕ) (t : ℕ) (base : Value) (l : List ℕ) 
               let lt : 0 < n = omega (arith, eqb-false n 0 e) in
               partial-hash-is s b after (encoded (Merged t n)) (t + n) front st locals t n merged-number lt
               ∙ ap₂ (include-block st) pairs-are (merged-means lt)
-
-  -- Entries
-
-  pub entries-are : entries-of n (json-of s b after (Merged t n)) ≡ merged-entries hash (merge-json (json-of s b ent base) hash)
-  entries-are = go (eqb n 0) refl
-    where
-      some-entries : (m : ℕ) → 0 < m → count (base-map (merge-json (json-of s b ent base) (hash-ctx (hash-pairs s b ent d p l 0 m)))) ≡ merged-entries (hash-ctx (hash-pairs s b ent d p l 0 m)) (merge-json (json-of s b ent base) (hash-ctx (hash-pairs s b ent d p l 0 m)))
-      some-entries zero lt = absurd (omega arith)
-      some-entries (suc m) lt = refl
-
-      go : (y : Bool) → eqb n 0 ≡ y → pick y 0 (count (base-map (json-of s b after (Merged t n)))) ≡ merged-entries hash (merge-json (json-of s b ent base) hash)
-      go true e = ap (λ (k : ℕ). merged-entries (hash-ctx (hash-pairs s b ent d p l 0 k)) (merge-json (json-of s b ent base) (hash-ctx (hash-pairs s b ent d p l 0 k)))) (sym (eqb-true n 0 e))
-      go false e =
-          let lt : 0 < n = omega (arith, eqb-false n 0 e) in
-          ap (λ (j : Json). count (base-map j)) (merged-means lt) ∙ some-entries n lt

@@ -32,6 +32,7 @@ use Rattle.value.specs.Numbers.{encoded}
 use Rattle.meaning.specs.Meaning.{json-of}
 use Rattle.meaning.specs.Kept.{Agree}
 use Rattle.lookup.specs.Answers.{Held}
+use Rattle.members.specs.Parts.{Parts}
 use Rattle.scope.specs.declared.Scope.{Scope}
 use Rattle.scope.specs.Scopes.{blank, context-of}
 use Rattle.scope.specs.Standing.{ScopeStands}
@@ -45,7 +46,7 @@ use Rattle.including.specs.Pairs.{PairsStand, with-pairs}
 use Rattle.including.specs.PairsLaws.{call-pairs-stand, pairs-length, pairs-agree}
 use Rattle.including.specs.Starting.{front-is, front-stands, front-ends}
 use Rattle.including.specs.Included.{included, entries-of, Mergeable}
-use Rattle.including.specs.IncludedLaws.{merged-stands, merged-means, entries-are, included-is, included-stands}
+use Rattle.including.specs.IncludedLaws.{merged-parts, merged-stands, merged-means, entries-are, included-is, included-stands}
 use Rattle.including.specs.Counted.{pairs-taken}
 
 -- the hash of a call that was worked out
@@ -65,13 +66,14 @@ pub record Includes (s b : Bytes) (ent : List ℕ) (t : ℕ) (base : Value) (l :
   -- the entries that were in use are as they were
   pub agree : Agree ent (with-pairs ent (bits b) t (encoded base) l d p n) t
   pub long : length (with-pairs ent (bits b) t (encoded base) l d p n) ≡ length ent
-  -- the merged object, and the entries that it takes
-  pub held : 0 < n → Held s b (with-pairs ent (bits b) t (encoded base) l d p n) (Merged t n)
+  -- the merged object, and the entries that it takes: it stands within limit 22
+  pub parts : 0 < n → Parts s b (with-pairs ent (bits b) t (encoded base) l d p n) t n
   pub means : 0 < n → json-of s b (with-pairs ent (bits b) t (encoded base) l d p n) (Merged t n) ≡ merge-json j h
   pub entries : entries-of n (json-of s b (with-pairs ent (bits b) t (encoded base) l d p n) (Merged t n)) ≡ merged-entries h (merge-json j h)
+  pub held : merged-entries h (merge-json j h) ≤ 4096 → 0 < n → Held s b (with-pairs ent (bits b) t (encoded base) l d p n) (Merged t n)
   -- the scope: it stands behind the pairs, and has no inline partials yet
   pub scope : context-of s b (with-pairs ent (bits b) t (encoded base) l d p n) (included base t n front) ≡ include-block st h (merge-json j h)
-  pub stands : ScopeStands s b (with-pairs ent (bits b) t (encoded base) l d p n) (included base t n front)
+  pub stands : merged-entries h (merge-json j h) ≤ 4096 → ScopeStands s b (with-pairs ent (bits b) t (encoded base) l d p n) (included base t n front)
   pub behind : included base t n front .inline ≡ t + n
   pub empty : included base t n front .count ≡ 0
 
@@ -121,17 +123,18 @@ module _ (s b : Bytes) (ent : List ℕ) (list : List Scope) (used : ℕ) (o : Op
     included-so = record {
       agree = pairs-agree ent (bits b) t (encoded base) l d (v .pair) (v .pairs);
       long = pairs-length ent (bits b) t (encoded base) l d (v .pair) (v .pairs);
-      held = λ h. record {
+      parts = merged-parts s b ent t base l d (v .pair) (v .pairs) mergeable;
+      held = λ x h. record {
         used = t + v .pairs;
         room = omega (arith, room, pairs-length ent (bits b) t (encoded base) l d (v .pair) (v .pairs));
-        stands = merged-stands s b ent t base l d (v .pair) (v .pairs) mergeable h;
+        stands = merged-stands s b ent t base l d (v .pair) (v .pairs) mergeable x h;
       };
       means = merged-means s b ent t base l d (v .pair) (v .pairs) mergeable;
       entries = entries-are s b ent t base l d (v .pair) (v .pairs) mergeable;
       scope =
           included-is s b ent t base l d (v .pair) (v .pairs) mergeable front (front-stands s b ent list used o g st t S lt) (front-ends s b ent list used o g st t S lt) st (front-is s b ent list used o g st t S lt) (B .pathless);
-      stands =
-          included-stands s b ent t base l d (v .pair) (v .pairs) mergeable front (front-stands s b ent list used o g st t S lt) (front-ends s b ent list used o g st t S lt) (B .present);
+      stands = λ x.
+          included-stands s b ent t base l d (v .pair) (v .pairs) mergeable front (front-stands s b ent list used o g st t S lt) (front-ends s b ent list used o g st t S lt) x (B .present);
       behind = scope-behind base t (v .pairs) front .0;
       empty = scope-behind base t (v .pairs) front .1;
     }

@@ -57,7 +57,7 @@ plain-fits s b h le (Merged k n) p = absurd p
 
 pub stands-fits : (s b : Bytes) (ent : List ℕ) (t : ℕ) → answer s ≡ 0 → length b ≤ 65536 → t ≤ 4096 → (v : Value) → Stands s b ent t v → Fits v
 stands-fits s b ent t h le few v (plain e p) = plain-fits s b h le v p
-stands-fits s b ent t h le few v (merged k n within keys base values) = (omega arith, keys .few)
+stands-fits s b ent t h le few v (merged k n within keys base values bound) = (omega arith, keys .few)
 
 pub encoded-near : (v : Value) → Fits v → encoded v < 4294967296
 encoded-near Missing f = omega arith

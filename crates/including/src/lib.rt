@@ -16,7 +16,7 @@ ghost use Rattle.expand.specs.Answers.{Setting};
 ghost use Rattle.value.specs.Numbers.{Fits, encoded};
 ghost use Rattle.value.specs.declared.Value.the-variants.{Merged};
 ghost use Rattle.meaning.specs.Meaning.{json-of};
-ghost use Rattle.lookup.specs.Answers.{Held};
+ghost use Rattle.members.specs.Parts.{Parts};
 ghost use Rattle.including.specs.Values.{number-of, GotFits, HashValues};
 ghost use Rattle.including.specs.Pairs.{with-pairs};
 ghost use Rattle.including.specs.Starting.{StartsPartial};
@@ -120,11 +120,11 @@ pub fn scope_of(base: Value, t: usize, n: usize, front: Scope) -> Scope
 
 // How many entries the merged object takes, for limit 22.
 pub fn merged_entries(s: &[u8], tab: &[u64], b: &[u8], ent: &[u64], t: usize, n: usize) -> usize
-    requires { ⌜ Accepted (now s) (now tab) × (length (now b) ≤ 65536) × (0 < n → Held (now s) (now b) (now ent) (Merged t n)) ⌝ }
+    requires { ⌜ Accepted (now s) (now tab) × (length (now b) ≤ 65536) × (0 < n → Parts (now s) (now b) (now ent) t n) ⌝ }
     ensures { λ r. ⌜ r ≡ entries-of n (json-of (now (s .entry)) (now (b .entry)) (now (ent .entry)) (Merged t n)) ⌝ }
 {
     if n == 0 {
         return 0;
     }
-    members::member_count(s, tab, b, ent, Value::Merged(t, n))
+    members::merged_count(s, tab, b, ent, t, n)
 }

@@ -6,10 +6,10 @@ use mathlib.Core.Path.{_≡_, refl, sym, ap, ap₂, _∙_, subst}
 use native.Mathlib.Omega.{arith}
 use lib.ListN.{getD}
 use Rattle.rules.specs.Bytes.{Bytes, before}
-use Rattle.rules.specs.Json.{Json}
+use Rattle.rules.specs.Json.{Json, count}
 use Rattle.rules.specs.Bits.{bits}
 use Rattle.rules.specs.Bundle.{string}
-use Rattle.rules.specs.Context.{merge-json}
+use Rattle.rules.specs.Context.{base-map, merge-json}
 use Rattle.layout.specs.Text.{text-at}
 use Rattle.parts.specs.Holds.{Holds}
 use Rattle.value.specs.declared.Value.{Value}
@@ -73,17 +73,15 @@ module _ (s b : Bytes) (ent ent′ : List ℕ) where
 
   pub kept : (t : ℕ) (v : Value) → Agree ent ent′ t → Stands s b ent t v → Kept s b ent ent′ t v
   kept t v a (plain e p) = record { stands = plain e p; means = plain-is s b ent v e ∙ sym (plain-is s b ent′ v e) }
-  kept t v a (merged h n le k base values) =
+  kept t v a (merged h n le k base values few) =
       let lower : Agree ent ent′ h = record { same = λ i lt. a .same i (omega arith) } in
       let c = kept h (hash-base ent h) lower base in
       let f : (i : ℕ) → i < n → Kept s b ent ent′ h (hash-value ent (h + i)) = λ i lt. kept h (hash-value ent (h + i)) lower (values i lt) in
       let base′ : Stands s b ent′ h (hash-base ent′ h) = subst (Stands s b ent′ h) (base-same t h a (omega (arith, k .some))) (c .stands) in
       let values′ : (i : ℕ) → i < n → Stands s b ent′ h (hash-value ent′ (h + i)) = λ i lt. subst (Stands s b ent′ h) (value-same t (h + i) a (omega arith)) (f i lt .stands) in
-      record {
-        stands = merged {t = t} h n le (keys-same t h n a le k) base′ values′;
-        means =
-            stands-merged-is s b ent h n base values
-            ∙ ap₂ merge-json (c .means ∙ ap (json-of s b ent′) (base-same t h a (omega (arith, k .some))))
-            (pairs-same t h n a le (λ i ge lt. let x : h + (i - h) ≡ i = omega arith in subst (λ (y : ℕ). json-of s b ent (hash-value ent y) ≡ json-of s b ent′ (hash-value ent y)) x (f (i - h) (omega arith) .means)))
-            ∙ sym (stands-merged-is s b ent′ h n base′ values′);
-      }
+      let means : json-of s b ent (Merged h n) ≡ json-of s b ent′ (Merged h n) =
+      stands-merged-is s b ent h n base values
+      ∙ ap₂ merge-json (c .means ∙ ap (json-of s b ent′) (base-same t h a (omega (arith, k .some))))
+      (pairs-same t h n a le (λ i ge lt. let x : h + (i - h) ≡ i = omega arith in subst (λ (y : ℕ). json-of s b ent (hash-value ent y) ≡ json-of s b ent′ (hash-value ent y)) x (f (i - h) (omega arith) .means)))
+      ∙ sym (stands-merged-is s b ent′ h n base′ values′) in
+      record { stands = merged {t = t} h n le (keys-same t h n a le k) base′ values′ (subst (λ (j : Json). count (base-map j) ≤ 4096) means few); means = means }

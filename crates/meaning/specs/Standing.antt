@@ -10,7 +10,8 @@ use Rattle.rules.specs.Bytes.{Bytes, before, maybe}
 use Rattle.rules.specs.Utf8.{utf8}
 use Rattle.rules.specs.Bits.{bits}
 use Rattle.rules.specs.Bundle.{string, literal}
-use Rattle.rules.specs.Context.{chars}
+use Rattle.rules.specs.Json.{count}
+use Rattle.rules.specs.Context.{chars, base-map}
 use Rattle.bits.specs.Packed.{bytes-at}
 use Rattle.layout.specs.Text.{text-at}
 use Rattle.parts.specs.Holds.{Holds}
@@ -20,7 +21,7 @@ use Rattle.places.specs.Places.{places, live-at}
 use Rattle.value.specs.declared.Value.{Value}
 use Rattle.value.specs.declared.Value.the-variants.{Missing, Null, False, True, Empty, Context, Place, Literal, Index, IndexText, Name, Text, SaidChar, PackedChar, Merged}
 use Rattle.meaning.specs.Entries.{place, hash-value, hash-base}
-use Rattle.meaning.specs.Meaning.{merged-of, rank}
+use Rattle.meaning.specs.Meaning.{merged-of, rank, json-of}
 
 -- the first quote of a string of the plan
 pub record NameStands (s : Bytes) (o : ℕ) : Type 0 where
@@ -65,26 +66,26 @@ pub record KeysStand (b : Bytes) (ent : List ℕ) (h n : ℕ) : Type 0 where
   pub keys : (i : ℕ) → i < n → Holds string (bits b) (place ent (h + i))
   pub ascend : (i : ℕ) → suc i < n → before (text-at (bits b) (place ent (h + i))) (text-at (bits b) (place ent (h + suc i))) ≡ true
 
--- t is behind the entries in use; what a merged object has inside was there before it
+-- t is behind the entries in use; what a merged object has inside was there before it; limit 22 bounds its members
 pub data Stands (s b : Bytes) (ent : List ℕ) : ℕ → Value → Type 0 where
   plain : {t : ℕ} {v : Value} → merged-of v ≡ none → PlainStands s b v → Stands s b ent t v
   merged : {t : ℕ} (h n : ℕ) → h + n ≤ t → KeysStand b ent h n → Stands s b ent h (hash-base ent h)
-      → ((i : ℕ) → i < n → Stands s b ent h (hash-value ent (h + i))) → Stands s b ent t (Merged h n)
+      → ((i : ℕ) → i < n → Stands s b ent h (hash-value ent (h + i))) → count (base-map (json-of s b ent (Merged h n))) ≤ 4096 → Stands s b ent t (Merged h n)
 
 module _ (s b : Bytes) (ent : List ℕ) where
   -- its rank is not behind t
   pub stands-rank : (t : ℕ) (v : Value) → Stands s b ent t v → rank v ≤ t
   stands-rank t v (plain e p) = rw e (omega arith)
-  stands-rank t v (merged h n le k base values) = omega (arith, k .some)
+  stands-rank t v (merged h n le k base values few) = omega (arith, k .some)
 
   pub stands-plain : (t : ℕ) (v : Value) → merged-of v ≡ none → Stands s b ent t v → PlainStands s b v
   stands-plain t v e (plain f p) = p
-  stands-plain t v e (merged h n le k base values) = let z : _≡_ {A = ℕ} 0 1 = cc in absurd (omega arith)
+  stands-plain t v e (merged h n le k base values few) = let z : _≡_ {A = ℕ} 0 1 = cc in absurd (omega arith)
 
   -- with more entries in use
   pub stands-later : (t u : ℕ) (v : Value) → t ≤ u → Stands s b ent t v → Stands s b ent u v
   stands-later t u v le (plain e p) = plain e p
-  stands-later t u v le (merged h n l k base values) = merged {t = u} h n (omega arith) k base values
+  stands-later t u v le (merged h n l k base values few) = merged {t = u} h n (omega arith) k base values few
 
 -- what a merged object has inside
 pub record MergedStands (s b : Bytes) (ent : List ℕ) (t h n : ℕ) : Type 0 where
@@ -92,12 +93,13 @@ pub record MergedStands (s b : Bytes) (ent : List ℕ) (t h n : ℕ) : Type 0 wh
   pub keys : KeysStand b ent h n
   pub base : Stands s b ent h (hash-base ent h)
   pub values : (i : ℕ) → i < n → Stands s b ent h (hash-value ent (h + i))
+  pub few : count (base-map (json-of s b ent (Merged h n))) ≤ 4096
 
 module _ (s b : Bytes) (ent : List ℕ) where
   pub stands-merged : (t : ℕ) (v : Value) (h n : ℕ) → merged-of v ≡ some (h, n) → Stands s b ent t v → MergedStands s b ent t h n
   stands-merged t v h n e (plain f p) = let z : _≡_ {A = ℕ} 0 1 = cc in absurd (omega arith)
-  stands-merged t v h n e (merged g m le k base values) =
+  stands-merged t v h n e (merged g m le k base values few) =
       let p : g ≡ h = ap (λ (o : Option (ℕ × ℕ)). maybe o 0 (λ m. m .0)) e in
       let q : m ≡ n = ap (λ (o : Option (ℕ × ℕ)). maybe o 0 (λ m. m .1)) e in
       subst (λ (x : ℕ). MergedStands s b ent t x n) p
-      (subst (λ (x : ℕ). MergedStands s b ent t g x) q (record { within = le; keys = k; base = base; values = values }))
+      (subst (λ (x : ℕ). MergedStands s b ent t g x) q (record { within = le; keys = k; base = base; values = values; few = few }))

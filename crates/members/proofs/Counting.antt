@@ -29,7 +29,7 @@ use Rattle.value.specs.declared.Value.the-variants.{Missing, Null, False, True,
 use Rattle.meaning.specs.Entries.{place, hash-value, hash-base}
 use Rattle.meaning.specs.Meaning.{plain-json, pairs, merged-of, rank, json-of}
 use Rattle.meaning.specs.MeaningLaws.{plain-is}
-use Rattle.meaning.specs.Standing.{PlainStands, Stands, plain, merged, stands-rank, stands-plain, MergedStands, stands-merged}
+use Rattle.meaning.specs.Standing.{PlainStands, KeysStand, Stands, plain, merged, stands-rank, stands-plain, MergedStands, stands-merged}
 use Rattle.meaning.specs.Kept.{stands-merged-is}
 use Rattle.meaning.specs.Forms.{Formed}
 use Rattle.meaning.specs.declared.Form.{Form}
@@ -39,6 +39,7 @@ use Rattle.lookup.specs.Keys.{pairs-more}
 use Rattle.lookup.specs.declared.Found.{Found}
 use Rattle.lookup.specs.declared.Found.the-variants.{Is, Nothing}
 use Rattle.lookup.proofs.Finding.{few-children}
+use Rattle.members.specs.Parts.{Parts}
 
 -- Names ascend
 
@@ -94,7 +95,7 @@ module _ (s b : Bytes) (tab : List ℕ) (a : Accepted s tab) where
 
   pub stands-ascends : (ent : List ℕ) (t : ℕ) (v : Value) → Stands s b ent t v → Ascends (base-map (json-of s b ent v))
   stands-ascends ent t v (plain e p) = subst (λ (j : Json). Ascends (base-map j)) (sym (plain-is s b ent v e)) (plain-ascends v p)
-  stands-ascends ent t v (merged h n le k base values) =
+  stands-ascends ent t v (merged h n le k base values few) =
       subst (λ (j : Json). Ascends (base-map j)) (sym (stands-merged-is s b ent h n base values))
       (merged-ascends (json-of s b ent (hash-base ent h)) (pairs b ent (json-of s b ent) h n) (stands-ascends ent h (hash-base ent h) base))
 
@@ -195,25 +196,47 @@ lacking-step b ent f h k m =
     ap (λ (n : ℕ). lacking (pairs b ent f h n) m) (add-one k) ∙ ap (λ (l : List (Bytes × Json)). lacking l m) (pairs-more b ent f h k)
     ∙ lacking-more (pairs b ent f h k) (text-at (bits b) (place ent (h + k)), f (hash-value ent (h + k))) m
 
+-- a merged object has the members of its base, and those of its pairs whose names the base lacks
+module _ (s b : Bytes) (tab : List ℕ) (a : Accepted s tab) (ent : List ℕ) (h n : ℕ) where
+  merged-sum : KeysStand b ent h n → Stands s b ent h (hash-base ent h) → ((i : ℕ) → i < n → Stands s b ent h (hash-value ent (h + i)))
+      → count (base-map (json-of s b ent (Merged h n))) ≡ count (base-map (json-of s b ent (hash-base ent h))) + lacking (pairs b ent (json-of s b ent) h n) (base-map (json-of s b ent (hash-base ent h)))
+  merged-sum k base values =
+      ap (λ (j : Json). count (base-map j)) (stands-merged-is s b ent h n base values)
+      ∙ count-base-merged (json-of s b ent (hash-base ent h)) (pairs b ent (json-of s b ent) h n) (keys-from b ent (json-of s b ent) h n (k .ascend)) (stands-ascends s b tab a ent h (hash-base ent h) base)
+
+  module _ (p : Parts s b ent h n) (x : Value) (f : x ≡ hash-base ent h) where
+    pub parts-held : Held s b ent x
+    parts-held = subst (Held s b ent) (sym f) (record { used = h; room = omega (arith, p .room); stands = p .base })
+
+    pub parts-counted : (r q : ℕ) → r ≡ lacking (pairs b ent (json-of s b ent) h n) (base-map (json-of s b ent x)) → q ≡ count (base-map (json-of s b ent x))
+        → r + q ≡ count (base-map (json-of s b ent (Merged h n)))
+    parts-counted r q g e =
+        let y = ap (λ (z : Value). lacking (pairs b ent (json-of s b ent) h n) (base-map (json-of s b ent z))) f in
+        let z = ap (λ (z : Value). count (base-map (json-of s b ent z))) f in
+        let w = merged-sum (p .keys) (p .base) (p .values) in
+        omega arith
+
 -- From a merged object to its base: n members were met
 
 module _ (s b : Bytes) (tab : List ℕ) (a : Accepted s tab) (ent : List ℕ) (v : Value) where
   pub record Counted (n : ℕ) (u : Value) : Type 0 where
     pub sum : count (base-map (json-of s b ent v)) ≡ n + count (base-map (json-of s b ent u))
+    pub bound : count (base-map (json-of s b ent u)) ≤ 65536 → count (base-map (json-of s b ent v)) ≤ 65536
     pub held : Held s b ent u
     pub few : 2 * (n + held .used) ≤ length ent
 
   pub counted-start : Held s b ent v → Counted 0 v
-  counted-start h = record { sum = omega arith; held = h; few = omega (arith, h .room) }
+  counted-start h = record { sum = omega arith; bound = λ z. z; held = h; few = omega (arith, h .room) }
 
   module _ (n : ℕ) (u : Value) (w : Counted n u) where
     pub counted-plain : merged-of u ≡ none → PlainHeld s b u
     counted-plain e = record { plain = e; stands = stands-plain s b ent (w .held .used) u e (w .held .stands) }
 
-    pub counted-end : merged-of u ≡ none → (r : ℕ) → r ≡ count (base-map (plain-json s b u)) → n + r ≡ count (base-map (json-of s b ent v))
-    counted-end e r f =
+    pub counted-end : merged-of u ≡ none → (r : ℕ) → r ≡ count (base-map (plain-json s b u)) → r ≤ 65536 → (n + r ≡ count (base-map (json-of s b ent v))) × (n + r ≤ 65536)
+    counted-end e r f le =
         let x = ap (λ (j : Json). count (base-map j)) (plain-is s b ent u e) in
-        omega (arith, w .sum)
+        let y = w .bound (omega arith) in
+        (omega (arith, w .sum), omega (arith, w .sum))
 
     module _ (h m : ℕ) (e : u ≡ Merged h m) where
       pub counted-merged : MergedStands s b ent (w .held .used) h m
@@ -233,10 +256,9 @@ module _ (s b : Bytes) (tab : List ℕ) (a : Accepted s tab) (ent : List ℕ) (v
         counted-on r g le = subst (Counted (n + r)) (sym f) (record {
           sum =
               let y = ap (λ (z : Value). lacking (pairs b ent (json-of s b ent) h m) (base-map (json-of s b ent z))) f in
-              let k = counted-merged .keys in
-              let p = count-base-merged (json-of s b ent (hash-base ent h)) (pairs b ent (json-of s b ent) h m) (keys-from b ent (json-of s b ent) h m (k .ascend)) (stands-ascends s b tab a ent h (hash-base ent h) (counted-merged .base)) in
-              let q = ap (λ (z : Value). count (base-map (json-of s b ent z))) e ∙ ap (λ (j : Json). count (base-map j)) (stands-merged-is s b ent h m (counted-merged .base) (counted-merged .values)) in
+              let q = ap (λ (z : Value). count (base-map (json-of s b ent z))) e ∙ merged-sum s b tab a ent h m (counted-merged .keys) (counted-merged .base) (counted-merged .values) in
               omega (arith, w .sum);
+          bound = λ z. let q = ap (λ (z : Value). count (base-map (json-of s b ent z))) e in w .bound (omega (arith, counted-merged .few));
           held = record { used = h; room = omega (arith, counted-room); stands = counted-merged .base };
           few = omega (arith, counted-room);
         })

@@ -1,2 +1,3 @@
 pub mod Turns
 pub mod Next
+pub mod Parts

@@ -16,10 +16,12 @@ ghost use Rattle.places.specs.Accepted.{Accepted};
 ghost use Rattle.places.specs.Places.{places, json-at};
 ghost use Rattle.places.specs.Kinds.{items-of, members-of};
 ghost use Rattle.text.specs.Rest.{rest};
+ghost use Rattle.value.specs.declared.Value.the-variants.{Merged};
 ghost use Rattle.meaning.specs.Entries.{place};
 ghost use Rattle.meaning.specs.Meaning.{plain-json, pairs, json-of};
 ghost use Rattle.meaning.specs.Standing.{KeysStand};
 ghost use Rattle.lookup.specs.Answers.{Held, PlainHeld};
+ghost use Rattle.members.specs.Parts.{Parts};
 ghost use Rattle.members.specs.Next.{by-value, key-name, KeyHeld, after-name, Keyed, shown, PlainNext, PairItem, Member-has, MemberHeld, combined, nearer-of};
 use chars::Next;
 use lookup::Found;
@@ -81,7 +83,7 @@ fn lacking(s: &[u8], tab: &[u64], b: &[u8], ent: &[u64], base: Value, h: usize, 
 // How many members a value has where it is taken as an object.
 pub fn member_count(s: &[u8], tab: &[u64], b: &[u8], ent: &[u64], v: Value) -> usize
     requires { ⌜ Accepted (now s) (now tab) × (length (now b) ≤ 65536) × Held (now s) (now b) (now ent) v ⌝ }
-    ensures { λ r. ⌜ r ≡ count (base-map (json-of (now (s .entry)) (now (b .entry)) (now (ent .entry)) v)) ⌝ }
+    ensures { λ r. ⌜ (r ≡ count (base-map (json-of (now (s .entry)) (now (b .entry)) (now (ent .entry)) v))) × (r ≤ 65536) ⌝ }
 {
     let mut u = v;
     let mut n: usize = 0;
@@ -92,6 +94,16 @@ pub fn member_count(s: &[u8], tab: &[u64], b: &[u8], ent: &[u64], v: Value) -> u
         u = value::decode(entries::high(ent, h));
         n += lacking(s, tab, b, ent, u, h, m);
     }
+}
+
+// How many members the merged object with n hash pairs from h on has. Limit 22 goes by this number, so only its parts are known to stand.
+pub fn merged_count(s: &[u8], tab: &[u64], b: &[u8], ent: &[u64], h: usize, n: usize) -> usize
+    requires { ⌜ Accepted (now s) (now tab) × (length (now b) ≤ 65536) × Parts (now s) (now b) (now ent) h n ⌝ }
+    ensures { λ r. ⌜ r ≡ count (base-map (json-of (now (s .entry)) (now (b .entry)) (now (ent .entry)) (Merged h n))) ⌝ }
+{
+    let base = value::decode(entries::high(ent, h));
+    let new = lacking(s, tab, b, ent, base, h, n);
+    new + member_count(s, tab, b, ent, base)
 }
 
 // Members by ascending name

@@ -22,7 +22,7 @@ use Rattle.value.specs.declared.Value.the-variants.{Missing, Null, False, True,
 use Rattle.value.specs.Numbers.{decoded}
 use Rattle.meaning.specs.Meaning.{merged-of, context-place, is-missing, json-of, scoped-of}
 use Rattle.meaning.specs.MeaningLaws.{plain-is}
-use Rattle.meaning.specs.Standing.{Stands}
+use Rattle.meaning.specs.Standing.{Stands, stands-merged}
 use Rattle.meaning.specs.Means.{merged-some}
 use Rattle.meaning.specs.Kept.{Agree, kept}
 use Rattle.lookup.proofs.Finding.{few-children}
@@ -181,13 +181,11 @@ module _ (s b : Bytes) (ent : List ℕ) (tab : List ℕ) (a : Accepted s tab) (v
       omega arith
 
   -- those over a merged object are as many as its members
-  pub turns-few : (t n : ℕ) → Stands s b ent t v → 4096 ≤ n → ((h g : ℕ) → v ≡ Merged h g → count (base-map (json-of s b ent v)) ≤ n) → length (each-turns (json-of s b ent v)) ≤ n
-  turns-few t n st le f = at (place-of v) refl (merged-of v) refl
+  pub turns-few : (t : ℕ) → Stands s b ent t v → length (each-turns (json-of s b ent v)) ≤ 4096
+  turns-few t st = at (place-of v) refl (merged-of v) refl
     where
-      at : (o : Option ℕ) → place-of v ≡ o → (q : Option (ℕ × ℕ)) → merged-of v ≡ q → length (each-turns (json-of s b ent v)) ≤ n
-      at (some i) e q z =
-          let p = place-few i (place-within s b ent t i v e st) (json-of s b ent v) (sym (place-json s b ent i v e)) in
-          omega arith
+      at : (o : Option ℕ) → place-of v ≡ o → (q : Option (ℕ × ℕ)) → merged-of v ≡ q → length (each-turns (json-of s b ent v)) ≤ 4096
+      at (some i) e q z = place-few i (place-within s b ent t i v e st) (json-of s b ent v) (sym (place-json s b ent i v e))
       at none e none z =
           let p = ap length (no-turns s b ent v (sym e) z) in
           omega arith
@@ -195,10 +193,10 @@ module _ (s b : Bytes) (ent : List ℕ) (tab : List ℕ) (a : Accepted s tab) (v
           let m = merged-some s b ent t v (q .0) (q .1) z st in
           let p = ap (λ (j : Json). length (each-turns j)) (m .1) ∙ map-length 0 (m .0) in
           let c = ap (λ (j : Json). count (base-map j)) (m .1) in
-          let d = f (q .0) (q .1) (merged-value v (q .0) (q .1) z) in
-          omega arith
+          let d = ap (λ (w : Value). count (base-map (json-of s b ent w))) (merged-value v (q .0) (q .1) z) in
+          omega (arith, stands-merged s b ent t v (q .0) (q .1) z st .few)
 
-  pub turn-below : (t n k : ℕ) (item key : Value) (object last : Bool) → TurnIs s b ent t v k item key object last → length (each-turns (json-of s b ent v)) ≤ n → k < n
-  turn-below t n k item key object last u le =
+  pub turn-below : (t k : ℕ) (item key : Value) (object last : Bool) → Stands s b ent t v → TurnIs s b ent t v k item key object last → k < 4096
+  turn-below t k item key object last st u =
       let p = before-end (each-turns (json-of s b ent v)) k (u .turn) (u .is) in
-      omega arith
+      omega (arith, turns-few t st)

@@ -7,11 +7,11 @@ use Rattle.including.proofs.merged_entries.Tie as tie
 returns : tie.Need-returns
 returns c = rw (eq-eqb (c .before .before .before .before .before .args .n) 0 (c .if1 .taken))
 
-member-count-requires : tie.Need-member-count-requires
-member-count-requires c κs = let z = c .before .before .before .before .before in (z .pre .0, z .pre .1, z .pre .2 (omega (arith, c .if1 .left)))
+merged-count-requires : tie.Need-merged-count-requires
+merged-count-requires c κs = let z = c .before .before .before .before .before in (z .pre .0, z .pre .1, z .pre .2 (omega (arith, c .if1 .left)))
 
 returns-2 : tie.Need-returns-2
-returns-2 c = rw (ne-eqb (c .before .before .before .before .before .before .args .n) 0 (c .before .if1 .left)) (c .member-count .ensures)
+returns-2 c = rw (ne-eqb (c .before .before .before .before .before .before .args .n) 0 (c .before .if1 .left)) (c .merged-count .ensures)
 
 pub merged-entries-spec : {M : Type 1} → statement M
-merged-entries-spec = tie.close (tie.spec returns member-count-requires returns-2)
+merged-entries-spec = tie.close (tie.spec returns merged-count-requires returns-2)

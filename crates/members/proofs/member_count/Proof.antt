@@ -28,7 +28,7 @@ add-result : tie.Need-add-result Inv-loop μ-loop
 add-result c = let w = c .before .before .loop .inv (c .before .before .before .before .before .before .before .pre .0) in omega (arith, w .few, c .plain-count .ensures .1)
 
 returns : tie.Need-returns Inv-loop μ-loop
-returns c = counted-end (c .before .before .before .before .before .before .before .args .s .now) (c .before .before .before .before .before .before .before .args .b .now) (c .before .before .before .before .before .before .before .args .tab .now) (c .before .before .before .before .before .before .before .pre .0) (c .before .before .before .before .before .before .before .args .ent .now) (c .before .before .before .before .before .before .before .args .v) (c .before .before .loop .n) (c .before .before .loop .u) (c .before .before .loop .inv (c .before .before .before .before .before .before .before .pre .0)) (no-merged (c .before .before .loop .u) (c .before .match .keys2)) (c .plain-count .result) (c .plain-count .ensures .0)
+returns c = counted-end (c .before .before .before .before .before .before .before .args .s .now) (c .before .before .before .before .before .before .before .args .b .now) (c .before .before .before .before .before .before .before .args .tab .now) (c .before .before .before .before .before .before .before .pre .0) (c .before .before .before .before .before .before .before .args .ent .now) (c .before .before .before .before .before .before .before .args .v) (c .before .before .loop .n) (c .before .before .loop .u) (c .before .before .loop .inv (c .before .before .before .before .before .before .before .pre .0)) (no-merged (c .before .before .loop .u) (c .before .match .keys2)) (c .plain-count .result) (c .plain-count .ensures .0) (c .plain-count .ensures .1)
 
 high-requires : tie.Need-high-requires Inv-loop μ-loop
 high-requires c κs =
