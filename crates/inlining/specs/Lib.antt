@@ -1,0 +1,4 @@
+pub mod Decorated
+pub mod Defining
+pub mod Fitting
+pub mod Rule
