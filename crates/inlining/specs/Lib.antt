@@ -1,4 +1,3 @@
 pub mod Decorated
 pub mod Defining
-pub mod Fitting
 pub mod Rule

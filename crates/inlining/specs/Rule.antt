@@ -40,7 +40,7 @@ use Rattle.expand.specs.declared.Options.{Options}
 use Rattle.expand.specs.declared.Expanded.{Expanded}
 use Rattle.expand.specs.Answers.{Setting, name-of, Begins, IsExpanded, IsTemplate, ExpandedHeld}
 use Rattle.expand.proofs.Calling.{as-json-of}
-use Rattle.inlining.specs.Fitting.{stands-fits, encoded-near}
+use Rattle.including.specs.ValuesLaws.{stands-fits, encoded-near}
 use Rattle.decorators.specs.declared.Inlined.{Inlined}
 use Rattle.decorators.specs.declared.Inlined.the-variants.{Bad, New, Again}
 use Rattle.decorators.specs.Indents.{own, OwnStands}
