@@ -1,0 +1,12 @@
+pub mod Parts
+pub mod Renders
+pub mod Loop
+pub mod Members
+pub mod Elements
+pub mod Helping
+pub mod Withs
+pub mod Turning
+pub mod EachTurn
+pub mod Including
+pub mod Expanding
+pub mod Enclosed
