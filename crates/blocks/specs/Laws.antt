@@ -4,7 +4,7 @@ use mathlib.Core.Bool.{Bool, true, false}
 use mathlib.Core.List.{List, []}
 use mathlib.Core.Path.{_≡_, refl, sym, ap, _∙_, subst}
 use native.Mathlib.Omega.{arith}
-use lib.ListN.{getD}
+use lib.ListN.{length, getD}
 use Rattle.rules.specs.Bytes.{Bytes}
 use Rattle.rules.specs.Bits.{bits}
 use Rattle.rules.specs.State.{push-block}
@@ -12,7 +12,10 @@ use Rattle.rules.specs.BlockUtil.{create-block}
 use Rattle.rules.specs.HelperWith.{with-block}
 use Rattle.parts.specs.declared.BlockParam.{BlockParam}
 use Rattle.parts.specs.declared.BlockParam.the-variants.{None, Single, Pair}
-use Rattle.parts.specs.Says.{names-says, NamesHold}
+use Rattle.rules.specs.Bundle.{block-names}
+use Rattle.parts.specs.Holds.{Holds}
+use Rattle.parts.specs.Views.{names-view}
+use Rattle.parts.specs.Says.{names-says, NamesHold, names-stand}
 use Rattle.value.specs.declared.Value.{Value}
 use Rattle.value.specs.Numbers.{Fits, encoded, decoded, decoded-encoded}
 use Rattle.meaning.specs.Meaning.{is-missing, scoped-of}
@@ -20,12 +23,22 @@ use Rattle.meaning.specs.Standing.{Stands}
 use Rattle.scope.specs.declared.Scope.{Scope}
 use Rattle.scope.specs.Scopes.{blank, locals-of, context-of}
 use Rattle.scope.specs.Standing.{ScopeStands}
+use Rattle.scope.specs.NamesLaws.{string-near}
 use Rattle.scope.specs.Made.{child, with-locals}
 use Rattle.scope.specs.MadeLaws.{child-is, child-stands, with-locals-stands, with-names-stands, with-is, with-name-is}
 use Rattle.state.specs.Setters.{pushed}
 use Rattle.state.specs.World.{World, over, front, top, abs, Ready}
 use Rattle.state.specs.Steps.{Within, abs-open, within-open}
-use Rattle.blocks.specs.Opened.{named-once, with-scope}
+use Rattle.blocks.specs.Opened.{NamesNear, named-once, with-scope}
+
+-- the names of a bundle are near
+pub names-near : (b : Bytes) → length b ≤ 65536 → (p : ℕ) → Holds block-names (bits b) p → NamesNear (names-view (bits b) p)
+names-near b small p h = go (names-view (bits b) p) (names-stand (bits b) p h .parts)
+  where
+    go : (x : BlockParam) → NamesHold (bits b) x → NamesNear x
+    go None n = tt
+    go (Single q) n = string-near b q small n
+    go (Pair q z) n = string-near b q small (n .0)
 
 module _ (s b : Bytes) (w : World) (v : Value) (r : Ready s b w) (lt : w .rc .used < 32) (st : Stands s b (w .ent) (top w) v) (present : is-missing v ≡ false) (fits : Fits v) where
   value-is : decoded (encoded v) ≡ v

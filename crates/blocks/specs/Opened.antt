@@ -1,11 +1,15 @@
 -- The scopes that `each` and `with` open.
-use Prim.Native.Nat.{ℕ, _+_, _≤_}
+use Prim.Native.Nat.{ℕ, _+_, _-_, _≤_, _<_}
+use mathlib.Core.Path.{_≡_}
+use lib.ListN.{length, getD}
 use Rattle.parts.specs.declared.BlockParam.{BlockParam}
 use Rattle.parts.specs.declared.BlockParam.the-variants.{None, Single, Pair}
 use Rattle.value.specs.declared.Value.{Value}
-use Rattle.value.specs.Numbers.{encoded}
+use Rattle.value.specs.Numbers.{Fits, encoded}
 use Rattle.scope.specs.declared.Scope.{Scope}
+use Rattle.scope.specs.Scopes.{blank}
 use Rattle.scope.specs.Made.{child, with-names, with-locals}
+use Rattle.state.specs.declared.RenderContext.{RenderContext}
 
 -- the places of the names are such as a bundle has
 abbrev pub NamesNear : BlockParam → Type 0
@@ -30,3 +34,14 @@ with-scope v ns d = named-once (with-locals (child (encoded v) (d .inline + d .c
 -- before the first turn
 abbrev pub each-scope : Value → BlockParam → Scope → Scope
 each-scope v ns d = named (child (encoded v) (d .inline + d .count)) ns
+
+abbrev pub newest : RenderContext → Scope
+newest c = getD (c .scopes) (c .used - 1) blank
+
+-- a scope of v can be opened
+pub record Opens (c : RenderContext) (v : Value) : Type 0 where
+  pub fits : Fits v
+  pub sized : length (c .scopes) ≡ 32
+  pub one : 0 < c .used
+  pub room : c .used < 32
+  pub near : newest c .inline + newest c .count ≤ 4096

@@ -43,7 +43,7 @@ use Rattle.state.specs.Setters as set
 use Rattle.state.specs.World.{World, over, front, top, abs, Ready, Draws}
 use Rattle.state.specs.Steps.{Within}
 use Rattle.drawing.specs.Renders.{registry-of, Renders}
-use Rattle.drawing.specs.Turning.{Turning, turning-more, turning-stop, turning-within}
+use Rattle.drawing.specs.Turning.{Turning, turning-more, more-block, turning-stop, turning-within}
 use Rattle.scope.specs.Made as made
 
 -- the scope of the turns so far: its names are ns, and its base is the item before, or v
@@ -137,3 +137,7 @@ module _ (s b : Bytes) (o : Options) (w : World) (r : Ready s b w) (v : Value) (
 
       pub each-more : l₂ .rc .bad ≡ 0 → Going l₂ (suc k)
       each-more e = turning-more s b o w r F (each-turns J) (create-block Z) T l k G (I .turn) here c there refl refl refl refl merged is l₂ d e
+
+      pub each-more-block : (e : l₂ .rc .bad ≡ 0) → each-more e .block ≡ context-of s b (l₂ .ent) (front l₂)
+      unfolding each-more
+      each-more-block e = more-block s b o w r F (each-turns J) (create-block Z) T l k G (I .turn) here c there refl refl refl refl merged is l₂ d e

@@ -35,7 +35,7 @@ use Rattle.texts.specs.Drawing.{draws-text-stop}
 use Rattle.drawing.specs.Parts.{is-at}
 use Rattle.drawing.specs.Renders.{registry-of, Named, Renders, Joins, joined, target, Concludes, TextDrawn, BodyDrawn}
 
-own-says : (b : Bytes) (m : Maybe) → own (bits b) m ≡ indent-says (bits b) m
+pub own-says : (b : Bytes) (m : Maybe) → own (bits b) m ≡ indent-says (bits b) m
 own-says b (At p) = refl
 own-says b Nothing = refl
 
@@ -67,7 +67,7 @@ module _ (s b : Bytes) (o : Options) (w₁ : World) (q e n : ℕ) (at : Maybe) (
   absent-is false Nothing f z = omega (arith, f refl)
 
   module _ (w : World) (r : Ready s b w) (h : Included s b w w₁) (same-has : w₁ .rc .writer .«has_indent» ≡ w .rc .writer .«has_indent») (same-indent : w₁ .rc .writer .indent ≡ w .rc .writer .indent) where
-    inside : Included s b w w₂
+    pub inside : Included s b w w₂
     inside =
         included-indent s b w₁ has m buffer w h joins (absent-is (w₁ .rc .writer .«has_indent») at (r₁ .absent)) (omega (arith, same-indent)) (length-sets (w₁ .indent) (w₁ .rc .writer .indent) (bytes-of (indent-says (bits b) at)))
         (take-sets (bytes-of (indent-says (bits b) at)) (w₁ .indent) (w₁ .rc .writer .indent) (w .rc .writer .indent) (omega (arith, same-indent)))

@@ -34,6 +34,7 @@ use Rattle.helpers.specs.declared.Does.the-variants as does
 use Rattle.helpers.specs.Does.{Guided, Fails, Helps, Decides, has}
 use Rattle.state.specs.Setters.{failed, marked, settled}
 use Rattle.state.specs.World.{World, over, top, abs, Ready, Draws}
+use Rattle.state.specs.Laws.{reason-some}
 use Rattle.state.specs.Steps.{goes-marks}
 use Rattle.state.specs.Marks.{aware-done, aware-stop}
 use Rattle.drawing.specs.Parts.{is-at, before-helper}
@@ -47,7 +48,7 @@ has-body g R d b Nothing = refl
 
 -- what a helper was found to do can be done
 pub possible : (s b : Bytes) (w : World) (ns : template.BlockParam) (T I : Drawable) (st : rules.RenderContext) (x : Res) (a : Does) → Helps s b (w .ent) (top w) (w .rc .used) ns T I st x a → Possible s b w a
-possible s b w ns T I st x (does.Bad n) h = tt
+possible s b w ns T I st x (does.Bad n) h = λ z. reason-some (h .reason) (h .by-number ∙ z)
 possible s b w ns T I st x does.Nothing h = tt
 possible s b w ns T I st x does.Template h = tt
 possible s b w ns T I st x does.Inverse h = tt
@@ -105,7 +106,7 @@ module _ (s b : Bytes) (o : Options) (w : World) (r : Ready s b w) (c : template
     helper-possible = go (get-helper (e .name)) refl
       where
         go : (q : Option registry.HelperDef) → get-helper (e .name) ≡ q → Possible s b w₁ a
-        go none q = subst (Possible s b w₁) (sym (unknown q)) tt
+        go none q = subst (Possible s b w₁) (sym (unknown q)) (λ z. omega arith)
         go (some k) q = possible s b w₁ ns (T 0) (I 0) (abs s b w₁) (call-helper g k e ns (T 0) (I 0) (abs s b w₁)) a (helps 0 k q)
 
     abbrev found : ℕ → Option registry.HelperDef → Res

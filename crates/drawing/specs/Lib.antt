@@ -2,11 +2,13 @@ pub mod Parts
 pub mod Renders
 pub mod Loop
 pub mod Members
+pub mod Continues
 pub mod Elements
 pub mod Helping
 pub mod Withs
 pub mod Turning
 pub mod EachTurn
+pub mod EachLoop
 pub mod Including
 pub mod Expanding
 pub mod Enclosed

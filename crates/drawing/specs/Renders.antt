@@ -77,7 +77,7 @@ pub record Openable (s b : Bytes) (w : World) (v : Value) : Type 0 where
   pub room : w .rc .used < 32
 
 abbrev pub Possible : Bytes → Bytes → World → Does → Type 0
-Possible s b w (Bad n) = Unit {0}
+Possible s b w (Bad n) = n ≡ 0 → ⊥
 Possible s b w Nothing = Unit {0}
 Possible s b w Template = Unit {0}
 Possible s b w Inverse = Unit {0}

@@ -60,7 +60,7 @@ module _ (s b : Bytes) (o : Options) (w : World) (r : Ready s b w) (F : Turn →
     pub block : BlockContext
     pub rest : (f : ℕ) → 32 ≤ f + w .rc .used → turns F (D f) ts (push-block B (abs s b w)) ≡ prefixed text (turns F (D f) (drop k ts) (set-block block (abs s b l)))
 
-  pub turning-start : (l : World) → Within s b [] w l → front l .block ≡ 0 → front l .text ≡ 0 → (C : BlockContext) → abs s b l ≡ push-block C (abs s b w) → Turning l 0
+  unfoldable pub turning-start : (l : World) → Within s b [] w l → front l .block ≡ 0 → front l .text ≡ 0 → (C : BlockContext) → abs s b l ≡ push-block C (abs s b w) → Turning l 0
   turning-start l h nb nt C e = record {
     text = [];
     within = h;
@@ -133,3 +133,8 @@ module _ (s b : Bytes) (o : Options) (w : World) (r : Ready s b w) (F : Turn →
           where
             front-same : (f : Scope → ℕ) → f (front l₁) ≡ f c
             front-same f = ap f (getD-set-same (l .rc .scopes) (l .rc .used - 1) c blank (omega (arith, t .within .ready .sized, t .within .ready .most, t .within .ready .one)))
+
+        -- its scope by the rules is that of the code
+        pub more-block : (e : l₂ .rc .bad ≡ 0) → turning-more e .block ≡ context-of s b (l₂ .ent) (front l₂)
+        unfolding turning-more abs
+        more-block e = refl

@@ -70,3 +70,20 @@ counted c t = with-scopes c (c .scopes) (c .used) t
 
 abbrev pub closed : RenderContext → ℕ → RenderContext
 closed c t = with-scopes c (c .scopes) (c .used - 1) t
+
+-- Behind a block or a partial: w holds the marks from in front
+
+-- f, unless there is an error
+abbrev pub unless-bad : (RenderContext → RenderContext) → RenderContext → RenderContext
+unless-bad f c = pick (eqb (c .bad) 0) (f c) c
+
+abbrev pub finished : Writer → RenderContext → RenderContext
+finished w = unless-bad (λ c. settled c w)
+
+-- the newest scope is closed; t is the entries in use beneath it
+abbrev pub finished-within : ℕ → Writer → RenderContext → RenderContext
+finished-within t w = unless-bad (λ c. settled (closed c t) w)
+
+-- the current template is again the one from before
+abbrev pub finished-named : ℕ → Writer → RenderContext → RenderContext
+finished-named n w = unless-bad (λ c. settled (with-template c n) w)

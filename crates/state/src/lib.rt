@@ -5,7 +5,7 @@ ghost use lib.Dec.{eqb};
 ghost use lib.ListN.{length, getD};
 ghost use Rattle.rules.specs.Bytes.{pick};
 ghost use Rattle.scope.specs.Scopes.{blank};
-ghost use Rattle.state.specs.Setters.{fresh, failed, located, with-escape, with-template, with-writer, wrote, with-marks, marked, settled, pushed, turned, counted, closed};
+ghost use Rattle.state.specs.Setters.{fresh, failed, located, with-escape, with-template, with-writer, wrote, with-marks, marked, settled, pushed, turned, counted, closed, finished, finished-within, finished-named};
 use output::Writer;
 use scope::Scope;
 
@@ -202,4 +202,35 @@ pub fn pop_block(rc: RenderContext, total: usize) -> RenderContext
     q.used = q.used - 1;
     q.total = total;
     q
+}
+
+// Behind a block: its marks are settled, unless there is an error. before holds the marks from in front.
+pub fn finish(rc: RenderContext, before: Writer) -> RenderContext
+    ensures { λ r. ⌜ r ≡ finished before rc ⌝ }
+{
+    if rc.bad != 0 {
+        return rc;
+    }
+    settle(rc, before)
+}
+
+// The same, and the scope of the block is closed; total is the entries in use beneath it.
+pub fn finish_within(rc: RenderContext, total: usize, before: Writer) -> RenderContext
+    requires { ⌜ (rc .bad ≡ 0 → 0 < rc .used) ⌝ }
+    ensures { λ r. ⌜ r ≡ finished-within total before rc ⌝ }
+{
+    if rc.bad != 0 {
+        return rc;
+    }
+    settle(pop_block(rc, total), before)
+}
+
+// The same, and the current template is again the one from before.
+pub fn finish_named(rc: RenderContext, name: usize, before: Writer) -> RenderContext
+    ensures { λ r. ⌜ r ≡ finished-named name before rc ⌝ }
+{
+    if rc.bad != 0 {
+        return rc;
+    }
+    settle(set_current_template_name(rc, name), before)
 }

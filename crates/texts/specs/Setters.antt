@@ -6,7 +6,7 @@ use Rattle.output.specs.declared.Writer.{Writer}
 use Rattle.scope.specs.declared.Scope.{Scope}
 use Rattle.scope.specs.Scopes.{blank}
 use Rattle.state.specs.declared.RenderContext.{RenderContext}
-use Rattle.state.specs.Setters.{with-writer, turned}
+use Rattle.state.specs.Setters.{with-writer, turned, settled, unless-bad}
 
 -- the block texts' two ends, and whether one of them is the output in force
 abbrev pub with-texts : Writer → ℕ → ℕ → Bool → Writer
@@ -52,3 +52,7 @@ cleaned c before = record {
   placed = c .placed;
   «disable_escape» = c .«disable_escape»;
 }
+
+-- the same, and its marks are settled, unless there is an error
+abbrev pub concluded : RenderContext → RenderContext → RenderContext
+concluded before = unless-bad (λ c. settled (cleaned c before) (before .writer))

@@ -4,7 +4,7 @@ ghost use Prim.Native.Nat.{_+_, _-_, _^_, _≤_, _<_};
 ghost use lib.ListN.{length};
 ghost use lib.Seq.{sets, slice};
 ghost use Rattle.state.specs.World.{sizes-of};
-ghost use Rattle.texts.specs.Setters.{text-opened, with-block, text-closed, text-place, without-text, indented, cleaned};
+ghost use Rattle.texts.specs.Setters.{text-opened, with-block, text-closed, text-place, without-text, indented, cleaned, concluded};
 ghost use Rattle.texts.specs.Peeking.{peeked};
 use scope::Scope;
 use state::RenderContext;
@@ -79,6 +79,16 @@ pub fn cleanup(rc: RenderContext, before: RenderContext) -> RenderContext
     q.writer.indent = before.writer.indent;
     q.writer.has_indent = before.writer.has_indent;
     q
+}
+
+// Behind a partial: unless there is an error it is cleaned up, and its marks are settled.
+pub fn finish_partial(rc: RenderContext, before: RenderContext) -> RenderContext
+    ensures { λ r. ⌜ r ≡ concluded before rc ⌝ }
+{
+    if rc.bad != 0 {
+        return rc;
+    }
+    state::settle(cleanup(rc, before), before.writer)
 }
 
 // What `@partial-block` stands for: nothing where no partial is open, or where the newest one has no text; or its text, by its
