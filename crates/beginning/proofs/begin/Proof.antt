@@ -1,0 +1,311 @@
+use Rattle.inlining.specs.Decorated.{SomeReady}
+use Rattle.beginning.specs.Laws.{fits-is, fits-joins, begun-stop, begun-long, marks-ready, worked-there, name-there, begun-bad, begun-text, begun-fallback, begun-entered}
+use Rattle.beginning.specs.Entering.{Enterable, Enters}
+use Rattle.beginning.specs.Opened.{done, partial-rule, PartialBegun}
+use Rattle.beginning.specs.declared.Next.the-variants.{Fallback}
+use Rattle.beginning.specs.declared.Next.{Next}
+use Rattle.beginning.specs.declared.Begun.{Begun}
+use Rattle.targets.specs.Target.{Leads, Decided}
+use Rattle.drawing.specs.Members.{setting}
+use Rattle.drawing.specs.Renders.{registry-of}
+use Rattle.drawing.specs.Parts.{before-partial}
+use Rattle.state.specs.World.{World, world, over, top, abs, Ready, Draws, sizes-of}
+use Rattle.state.specs.Setters.{failed, marked, finished, with-template}
+use Rattle.state.specs.declared.RenderContext.{RenderContext}
+use Rattle.inlining.specs.Rule.{own-stands}
+use Rattle.rules.specs.Output.{write}
+use Rattle.rules.specs.Bits.{bits}
+use Rattle.rules.specs.Bytes.{Bytes}
+use borrow.Author.Tests.{not-true, not-false}
+use lib.ListN.{length, take, drop}
+use mathlib.Core.Path.{_≡_, refl, _∙_, ap, sym, subst}
+use mathlib.Core.List.{List}
+use Prim.Native.Nat.{ℕ, _+_, _≤_, _<_, _^_}
+use native.Mathlib.Omega.{arith}
+use borrow.Author.Needs.{needs}
+use Rattle.beginning.proofs.begin.Statement.{statement}
+use Rattle.beginning.proofs.begin.Tie as tie
+use Rattle.beginning.proofs.begin.Reads as reads
+use Rattle.beginning.proofs.begin.Lts as lts
+use Rattle.beginning.proofs.before_partial.Reads as before-partial-reads
+use Rattle.beginning.proofs.done.Reads as done-reads
+use Rattle.beginning.proofs.enter.Reads as enter-reads
+use Rattle.decorators.proofs.indent_fits.Reads as indent-fits-reads
+use Rattle.expand.proofs.try_from_template.Reads as try-from-template-reads
+use Rattle.state.proofs.begin_aware.Reads as begin-aware-reads
+use Rattle.state.proofs.failed.Reads as failed-reads
+use Rattle.state.proofs.finish.Reads as finish-reads
+use Rattle.state.proofs.set_current_template_name.Reads as set-current-template-name-reads
+use Rattle.targets.proofs.expand_partial.Reads as expand-partial-reads
+use Rattle.writing.proofs.partial_block_text.Reads as partial-block-text-reads
+
+-- src/lib.rt:171:9
+try-from-template-requires : tie.Need-try-from-template-requires
+try-from-template-requires c κs = let r = (c .before .before .before .before .before .before .before .before .before .before .pre) .1 in ((c .before .before .before .before .before .before .before .before .before .before .pre) .0 .plan, (c .before .before .before .before .before .before .before .before .before .before .pre) .0 .small, r .one, r .most, (_, r .scopes), (c .before .before .before .before .before .before .before .before .before .before .pre) .3)
+
+-- src/lib.rt:173:21
+failed-requires : tie.Need-failed-requires
+failed-requires c κs = search needs
+
+-- src/lib.rt:173:9
+done-requires : tie.Need-done-requires
+done-requires c κs = search needs
+
+-- src/lib.rt:173:9
+same-length : tie.Need-same-length
+same-length c = search needs
+
+-- src/lib.rt:173:9
+returns : tie.Need-returns
+returns c =
+    let a = (c .before .before .before .before .before .before .before .before .before .before .before .before .before .before .before .args) in
+    let w : World = world (a .rc) (a .page .now) (a .texts .now) (a .indent .now) (a .ent .now) in
+    let x = (c .before .before .before .before .try-from-template) .result in
+    let k = (c .before .before .before .before .try-from-template) .ensures (registry-of (a .s .now) (a .b .now) (a .options) (length (a .page .now))) (abs (a .s .now) (a .b .now) w) (top w) (setting (a .s .now) (a .b .now) (a .options) w ((c .before .before .before .before .before .before .before .before .before .before .before .before .before .before .before .pre) .1) (length (a .page .now))) in
+    subst (λ (y : Begun). PartialBegun (a .s .now) (a .b .now) (a .options) w (over (y .rc) w) (a .d) (partial-rule (a .b .now) (a .d) (a .p) (a .own) (a .at) (a .before)) (a .at) (y .next)) (sym ((c .done) .ensures ∙ ap done ((c .before .failed) .ensures)))
+    (begun-stop (a .s .now) (a .b .now) (a .options) w (a .d) (a .p) (a .own) (a .at) (a .before) ((c .before .before .before .before .before .before .before .before .before .before .before .before .before .before .before .pre) .1) x k ((c .before .before .if1) .taken))
+
+-- src/lib.rt:176:9
+indent-fits-requires : tie.Need-indent-fits-requires
+indent-fits-requires c κs = ((c .before .before .before .before .before .before .before .before .before .before .before .before .before .before .pre) .0 .small, own-stands (bits ((c .before .before .before .before .before .before .before .before .before .before .before .before .before .before .args) .b .now)) ((c .before .before .before .before .before .before .before .before .before .before .before .before .before .before .args) .at) ((c .before .before .before .before .before .before .before .before .before .before .before .before .before .before .pre) .5))
+
+-- src/lib.rt:177:21
+failed-requires-2 : tie.Need-failed-requires-2
+failed-requires-2 c κs = search needs
+
+-- src/lib.rt:177:9
+done-requires-2 : tie.Need-done-requires-2
+done-requires-2 c κs = search needs
+
+-- src/lib.rt:177:9
+same-length-2 : tie.Need-same-length-2
+same-length-2 c = search needs
+
+-- src/lib.rt:177:9
+returns-2 : tie.Need-returns-2
+returns-2 c =
+    let a = (c .before .before .before .before .before .before .before .before .before .before .before .before .before .before .before .before .before .before .args) in
+    let w : World = world (a .rc) (a .page .now) (a .texts .now) (a .indent .now) (a .ent .now) in
+    let x = (c .before .before .before .before .before .before .before .try-from-template) .result in
+    let k = (c .before .before .before .before .before .before .before .try-from-template) .ensures (registry-of (a .s .now) (a .b .now) (a .options) (length (a .page .now))) (abs (a .s .now) (a .b .now) w) (top w) (setting (a .s .now) (a .b .now) (a .options) w ((c .before .before .before .before .before .before .before .before .before .before .before .before .before .before .before .before .before .before .pre) .1) (length (a .page .now))) in
+    let long = sym (fits-is (a .s .now) (a .b .now) (a .options) w (a .at) ((c .before .before .before .before .before .before .before .before .before .before .before .before .before .before .before .before .before .before .pre) .1) ((c .before .before .before .indent-fits) .result) ((c .before .before .before .indent-fits) .ensures)) ∙ not-true _ ((c .before .before .if2) .taken) in
+    subst (λ (y : Begun). PartialBegun (a .s .now) (a .b .now) (a .options) w (over (y .rc) w) (a .d) (partial-rule (a .b .now) (a .d) (a .p) (a .own) (a .at) (a .before)) (a .at) (y .next)) (sym ((c .done2) .ensures ∙ ap done ((c .before .failed2) .ensures)))
+    (begun-long (a .s .now) (a .b .now) (a .options) w (a .d) (a .p) (a .own) (a .at) (a .before) ((c .before .before .before .before .before .before .before .before .before .before .before .before .before .before .before .before .before .before .pre) .1) x k ((c .before .before .before .before .before .if1) .left) long)
+
+-- src/lib.rt:180:36
+before-partial-requires : tie.Need-before-partial-requires
+before-partial-requires c κs = search needs
+
+-- src/lib.rt:180:9
+begin-aware-requires : tie.Need-begin-aware-requires
+begin-aware-requires c κs = search needs
+
+-- src/lib.rt:181:11
+expand-partial-requires : tie.Need-expand-partial-requires
+expand-partial-requires c κs =
+    let a = (c .before .before .before .before .before .before .before .before .before .before .before .before .before .before .before .before .before .before .before .args) in
+    let w : World = world (a .rc) (a .page .now) (a .texts .now) (a .indent .now) (a .ent .now) in
+    let x = (c .before .before .before .before .before .before .before .before .try-from-template) .result in
+    let k = (c .before .before .before .before .before .before .before .before .try-from-template) .ensures (registry-of (a .s .now) (a .b .now) (a .options) (length (a .page .now))) (abs (a .s .now) (a .b .now) w) (top w) (setting (a .s .now) (a .b .now) (a .options) w ((c .before .before .before .before .before .before .before .before .before .before .before .before .before .before .before .before .before .before .before .pre) .1) (length (a .page .now))) in
+    let fits = sym (fits-is (a .s .now) (a .b .now) (a .options) w (a .at) ((c .before .before .before .before .before .before .before .before .before .before .before .before .before .before .before .before .before .before .before .pre) .1) ((c .before .before .before .before .indent-fits) .result) ((c .before .before .before .before .indent-fits) .ensures)) ∙ not-false _ ((c .before .before .before .if2) .left) in
+    let q : (c .before .begin-aware) .result ≡ marked (a .rc) (before-partial (a .rc .writer) (a .at) (a .before)) = (c .before .begin-aware) .ensures ∙ ap (marked (a .rc)) ((c .before .before .before-partial) .ensures) in
+    let w₁ : World = over (marked (a .rc) (before-partial (a .rc .writer) (a .at) (a .before))) w in
+    let r₁ : Ready (a .s .now) (a .b .now) w₁ = marks-ready (a .s .now) (a .b .now) (a .options) w (a .d) (a .p) (a .own) (a .at) (a .before) ((c .before .before .before .before .before .before .before .before .before .before .before .before .before .before .before .before .before .before .before .pre) .1) x k ((c .before .before .before .before .before .before .if1) .left) in
+    let g = (c .before .before .before .before .before .before .before .before .before .before .before .before .before .before .before .before .before .before .before) .good .1 .1 .1 .1 .1 .1 .0 in
+    let near : a .rc .writer .high + sizes-of (a .rc .scopes) (a .rc .used) < 2 ^ 64 = omega (arith, (c .before .before .before .before .before .before .before .before .before .before .before .before .before .before .before .before .before .before .before .pre) .1 .texts, g) in
+    ((c .before .before .before .before .before .before .before .before .before .before .before .before .before .before .before .before .before .before .before .pre) .0, subst (λ (v : RenderContext). SomeReady (a .s .now) (a .b .now) v (a .ent .now)) (sym q) (record { page = a .page .now; texts = a .texts .now; indent = a .indent .now; ready = r₁ }), (c .before .before .before .before .before .before .before .before .before .before .before .before .before .before .before .before .before .before .before .pre) .2, (c .before .before .before .before .before .before .before .before .before .before .before .before .before .before .before .before .before .before .before .pre) .4, (top w, name-there (a .s .now) (a .b .now) (a .options) w (a .d) (a .p) (a .own) (a .at) (a .before) ((c .before .before .before .before .before .before .before .before .before .before .before .before .before .before .before .before .before .before .before .pre) .1) x k ((c .before .before .before .before .before .before .if1) .left)), subst (λ (v : RenderContext). v .writer .high + sizes-of (v .scopes) (v .used) < 2 ^ 64) (sym q) near)
+
+-- src/lib.rt:182:21
+enum-known-n : tie.Need-enum-known-n
+enum-known-n c = search needs
+
+-- src/lib.rt:182:32
+failed-requires-3 : tie.Need-failed-requires-3
+failed-requires-3 c κs = search needs
+
+-- src/lib.rt:182:27
+done-requires-3 : tie.Need-done-requires-3
+done-requires-3 c κs = search needs
+
+-- src/lib.rt:183:22
+enum-known-from : tie.Need-enum-known-from
+enum-known-from c = search needs
+
+-- src/lib.rt:184:13
+partial-block-text-requires : tie.Need-partial-block-text-requires
+partial-block-text-requires c κs =
+    let a = (c .before .before .before .before .before .before .before .before .before .before .before .before .before .before .before .before .before .before .before .before .before .before .before .before .before .args) in
+    let w : World = world (a .rc) (a .page .now) (a .texts .now) (a .indent .now) (a .ent .now) in
+    let x = (c .before .before .before .before .before .before .before .before .before .before .before .before .before .before .try-from-template) .result in
+    let k = (c .before .before .before .before .before .before .before .before .before .before .before .before .before .before .try-from-template) .ensures (registry-of (a .s .now) (a .b .now) (a .options) (length (a .page .now))) (abs (a .s .now) (a .b .now) w) (top w) (setting (a .s .now) (a .b .now) (a .options) w ((c .before .before .before .before .before .before .before .before .before .before .before .before .before .before .before .before .before .before .before .before .before .before .before .before .before .pre) .1) (length (a .page .now))) in
+    let fits = sym (fits-is (a .s .now) (a .b .now) (a .options) w (a .at) ((c .before .before .before .before .before .before .before .before .before .before .before .before .before .before .before .before .before .before .before .before .before .before .before .before .before .pre) .1) ((c .before .before .before .before .before .before .before .before .before .before .indent-fits) .result) ((c .before .before .before .before .before .before .before .before .before .before .indent-fits) .ensures)) ∙ not-false _ ((c .before .before .before .before .before .before .before .before .before .if2) .left) in
+    let q : (c .before .before .before .before .before .before .before .begin-aware) .result ≡ marked (a .rc) (before-partial (a .rc .writer) (a .at) (a .before)) = (c .before .before .before .before .before .before .before .begin-aware) .ensures ∙ ap (marked (a .rc)) ((c .before .before .before .before .before .before .before .before .before-partial) .ensures) in
+    let w₁ : World = over (marked (a .rc) (before-partial (a .rc .writer) (a .at) (a .before))) w in
+    let L = subst (Leads (a .s .now) (a .b .now) (a .options) w₁ (a .d) (a .p) x (a .own) (a .at)) ((c .before .before .before .from) .given .1) (subst (λ (v : RenderContext). Decided (a .s .now) (a .b .now) (a .ent .now) v (a .d) (x .name) (a .own) ((c .before .before .before .before .before .expand-partial) .result)) q ((c .before .before .before .before .before .expand-partial) .ensures) .at (a .page .now) (a .texts .now) (a .indent .now) (a .options) (a .p) x (a .at) refl (marks-ready (a .s .now) (a .b .now) (a .options) w (a .d) (a .p) (a .own) (a .at) (a .before) ((c .before .before .before .before .before .before .before .before .before .before .before .before .before .before .before .before .before .before .before .before .before .before .before .before .before .pre) .1) x k ((c .before .before .before .before .before .before .before .before .before .before .before .before .if1) .left))) in
+    subst (λ (v : RenderContext). (v .writer .high ≤ (c .before .before .before .from) .given .0 .0) × ((c .before .before .before .from) .given .0 .0 + (c .before .before .before .from) .given .0 .1 .0 ≤ length (a .texts .now))) (sym q) (L .0, L .1)
+
+-- src/lib.rt:183:39
+finish-requires : tie.Need-finish-requires
+finish-requires c κs = search needs
+
+-- src/lib.rt:183:34
+done-requires-4 : tie.Need-done-requires-4
+done-requires-4 c κs = search needs
+
+-- src/lib.rt:187:26
+enum-known-t : tie.Need-enum-known-t
+enum-known-t c = search needs
+
+-- src/lib.rt:189:21
+set-current-template-name-requires : tie.Need-set-current-template-name-requires
+set-current-template-name-requires c κs = search needs
+
+-- src/lib.rt:193:22
+enum-known-t-2 : tie.Need-enum-known-t-2
+enum-known-t-2 c = search needs
+
+-- src/lib.rt:193:37
+enter-requires : tie.Need-enter-requires
+enter-requires c κs =
+    let a = (c .before .before .before .before .before .before .before .before .before .before .before .before .before .before .before .before .before .before .before .before .before .before .before .before .before .args) in
+    let w : World = world (a .rc) (a .page .now) (a .texts .now) (a .indent .now) (a .ent .now) in
+    let x = (c .before .before .before .before .before .before .before .before .before .before .before .before .before .before .try-from-template) .result in
+    let k = (c .before .before .before .before .before .before .before .before .before .before .before .before .before .before .try-from-template) .ensures (registry-of (a .s .now) (a .b .now) (a .options) (length (a .page .now))) (abs (a .s .now) (a .b .now) w) (top w) (setting (a .s .now) (a .b .now) (a .options) w ((c .before .before .before .before .before .before .before .before .before .before .before .before .before .before .before .before .before .before .before .before .before .before .before .before .before .pre) .1) (length (a .page .now))) in
+    let fits = sym (fits-is (a .s .now) (a .b .now) (a .options) w (a .at) ((c .before .before .before .before .before .before .before .before .before .before .before .before .before .before .before .before .before .before .before .before .before .before .before .before .before .pre) .1) ((c .before .before .before .before .before .before .before .before .before .before .indent-fits) .result) ((c .before .before .before .before .before .before .before .before .before .before .indent-fits) .ensures)) ∙ not-false _ ((c .before .before .before .before .before .before .before .before .before .if2) .left) in
+    let q : (c .before .before .before .before .before .before .before .begin-aware) .result ≡ marked (a .rc) (before-partial (a .rc .writer) (a .at) (a .before)) = (c .before .before .before .before .before .before .before .begin-aware) .ensures ∙ ap (marked (a .rc)) ((c .before .before .before .before .before .before .before .before .before-partial) .ensures) in
+    let w₁ : World = over (marked (a .rc) (before-partial (a .rc .writer) (a .at) (a .before))) w in
+    let joins = fits-joins (a .s .now) (a .b .now) (a .options) w (a .at) ((c .before .before .before .before .before .before .before .before .before .before .before .before .before .before .before .before .before .before .before .before .before .before .before .before .before .pre) .1) fits in
+    let W = worked-there (a .s .now) (a .b .now) (a .options) w (a .d) (a .p) (a .own) (a .at) (a .before) ((c .before .before .before .before .before .before .before .before .before .before .before .before .before .before .before .before .before .before .before .before .before .before .before .before .before .pre) .1) x k ((c .before .before .before .before .before .before .before .before .before .before .before .before .if1) .left) in
+    subst (λ (v : RenderContext). Enterable (a .s .now) (a .tab .now) (a .b .now) (a .ent .now) (a .indent .now) (a .options) v (a .d) (a .p) x ((c .before .before .before .t2) .given .0 .0) ((c .before .before .before .t2) .given .0 .1 .0) ((c .before .before .before .t2) .given .0 .1 .1 .0) ((c .before .before .before .t2) .given .0 .1 .1 .1 .0) (a .at)) (sym q)
+    (record { plan = (c .before .before .before .before .before .before .before .before .before .before .before .before .before .before .before .before .before .before .before .before .before .before .before .before .before .pre) .0 .plan; small = (c .before .before .before .before .before .before .before .before .before .before .before .before .before .before .before .before .before .before .before .before .before .before .before .before .before .pre) .0 .small; page = a .page .now; texts = a .texts .now; ready = marks-ready (a .s .now) (a .b .now) (a .options) w (a .d) (a .p) (a .own) (a .at) (a .before) ((c .before .before .before .before .before .before .before .before .before .before .before .before .before .before .before .before .before .before .before .before .before .before .before .before .before .pre) .1) x k ((c .before .before .before .before .before .before .before .before .before .before .before .before .if1) .left); expanded = _; worked = W; call = (c .before .before .before .before .before .before .before .before .before .before .before .before .before .before .before .before .before .before .before .before .before .before .before .before .before .pre) .3; held = (c .before .before .before .before .before .before .before .before .before .before .before .before .before .before .before .before .before .before .before .before .before .before .before .before .before .pre) .5; joins = joins })
+
+-- src/lib.rt:150:1
+same-length-3 : tie.Need-same-length-3
+same-length-3 c = search needs
+
+-- src/lib.rt:150:1
+returns-3 : tie.Need-returns-3
+returns-3 c =
+    let a = (c .before .before .before .before .before .before .before .before .before .before .before .before .before .before .before .before .before .before .before .before .before .before .before .before .before .args) in
+    let w : World = world (a .rc) (a .page .now) (a .texts .now) (a .indent .now) (a .ent .now) in
+    let x = (c .before .before .before .before .before .before .before .before .before .before .before .before .before .before .try-from-template) .result in
+    let k = (c .before .before .before .before .before .before .before .before .before .before .before .before .before .before .try-from-template) .ensures (registry-of (a .s .now) (a .b .now) (a .options) (length (a .page .now))) (abs (a .s .now) (a .b .now) w) (top w) (setting (a .s .now) (a .b .now) (a .options) w ((c .before .before .before .before .before .before .before .before .before .before .before .before .before .before .before .before .before .before .before .before .before .before .before .before .before .pre) .1) (length (a .page .now))) in
+    let fits = sym (fits-is (a .s .now) (a .b .now) (a .options) w (a .at) ((c .before .before .before .before .before .before .before .before .before .before .before .before .before .before .before .before .before .before .before .before .before .before .before .before .before .pre) .1) ((c .before .before .before .before .before .before .before .before .before .before .indent-fits) .result) ((c .before .before .before .before .before .before .before .before .before .before .indent-fits) .ensures)) ∙ not-false _ ((c .before .before .before .before .before .before .before .before .before .if2) .left) in
+    let q : (c .before .before .before .before .before .before .before .begin-aware) .result ≡ marked (a .rc) (before-partial (a .rc .writer) (a .at) (a .before)) = (c .before .before .before .before .before .before .before .begin-aware) .ensures ∙ ap (marked (a .rc)) ((c .before .before .before .before .before .before .before .before .before-partial) .ensures) in
+    let w₁ : World = over (marked (a .rc) (before-partial (a .rc .writer) (a .at) (a .before))) w in
+    let L = subst (Leads (a .s .now) (a .b .now) (a .options) w₁ (a .d) (a .p) x (a .own) (a .at)) ((c .before .before .before .n) .given .1) (subst (λ (v : RenderContext). Decided (a .s .now) (a .b .now) (a .ent .now) v (a .d) (x .name) (a .own) ((c .before .before .before .before .before .expand-partial) .result)) q ((c .before .before .before .before .before .expand-partial) .ensures) .at (a .page .now) (a .texts .now) (a .indent .now) (a .options) (a .p) x (a .at) refl (marks-ready (a .s .now) (a .b .now) (a .options) w (a .d) (a .p) (a .own) (a .at) (a .before) ((c .before .before .before .before .before .before .before .before .before .before .before .before .before .before .before .before .before .before .before .before .before .before .before .before .before .pre) .1) x k ((c .before .before .before .before .before .before .before .before .before .before .before .before .if1) .left))) in
+    subst (λ (y : Begun). PartialBegun (a .s .now) (a .b .now) (a .options) w (over (y .rc) w₁) (a .d) (partial-rule (a .b .now) (a .d) (a .p) (a .own) (a .at) (a .before)) (a .at) (y .next)) (sym ((c .done3) .ensures ∙ ap done ((c .before .failed3) .ensures ∙ ap (λ (v : RenderContext). failed v ((c .before .before .before .n) .given .0 .0)) q)))
+    (begun-bad (a .s .now) (a .b .now) (a .options) w (a .d) (a .p) (a .own) (a .at) (a .before) ((c .before .before .before .before .before .before .before .before .before .before .before .before .before .before .before .before .before .before .before .before .before .before .before .before .before .pre) .1) x k ((c .before .before .before .before .before .before .before .before .before .before .before .before .if1) .left) fits ((c .before .before .before .n) .given .0 .0) L)
+
+-- src/lib.rt:150:1
+same-length-4 : tie.Need-same-length-4
+same-length-4 c = search needs
+
+-- src/lib.rt:150:1
+same-length-5 : tie.Need-same-length-5
+same-length-5 c = search needs
+
+-- src/lib.rt:150:1
+same-length-6 : tie.Need-same-length-6
+same-length-6 c = search needs
+
+-- src/lib.rt:150:1
+returns-4 : tie.Need-returns-4
+returns-4 c =
+    let a = (c .before .before .before .before .before .before .before .before .before .before .before .before .before .before .before .before .before .before .before .before .before .before .before .before .before .before .before .before .before .before .before .before .args) in
+    let w : World = world (a .rc) (a .page .now) (a .texts .now) (a .indent .now) (a .ent .now) in
+    let x = (c .before .before .before .before .before .before .before .before .before .before .before .before .before .before .before .before .before .before .before .before .before .try-from-template) .result in
+    let k = (c .before .before .before .before .before .before .before .before .before .before .before .before .before .before .before .before .before .before .before .before .before .try-from-template) .ensures (registry-of (a .s .now) (a .b .now) (a .options) (length (a .page .now))) (abs (a .s .now) (a .b .now) w) (top w) (setting (a .s .now) (a .b .now) (a .options) w ((c .before .before .before .before .before .before .before .before .before .before .before .before .before .before .before .before .before .before .before .before .before .before .before .before .before .before .before .before .before .before .before .before .pre) .1) (length (a .page .now))) in
+    let fits = sym (fits-is (a .s .now) (a .b .now) (a .options) w (a .at) ((c .before .before .before .before .before .before .before .before .before .before .before .before .before .before .before .before .before .before .before .before .before .before .before .before .before .before .before .before .before .before .before .before .pre) .1) ((c .before .before .before .before .before .before .before .before .before .before .before .before .before .before .before .before .before .indent-fits) .result) ((c .before .before .before .before .before .before .before .before .before .before .before .before .before .before .before .before .before .indent-fits) .ensures)) ∙ not-false _ ((c .before .before .before .before .before .before .before .before .before .before .before .before .before .before .before .before .if2) .left) in
+    let q : (c .before .before .before .before .before .before .before .before .before .before .before .before .before .before .begin-aware) .result ≡ marked (a .rc) (before-partial (a .rc .writer) (a .at) (a .before)) = (c .before .before .before .before .before .before .before .before .before .before .before .before .before .before .begin-aware) .ensures ∙ ap (marked (a .rc)) ((c .before .before .before .before .before .before .before .before .before .before .before .before .before .before .before .before-partial) .ensures) in
+    let w₁ : World = over (marked (a .rc) (before-partial (a .rc .writer) (a .at) (a .before))) w in
+    let L = subst (Leads (a .s .now) (a .b .now) (a .options) w₁ (a .d) (a .p) x (a .own) (a .at)) ((c .before .before .before .before .before .before .before .before .before .before .from) .given .1) (subst (λ (v : RenderContext). Decided (a .s .now) (a .b .now) (a .ent .now) v (a .d) (x .name) (a .own) ((c .before .before .before .before .before .before .before .before .before .before .before .before .expand-partial) .result)) q ((c .before .before .before .before .before .before .before .before .before .before .before .before .expand-partial) .ensures) .at (a .page .now) (a .texts .now) (a .indent .now) (a .options) (a .p) x (a .at) refl (marks-ready (a .s .now) (a .b .now) (a .options) w (a .d) (a .p) (a .own) (a .at) (a .before) ((c .before .before .before .before .before .before .before .before .before .before .before .before .before .before .before .before .before .before .before .before .before .before .before .before .before .before .before .before .before .before .before .before .pre) .1) x k ((c .before .before .before .before .before .before .before .before .before .before .before .before .before .before .before .before .before .before .before .if1) .left))) in
+    let f = (c .before .before .before .before .before .before .before .before .before .before .from) .given .0 .0 in
+    let n = (c .before .before .before .before .before .before .before .before .before .before .from) .given .0 .1 .0 in
+    let w₂ : World = world ((c .before .before .before .before .before .before .partial-block-text) .result) ((c .before .before .before .before .before .before .partial-block-text) .last .0) ((c .before .before .before .before .before .before .partial-block-text) .last .1 .0) (a .indent .now) (a .ent .now) in
+    let D : Draws (a .s .now) (a .b .now) w₁ w₂ (write (take n (drop f (a .texts .now))) (abs (a .s .now) (a .b .now) w₁)) =
+    subst (λ (v : RenderContext). Draws (a .s .now) (a .b .now) (over v w) w₂ (write (take n (drop f (a .texts .now))) (abs (a .s .now) (a .b .now) (over v w)))) q
+    ((c .before .before .before .before .before .before .partial-block-text) .ensures .1 (a .s .now) (a .b .now) (a .indent .now) (a .ent .now) (subst (λ (v : RenderContext). Ready (a .s .now) (a .b .now) (over v w)) (sym q) (marks-ready (a .s .now) (a .b .now) (a .options) w (a .d) (a .p) (a .own) (a .at) (a .before) ((c .before .before .before .before .before .before .before .before .before .before .before .before .before .before .before .before .before .before .before .before .before .before .before .before .before .before .before .before .before .before .before .before .pre) .1) x k ((c .before .before .before .before .before .before .before .before .before .before .before .before .before .before .before .before .before .before .before .if1) .left)))) in
+    subst (λ (y : Begun). PartialBegun (a .s .now) (a .b .now) (a .options) w (over (y .rc) w₂) (a .d) (partial-rule (a .b .now) (a .d) (a .p) (a .own) (a .at) (a .before)) (a .at) (y .next)) (sym ((c .done4) .ensures ∙ ap done ((c .before .finish) .ensures)))
+    (begun-text (a .s .now) (a .b .now) (a .options) w (a .d) (a .p) (a .own) (a .at) (a .before) ((c .before .before .before .before .before .before .before .before .before .before .before .before .before .before .before .before .before .before .before .before .before .before .before .before .before .before .before .before .before .before .before .before .pre) .1) x k ((c .before .before .before .before .before .before .before .before .before .before .before .before .before .before .before .before .before .before .before .if1) .left) fits f n L w₂ D)
+
+-- src/lib.rt:150:1
+same-length-7 : tie.Need-same-length-7
+same-length-7 c = search needs
+
+-- src/lib.rt:150:1
+returns-5 : tie.Need-returns-5
+returns-5 c =
+    let a = (c .before .before .before .before .before .before .before .before .before .before .before .before .before .before .before .before .before .before .before .before .before .before .before .before .args) in
+    let w : World = world (a .rc) (a .page .now) (a .texts .now) (a .indent .now) (a .ent .now) in
+    let x = (c .before .before .before .before .before .before .before .before .before .before .before .before .before .try-from-template) .result in
+    let k = (c .before .before .before .before .before .before .before .before .before .before .before .before .before .try-from-template) .ensures (registry-of (a .s .now) (a .b .now) (a .options) (length (a .page .now))) (abs (a .s .now) (a .b .now) w) (top w) (setting (a .s .now) (a .b .now) (a .options) w ((c .before .before .before .before .before .before .before .before .before .before .before .before .before .before .before .before .before .before .before .before .before .before .before .before .pre) .1) (length (a .page .now))) in
+    let fits = sym (fits-is (a .s .now) (a .b .now) (a .options) w (a .at) ((c .before .before .before .before .before .before .before .before .before .before .before .before .before .before .before .before .before .before .before .before .before .before .before .before .pre) .1) ((c .before .before .before .before .before .before .before .before .before .indent-fits) .result) ((c .before .before .before .before .before .before .before .before .before .indent-fits) .ensures)) ∙ not-false _ ((c .before .before .before .before .before .before .before .before .if2) .left) in
+    let q : (c .before .before .before .before .before .before .begin-aware) .result ≡ marked (a .rc) (before-partial (a .rc .writer) (a .at) (a .before)) = (c .before .before .before .before .before .before .begin-aware) .ensures ∙ ap (marked (a .rc)) ((c .before .before .before .before .before .before .before .before-partial) .ensures) in
+    let w₁ : World = over (marked (a .rc) (before-partial (a .rc .writer) (a .at) (a .before))) w in
+    let L = subst (Leads (a .s .now) (a .b .now) (a .options) w₁ (a .d) (a .p) x (a .own) (a .at)) ((c .before .before .t) .given .1) (subst (λ (v : RenderContext). Decided (a .s .now) (a .b .now) (a .ent .now) v (a .d) (x .name) (a .own) ((c .before .before .before .before .expand-partial) .result)) q ((c .before .before .before .before .expand-partial) .ensures) .at (a .page .now) (a .texts .now) (a .indent .now) (a .options) (a .p) x (a .at) refl (marks-ready (a .s .now) (a .b .now) (a .options) w (a .d) (a .p) (a .own) (a .at) (a .before) ((c .before .before .before .before .before .before .before .before .before .before .before .before .before .before .before .before .before .before .before .before .before .before .before .before .pre) .1) x k ((c .before .before .before .before .before .before .before .before .before .before .before .if1) .left))) in
+    subst (λ (v : RenderContext). PartialBegun (a .s .now) (a .b .now) (a .options) w (over v w) (a .d) (partial-rule (a .b .now) (a .d) (a .p) (a .own) (a .at) (a .before)) (a .at) (Fallback ((c .before .before .t) .given .0 .0))) (sym ((c .set-current-template-name) .ensures ∙ ap (λ (v : RenderContext). with-template v 0) q))
+    (begun-fallback (a .s .now) (a .b .now) (a .options) w (a .d) (a .p) (a .own) (a .at) (a .before) ((c .before .before .before .before .before .before .before .before .before .before .before .before .before .before .before .before .before .before .before .before .before .before .before .before .pre) .1) x k ((c .before .before .before .before .before .before .before .before .before .before .before .if1) .left) fits ((c .before .before .t) .given .0 .0) L)
+
+-- src/lib.rt:150:1
+same-length-8 : tie.Need-same-length-8
+same-length-8 c = search needs
+
+-- src/lib.rt:150:1
+same-length-9 : tie.Need-same-length-9
+same-length-9 c = search needs
+
+-- src/lib.rt:150:1
+returns-6 : tie.Need-returns-6
+returns-6 c =
+    let a = (c .before .before .before .before .before .before .before .before .before .before .before .before .before .before .before .before .before .before .before .before .before .before .before .before .before .before .before .before .before .before .args) in
+    let w : World = world (a .rc) (a .page .now) (a .texts .now) (a .indent .now) (a .ent .now) in
+    let x = (c .before .before .before .before .before .before .before .before .before .before .before .before .before .before .before .before .before .before .before .try-from-template) .result in
+    let k = (c .before .before .before .before .before .before .before .before .before .before .before .before .before .before .before .before .before .before .before .try-from-template) .ensures (registry-of (a .s .now) (a .b .now) (a .options) (length (a .page .now))) (abs (a .s .now) (a .b .now) w) (top w) (setting (a .s .now) (a .b .now) (a .options) w ((c .before .before .before .before .before .before .before .before .before .before .before .before .before .before .before .before .before .before .before .before .before .before .before .before .before .before .before .before .before .before .pre) .1) (length (a .page .now))) in
+    let fits = sym (fits-is (a .s .now) (a .b .now) (a .options) w (a .at) ((c .before .before .before .before .before .before .before .before .before .before .before .before .before .before .before .before .before .before .before .before .before .before .before .before .before .before .before .before .before .before .pre) .1) ((c .before .before .before .before .before .before .before .before .before .before .before .before .before .before .before .indent-fits) .result) ((c .before .before .before .before .before .before .before .before .before .before .before .before .before .before .before .indent-fits) .ensures)) ∙ not-false _ ((c .before .before .before .before .before .before .before .before .before .before .before .before .before .before .if2) .left) in
+    let q : (c .before .before .before .before .before .before .before .before .before .before .before .before .begin-aware) .result ≡ marked (a .rc) (before-partial (a .rc .writer) (a .at) (a .before)) = (c .before .before .before .before .before .before .before .before .before .before .before .before .begin-aware) .ensures ∙ ap (marked (a .rc)) ((c .before .before .before .before .before .before .before .before .before .before .before .before .before .before-partial) .ensures) in
+    let w₁ : World = over (marked (a .rc) (before-partial (a .rc .writer) (a .at) (a .before))) w in
+    let L = subst (Leads (a .s .now) (a .b .now) (a .options) w₁ (a .d) (a .p) x (a .own) (a .at)) ((c .before .before .before .before .before .before .before .before .t2) .given .1) (subst (λ (v : RenderContext). Decided (a .s .now) (a .b .now) (a .ent .now) v (a .d) (x .name) (a .own) ((c .before .before .before .before .before .before .before .before .before .before .expand-partial) .result)) q ((c .before .before .before .before .before .before .before .before .before .before .expand-partial) .ensures) .at (a .page .now) (a .texts .now) (a .indent .now) (a .options) (a .p) x (a .at) refl (marks-ready (a .s .now) (a .b .now) (a .options) w (a .d) (a .p) (a .own) (a .at) (a .before) ((c .before .before .before .before .before .before .before .before .before .before .before .before .before .before .before .before .before .before .before .before .before .before .before .before .before .before .before .before .before .before .pre) .1) x k ((c .before .before .before .before .before .before .before .before .before .before .before .before .before .before .before .before .before .if1) .left))) in
+    let W = worked-there (a .s .now) (a .b .now) (a .options) w (a .d) (a .p) (a .own) (a .at) (a .before) ((c .before .before .before .before .before .before .before .before .before .before .before .before .before .before .before .before .before .before .before .before .before .before .before .before .before .before .before .before .before .before .pre) .1) x k ((c .before .before .before .before .before .before .before .before .before .before .before .before .before .before .before .before .before .if1) .left) in
+    let E = subst (λ (v : RenderContext). Enters (a .s .now) (a .b .now) (a .ent .now) ((c .before .before .before .before .enter) .last .1 .1 .1 .0) (a .indent .now) ((c .before .before .before .before .enter) .last .1 .1 .1 .1 .0) (a .options) v ((c .before .before .before .before .enter) .result .rc) (a .d) (a .p) x ((c .before .before .before .before .before .before .before .before .t2) .given .0 .0) ((c .before .before .before .before .before .before .before .before .t2) .given .0 .1 .0) ((c .before .before .before .before .before .before .before .before .t2) .given .0 .1 .1 .0) ((c .before .before .before .before .before .before .before .before .t2) .given .0 .1 .1 .1 .0) (a .at) ((c .before .before .before .before .enter) .result .next)) q ((c .before .before .before .before .enter) .ensures) .at (L .2) (a .page .now) (a .texts .now) (marks-ready (a .s .now) (a .b .now) (a .options) w (a .d) (a .p) (a .own) (a .at) (a .before) ((c .before .before .before .before .before .before .before .before .before .before .before .before .before .before .before .before .before .before .before .before .before .before .before .before .before .before .before .before .before .before .pre) .1) x k ((c .before .before .before .before .before .before .before .before .before .before .before .before .before .before .before .before .before .if1) .left)) _ W in
+    begun-entered (a .s .now) (a .b .now) (a .options) w (a .d) (a .p) (a .own) (a .at) (a .before) ((c .before .before .before .before .before .before .before .before .before .before .before .before .before .before .before .before .before .before .before .before .before .before .before .before .before .before .before .before .before .before .pre) .1) x k ((c .before .before .before .before .before .before .before .before .before .before .before .before .before .before .before .before .before .if1) .left) fits ((c .before .before .before .before .before .before .before .before .t2) .given .0 .0) ((c .before .before .before .before .before .before .before .before .t2) .given .0 .1 .0) ((c .before .before .before .before .before .before .before .before .t2) .given .0 .1 .1 .0) ((c .before .before .before .before .before .before .before .before .t2) .given .0 .1 .1 .1 .0) L (world ((c .before .before .before .before .enter) .result .rc) (a .page .now) (a .texts .now) ((c .before .before .before .before .enter) .last .1 .1 .1 .1 .0) ((c .before .before .before .before .enter) .last .1 .1 .1 .0)) ((c .before .before .before .before .enter) .result .next) E
+
+pub begin-spec : {M : Type 1} → statement M
+begin-spec =
+    tie.close
+    (tie.spec
+    try-from-template-requires
+    failed-requires
+    done-requires
+    same-length
+    returns
+    indent-fits-requires
+    failed-requires-2
+    done-requires-2
+    same-length-2
+    returns-2
+    before-partial-requires
+    begin-aware-requires
+    expand-partial-requires
+    enum-known-n
+    failed-requires-3
+    done-requires-3
+    enum-known-from
+    partial-block-text-requires
+    finish-requires
+    done-requires-4
+    enum-known-t
+    set-current-template-name-requires
+    enum-known-t-2
+    enter-requires
+    same-length-3
+    returns-3
+    same-length-4
+    same-length-5
+    same-length-6
+    returns-4
+    same-length-7
+    returns-5
+    same-length-8
+    same-length-9
+    returns-6)

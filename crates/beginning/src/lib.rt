@@ -1,0 +1,220 @@
+// partial.rs and render.rs: a partial up to the body that it draws. Its marks are set, its scope is opened, and its indent is set.
+// s is the plan with its places tab, b the bundle with the places of its templates; ent holds the entries of open partials, indent the indent in force;
+// d is the number of depths left for the call and the body of the element.
+ghost use mathlib.Core.Bool.{_&&_, _||_};
+ghost use mathlib.Core.Path.{_≡_};
+ghost use Prim.Native.Nat.{ℕ, _+_, _^_, _≤_, _<_};
+ghost use lib.ListN.{length};
+ghost use Rattle.rules.specs.Bits.{bits};
+ghost use Rattle.rules.specs.Bundle.{string, body, param, call-of};
+ghost use Rattle.parts.specs.Holds.{Holds};
+ghost use Rattle.parts.specs.Says.{MaybeHolds};
+ghost use Rattle.state.specs.Setters.{failed, marked};
+ghost use Rattle.state.specs.World.{world, Ready};
+ghost use Rattle.drawing.specs.Parts.{is-at, before-partial};
+ghost use Rattle.drawing.specs.Renders.{Checked, Named, Worked, Joins};
+ghost use Rattle.beginning.specs.Opened.{done, BodyFits, body-context, body-buffer, TextEnds, text-context, text-buffer, partial-rule, PartialBegun};
+ghost use Rattle.beginning.specs.Entering.{Enterable, Enters};
+use expand::Expanded;
+use expand::Options;
+use output::Writer;
+use parts::Maybe;
+use state::RenderContext;
+use targets::Target;
+
+fn is_at(m: Maybe) -> bool
+    ensures { λ r. ⌜ r ≡ is-at m ⌝ }
+{
+    match m {
+        Maybe::At(_) => true,
+        Maybe::Nothing => false,
+    }
+}
+
+fn has_indent(w: Writer, at: Maybe) -> bool
+    ensures { λ r. ⌜ r ≡ (w .«has_indent» || is-at at) ⌝ }
+{
+    if w.has_indent {
+        return true;
+    }
+    is_at(at)
+}
+
+// The indent of a partial is set in front of its body, with its own indent at the place `at`; and the body's name, by one more than its place.
+fn begin_body(
+    indent: &mut [u8],
+    b: &[u8],
+    at: Maybe,
+    name: usize,
+    rc: RenderContext,
+) -> RenderContext
+    requires { ⌜ (length (now b) ≤ 65536) × BodyFits (bits (now b)) at rc (length (now indent)) ⌝ }
+    ensures { λ r. ⌜ (r ≡ body-context (bits (now (b .entry))) at name rc) × (now (indent .exit) ≡ body-buffer (bits (now (b .entry))) at rc (now (indent .entry))) ⌝ }
+{
+    let w = rc.writer;
+    let n = decorators::append_indent(indent, b, w.indent, at);
+    let u = texts::with_indent(rc, has_indent(w, at), n);
+    state::set_current_template_name(u, name)
+}
+
+// The block text, drawn from begin on, is finished; then the body comes.
+pub fn end_text(
+    texts: &mut [u8],
+    indent: &mut [u8],
+    b: &[u8],
+    at: Maybe,
+    name: usize,
+    begin: usize,
+    block_text: bool,
+    rc: RenderContext,
+) -> RenderContext
+    requires { ⌜ (length (now b) ≤ 65536) × TextEnds (bits (now b)) at begin rc (length (now texts)) (length (now indent)) ⌝ }
+    ensures { λ r. ⌜ (r ≡ text-context (bits (now (b .entry))) at name begin «block_text» rc) × (now (texts .exit) ≡ text-buffer begin rc (now (texts .entry))) × (now (indent .exit) ≡ body-buffer (bits (now (b .entry))) at rc (now (indent .entry))) ⌝ }
+{
+    let u = texts::close_text(texts, rc, begin, block_text);
+    begin_body(indent, b, at, name, u)
+}
+
+// What is left to be drawn of a partial.
+pub enum Next {
+    // nothing: the context is the one behind it
+    Done,
+    // the own body, as the fallback of `@partial-block`
+    Fallback(usize),
+    // the body at that place with its depths, and one more than the place of its name
+    Body(usize, usize, usize),
+    // the same behind the block text, whose body stands first
+    Text(usize, usize, usize, usize),
+}
+
+pub struct Begun {
+    pub rc: RenderContext,
+    pub next: Next,
+}
+
+fn done(rc: RenderContext) -> Begun
+    ensures { λ r. ⌜ r ≡ done rc ⌝ }
+{
+    Begun {
+        rc,
+        next: Next::Done,
+    }
+}
+
+// The scope of the partial that was found is opened, and its body or the body of its block text begins.
+fn enter(
+    s: &[u8],
+    tab: &[u64],
+    b: &[u8],
+    ent: &mut [u64],
+    indent: &mut [u8],
+    options: Options,
+    p: usize,
+    w: Expanded,
+    q: usize,
+    e: usize,
+    name: usize,
+    own: Maybe,
+    at: Maybe,
+    d: usize,
+    rc: RenderContext,
+) -> Begun
+    requires { ⌜ Enterable (now s) (now tab) (now b) (now ent) (now indent) options rc d p w q e name own at ⌝ }
+    ensures { λ r. ⌜ Enters (now (s .entry)) (now (b .entry)) (now (ent .entry)) (now (ent .exit)) (now (indent .entry)) (now (indent .exit)) options rc (r .rc) d p w q e name own at (r .next) ⌝ }
+{
+    let u = opening::open_scope(s, tab, b, ent, options, p, w, d, rc);
+    if u.bad != 0 {
+        return done(u);
+    }
+    match own {
+        Maybe::At(t) => {
+            Begun {
+                rc: state::set_current_template_name(texts::open_text(u), 0),
+                next: Next::Text(t, q, e, name),
+            }
+        }
+        Maybe::Nothing => {
+            Begun {
+                rc: begin_body(indent, b, at, name, texts::no_text(u)),
+                next: Next::Body(q, e, name),
+            }
+        }
+    }
+}
+
+// Whether an indent comes in front of what a partial writes; at is its own indent.
+fn before_partial(w: Writer, at: Maybe, before: bool) -> bool
+    ensures { λ r. ⌜ r ≡ before-partial w at before ⌝ }
+{
+    if before {
+        if w.trailing_newline {
+            return true;
+        }
+        return is_at(at);
+    }
+    false
+}
+
+// The partial of the call at p, with its own body and its own indent, where it has them.
+pub fn begin(
+    s: &[u8],
+    tab: &[u64],
+    b: &[u8],
+    index: &[u32],
+    ent: &mut [u64],
+    page: &mut [u8],
+    texts: &mut [u8],
+    indent: &mut [u8],
+    options: Options,
+    p: usize,
+    own: Maybe,
+    at: Maybe,
+    before: bool,
+    d: usize,
+    rc: RenderContext,
+) -> Begun
+    requires { ⌜ Checked (now s) (now tab) (now b) (now index) × Ready (now s) (now b) (world rc (now page) (now texts) (now indent) (now ent)) × (d ≤ 16) × Holds (call-of (param d)) (bits (now b)) p × MaybeHolds (body 16 d) (bits (now b)) own × MaybeHolds string (bits (now b)) at ⌝ }
+    ensures { λ r. ⌜ PartialBegun (now (s .entry)) (now (b .entry)) options (world rc (now (page .entry)) (now (texts .entry)) (now (indent .entry)) (now (ent .entry))) (world (r .rc) (now (page .exit)) (now (texts .exit)) (now (indent .exit)) (now (ent .exit))) d (partial-rule (now (b .entry)) d p own at before) at (r .next) ⌝ }
+{
+    let list = rc.scopes;
+    let w = expand::try_from_template(s, tab, b, ent, list, rc.used, options, p, d);
+    if w.bad != 0 {
+        return done(state::failed(rc, w.bad));
+    }
+    let marks = rc.writer;
+    if !decorators::indent_fits(b, marks.has_indent, marks.indent, at) {
+        return done(state::failed(rc, 21));
+    }
+    let name = w.name;
+    let q = state::begin_aware(rc, before_partial(marks, at, before));
+    match targets::expand_partial(s, tab, b, index, ent, name, own, d, q) {
+        Target::Bad(n) => done(state::failed(q, n)),
+        Target::Text(from, n) => done(state::finish(
+            writing::partial_block_text(page, texts, q, from, n),
+            marks,
+        )),
+        Target::Fallback(t) => {
+            Begun {
+                rc: state::set_current_template_name(q, 0),
+                next: Next::Fallback(t),
+            }
+        }
+        Target::Body(t, e, n, m) => enter(
+            s,
+            tab,
+            b,
+            ent,
+            indent,
+            options,
+            p,
+            w,
+            t,
+            e,
+            n,
+            m,
+            at,
+            d,
+            q,
+        ),
+    }
+}

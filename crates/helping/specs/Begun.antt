@@ -1,0 +1,70 @@
+-- What the beginning of a helper leaves to be drawn: s is the plan, b the bundle.
+use Prim.Native.Nat.{ℕ}
+use mathlib.Core.Bool.{Bool}
+use mathlib.Core.Option.{none}
+use Rattle.rules.specs.Bytes.{Bytes}
+use Rattle.rules.specs.Bits.{Bits, bits}
+use Rattle.rules.specs.Template as template
+use Rattle.rules.specs.Bundle.{body}
+use Rattle.rules.specs.State.{Draw, push-block, pop-block, _after_}
+use Rattle.rules.specs.Registry.{Registry}
+use Rattle.rules.specs.BlockUtil.{create-block, render-or-nothing}
+use Rattle.rules.specs.HelperEach.{turn-block, turns}
+use Rattle.rules.specs.Partial.{Rendering}
+use Rattle.rules.specs.Render.{render-elements, render-body}
+use Rattle.parts.specs.declared.Maybe.{Maybe}
+use Rattle.parts.specs.declared.Maybe.the-variants.{At, Nothing}
+use Rattle.parts.specs.Holds.{Holds}
+use Rattle.parts.specs.Views.{names-view}
+use Rattle.parts.specs.Says.{names-at}
+use Rattle.template.specs.Views.{template-at}
+use Rattle.output.specs.declared.Writer.{Writer}
+use Rattle.value.specs.declared.Value.{Value}
+use Rattle.meaning.specs.Meaning.{json-of, scoped-of}
+use Rattle.members.specs.Turns.{each-turns}
+use Rattle.blocks.specs.Opened.{with-scope, newest}
+use Rattle.expand.specs.declared.Options.{Options}
+use Rattle.state.specs.declared.RenderContext.{RenderContext}
+use Rattle.state.specs.Setters.{with-template, settled, pushed, finished, finished-within}
+use Rattle.state.specs.World.{World}
+use Rattle.drawing.specs.Renders.{Renders, Openable}
+use Rattle.drawing.specs.Continues.{Continues}
+use Rattle.helping.specs.declared.Next.{Next}
+use Rattle.helping.specs.declared.Next.the-variants.{Done, Body, Within, Turns}
+use Rattle.helping.specs.declared.Begun.{Begun}
+use Rattle.helping.specs.Decided.{helper-rule}
+
+abbrev pub done : RenderContext → Begun
+done c = record { rc = c; next = Done }
+
+abbrev pub body-next : Maybe → RenderContext → Writer → Begun
+body-next (At p) c w = record { rc = with-template c 0; next = Body p }
+body-next Nothing c w = done (settled c w)
+
+-- the scope of `with` is opened; its names stand at n
+abbrev pub within-next : Bits → ℕ → Maybe → Value → RenderContext → Writer → Begun
+within-next b n (At p) v c w = record { rc = with-template (pushed c (with-scope v (names-view b n) (newest c))) 0; next = Within p }
+within-next b n Nothing v c w = done (settled c w)
+
+abbrev pub turns-next : Maybe → Value → RenderContext → Writer → Begun
+turns-next (At p) v c w = record { rc = c; next = Turns v p }
+turns-next Nothing v c w = done (settled c w)
+
+-- the body at p
+abbrev pub body-rule : Bytes → ℕ → ℕ → Registry → Rendering → Draw
+body-rule b d p g R = render-elements g R none (template-at 16 d (bits b) p)
+
+-- `each`: the body for each turn over v, in one scope
+abbrev pub turns-rule : Bytes → Bytes → World → ℕ → ℕ → ℕ → Value → Registry → Rendering → Draw
+turns-rule s b w d n p v g R st =
+    pop-block after turns (turn-block (scoped-of s b (w .ent) v) (names-at (bits b) n)) (render-or-nothing (render-body g R (template.body (template-at 16 d (bits b) p)))) (each-turns (json-of s b (w .ent) v)) (push-block (create-block (scoped-of s b (w .ent) v)) st)
+
+-- w is in front of the helper, w₁ is what its beginning leaves
+abbrev pub HelperBegun : Bytes → Bytes → Options → World → World → ℕ → ℕ → ℕ → Maybe → Maybe → Bool → Next → Type 0
+HelperBegun s b o w w₁ d p n tm im before Done = Renders s b o w w₁ (helper-rule b d p before (names-at (bits b) n) tm im)
+HelperBegun s b o w w₁ d p n tm im before (Body q) =
+    Holds (body 16 d) (bits b) q × Continues s b o w w₁ 0 (body-rule b d q) (helper-rule b d p before (names-at (bits b) n) tm im) (finished (w .rc .writer))
+HelperBegun s b o w w₁ d p n tm im before (Within q) =
+    Holds (body 16 d) (bits b) q × Continues s b o w w₁ 1 (body-rule b d q) (helper-rule b d p before (names-at (bits b) n) tm im) (finished-within (w .rc .total) (w .rc .writer))
+HelperBegun s b o w w₁ d p n tm im before (Turns v q) =
+    Holds (body 16 d) (bits b) q × Openable s b w₁ v × Continues s b o w w₁ 0 (turns-rule s b w₁ d n q v) (helper-rule b d p before (names-at (bits b) n) tm im) (finished (w .rc .writer))

@@ -1,0 +1,38 @@
+-- What a helper was found to do is drawn, and its marks are settled: s is the plan, b the bundle.
+use Prim.Native.Nat.{ℕ}
+use mathlib.Core.Bool.{Bool}
+use mathlib.Core.List.{List}
+use Rattle.rules.specs.Bytes.{Bytes}
+use Rattle.rules.specs.Bits.{bits}
+use Rattle.rules.specs.Template as template
+use Rattle.rules.specs.State.{Draw}
+use Rattle.rules.specs.Registry.{Registry}
+use Rattle.rules.specs.Partial.{Rendering}
+use Rattle.rules.specs.Render.{render-helper, render-body}
+use Rattle.parts.specs.declared.Maybe.{Maybe}
+use Rattle.calls.specs.Calls.{call-at}
+use Rattle.template.specs.Views.{body-says}
+use Rattle.expand.specs.declared.Options.{Options}
+use Rattle.helpers.specs.declared.Does.{Does}
+use Rattle.state.specs.declared.RenderContext.{RenderContext}
+use Rattle.state.specs.Setters.{marked, finished}
+use Rattle.state.specs.World.{World, world, over, Ready}
+use Rattle.drawing.specs.Parts.{before-helper}
+use Rattle.drawing.specs.Renders.{Renders, Possible, Helped}
+
+-- the element: its call at p, its bodies tm and im with d depths, its names ns
+abbrev pub helper-rule : Bytes → ℕ → ℕ → Bool → template.BlockParam → Maybe → Maybe → Registry → Rendering → Draw
+helper-rule b d p before ns tm im g R = render-helper g (call-at d (bits b) p) before ns (render-body g R (body-says 16 d (bits b) tm)) (render-body g R (body-says 16 d (bits b) im))
+
+-- behind the marks
+abbrev pub marks-set : World → Bool → World
+marks-set w before = over (marked (w .rc) (before-helper (w .rc .writer) before)) w
+
+pub record Drawable (s b : Bytes) (o : Options) (w : World) (d p : ℕ) (before : Bool) (ns : template.BlockParam) (tm im : Maybe) (a : Does) : Type 0 where
+  pub possible : Possible s b (marks-set w before) a
+  pub done : (w₂ : World) → Helped s b o (marks-set w before) w₂ ns (body-says 16 d (bits b) tm) (body-says 16 d (bits b) im) a
+      → Renders s b o w (over (finished (w .rc .writer) (w₂ .rc)) w₂) (helper-rule b d p before ns tm im)
+
+-- whatever page, texts and indent there are
+pub record Decided (s b : Bytes) (ent : List ℕ) (o : Options) (c : RenderContext) (d p : ℕ) (tm im : Maybe) (a : Does) : Type 0 where
+  pub at : (page texts indent : Bytes) (before : Bool) (ns : template.BlockParam) → Ready s b (world c page texts indent ent) → Drawable s b o (world c page texts indent ent) d p before ns tm im a

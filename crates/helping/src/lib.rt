@@ -1,0 +1,191 @@
+// helpers/*.rs and render.rs: a helper up to the body that it draws. What it does is decided, its marks are set, and the scope of `with` is opened.
+// s is the plan with its places tab, b the bundle; ent holds the entries of open partials, indent the indent in force; d is the number of depths left
+// for the call and the bodies of the element.
+ghost use mathlib.Core.Bool.{_&&_, _||_};
+ghost use mathlib.Core.Path.{_≡_};
+ghost use Prim.Native.Nat.{_≤_, _<_};
+ghost use lib.ListN.{length};
+ghost use Rattle.rules.specs.Bits.{bits};
+ghost use Rattle.rules.specs.Bundle.{body, param, call-of, block-names};
+ghost use Rattle.parts.specs.Holds.{Holds};
+ghost use Rattle.parts.specs.Says.{MaybeHolds};
+ghost use Rattle.places.specs.Accepted.{Accepted};
+ghost use Rattle.state.specs.Setters.{marked};
+ghost use Rattle.state.specs.World.{world, Ready};
+ghost use Rattle.inlining.specs.Decorated.{SomeReady};
+ghost use Rattle.drawing.specs.Parts.{is-at, before-helper};
+ghost use Rattle.blocks.specs.Opened.{Opens};
+ghost use Rattle.helping.specs.Begun.{done, body-next, within-next, turns-next, HelperBegun};
+ghost use Rattle.helping.specs.Decided.{Decided};
+use expand::Options;
+use helpers::Does;
+use output::Writer;
+use parts::Maybe;
+use state::RenderContext;
+use value::Value;
+
+fn is_at(m: Maybe) -> bool
+    ensures { λ r. ⌜ r ≡ is-at m ⌝ }
+{
+    match m {
+        Maybe::At(_) => true,
+        Maybe::Nothing => false,
+    }
+}
+
+// What the helper of the call at p does.
+pub fn decide(
+    s: &[u8],
+    tab: &[u64],
+    b: &[u8],
+    ent: &[u64],
+    options: Options,
+    p: usize,
+    template: Maybe,
+    inverse: Maybe,
+    d: usize,
+    rc: RenderContext,
+) -> Does
+    requires { ⌜ Accepted (now s) (now tab) × (length (now b) ≤ 65536) × SomeReady (now s) (now b) rc (now ent) × Holds (call-of (param d)) (bits (now b)) p ⌝ }
+    ensures { λ r. ⌜ Decided (now (s .entry)) (now (b .entry)) (now (ent .entry)) options rc d p template inverse r ⌝ }
+{
+    let list = rc.scopes;
+    let w = expand::try_from_template(s, tab, b, ent, list, rc.used, options, p, d);
+    if w.bad != 0 {
+        return Does::Bad(w.bad);
+    }
+    let n = w.name;
+    let h = expand::get_helper(s, tab, b, n);
+    let t = is_at(template);
+    let i = is_at(inverse);
+    helpers::call_helper(s, tab, b, ent, rc.used, options, h, w, t, i)
+}
+
+// Whether an indent comes in front of what a helper writes.
+fn before_helper(w: Writer, before: bool) -> bool
+    ensures { λ r. ⌜ r ≡ before-helper w before ⌝ }
+{
+    if w.indent_before_write {
+        return true;
+    }
+    if before {
+        return w.trailing_newline;
+    }
+    false
+}
+
+// The marks in front of a helper.
+pub fn begin_helper(rc: RenderContext, before: bool) -> RenderContext
+    ensures { λ r. ⌜ r ≡ marked rc (before-helper (rc .writer) before) ⌝ }
+{
+    let w = rc.writer;
+    state::begin_aware(rc, before_helper(w, before))
+}
+
+// What is left to be drawn of a helper.
+pub enum Next {
+    // nothing: the context is the one behind it
+    Done,
+    // the body at that place
+    Body(usize),
+    // the same in the scope that was opened
+    Within(usize),
+    // the body for each turn over the value
+    Turns(Value, usize),
+}
+
+pub struct Begun {
+    pub rc: RenderContext,
+    pub next: Next,
+}
+
+fn done(rc: RenderContext) -> Begun
+    ensures { λ r. ⌜ r ≡ done rc ⌝ }
+{
+    Begun {
+        rc,
+        next: Next::Done,
+    }
+}
+
+// A body of the element, if it has it; a body has no name.
+fn body_next(m: Maybe, rc: RenderContext, before: Writer) -> Begun
+    ensures { λ r. ⌜ r ≡ body-next m rc before ⌝ }
+{
+    match m {
+        Maybe::At(p) => {
+            Begun {
+                rc: state::set_current_template_name(rc, 0),
+                next: Next::Body(p),
+            }
+        }
+        Maybe::Nothing => done(state::settle(rc, before)),
+    }
+}
+
+// The template of `with`, in a scope of the value; without a template the scope is opened and closed again.
+fn within_next(b: &[u8], at: usize, m: Maybe, v: Value, rc: RenderContext, before: Writer) -> Begun
+    requires { ⌜ (length (now b) ≤ 65536) × Holds block-names (bits (now b)) at × Opens rc v ⌝ }
+    ensures { λ r. ⌜ r ≡ within-next (bits (now (b .entry))) at m v rc before ⌝ }
+{
+    let Maybe::At(p) = m else {
+        return done(state::settle(rc, before));
+    };
+    let q = blocks::open_with(b, at, v, rc);
+    Begun {
+        rc: state::set_current_template_name(q, 0),
+        next: Next::Within(p),
+    }
+}
+
+fn turns_next(m: Maybe, v: Value, rc: RenderContext, before: Writer) -> Begun
+    ensures { λ r. ⌜ r ≡ turns-next m v rc before ⌝ }
+{
+    match m {
+        Maybe::At(p) => {
+            Begun {
+                rc,
+                next: Next::Turns(v, p),
+            }
+        }
+        Maybe::Nothing => done(state::settle(rc, before)),
+    }
+}
+
+// The helper of the call at p; its block names stand at the place `at`.
+pub fn begin(
+    s: &[u8],
+    tab: &[u64],
+    b: &[u8],
+    ent: &[u64],
+    page: &mut [u8],
+    texts: &mut [u8],
+    indent: &[u8],
+    options: Options,
+    p: usize,
+    at: usize,
+    template: Maybe,
+    inverse: Maybe,
+    before: bool,
+    d: usize,
+    rc: RenderContext,
+) -> Begun
+    requires { ⌜ Accepted (now s) (now tab) × (length (now b) ≤ 65536) × Ready (now s) (now b) (world rc (now page) (now texts) (now indent) (now ent)) × Holds (call-of (param d)) (bits (now b)) p × Holds block-names (bits (now b)) at × MaybeHolds (body 16 d) (bits (now b)) template × MaybeHolds (body 16 d) (bits (now b)) inverse ⌝ }
+    ensures { λ r. ⌜ HelperBegun (now (s .entry)) (now (b .entry)) options (world rc (now (page .entry)) (now (texts .entry)) (now (indent .entry)) (now (ent .entry))) (world (r .rc) (now (page .exit)) (now (texts .exit)) (now (indent .entry)) (now (ent .entry))) d p at template inverse before (r .next) ⌝ }
+{
+    let does = decide(s, tab, b, ent, options, p, template, inverse, d, rc);
+    let marks = rc.writer;
+    let q = begin_helper(rc, before);
+    match does {
+        Does::Bad(n) => done(state::failed(q, n)),
+        Does::Nothing => done(state::settle(q, marks)),
+        Does::Template => body_next(template, q, marks),
+        Does::Inverse => body_next(inverse, q, marks),
+        Does::Within(v) => within_next(b, at, template, v, q, marks),
+        Does::Turns(v) => turns_next(template, v, q, marks),
+        Does::Write(v) => done(state::finish(
+            writing::value(page, texts, indent, s, tab, b, v, q),
+            marks,
+        )),
+    }
+}

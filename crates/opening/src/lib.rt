@@ -1,0 +1,59 @@
+// partial.rs: the scope of a partial is opened, with the hash of its call merged into its context.
+// s is the plan with its places tab, b the bundle; ent holds the entries of open partials; d is the number of depths left for the call.
+ghost use mathlib.Core.Path.{_≡_};
+ghost use Prim.Native.Nat.{_≤_, _<_};
+ghost use lib.ListN.{length};
+ghost use Rattle.rules.specs.Bits.{bits};
+ghost use Rattle.rules.specs.Bundle.{param, call-of};
+ghost use Rattle.parts.specs.Holds.{Holds};
+ghost use Rattle.places.specs.Accepted.{Accepted};
+ghost use Rattle.inlining.specs.Decorated.{SomeReady};
+ghost use Rattle.opening.specs.Scoped.{end-of, SomeWorked, ScopeOpened};
+use expand::Expanded;
+use expand::Options;
+use state::RenderContext;
+
+// Where the entries in use end.
+fn end_of(rc: RenderContext) -> usize
+    requires { ⌜ (0 < rc .used) × (rc .used ≤ 32) × (length (rc .scopes) ≡ 32) × (end-of rc ≤ 4096) ⌝ }
+    ensures { λ r. ⌜ r ≡ end-of rc ⌝ }
+{
+    let c = state::front(rc);
+    c.inline as usize + c.count as usize
+}
+
+// The scope of a partial is opened, with the hash of the call at p merged into its context: 22 or 23 where that cannot be.
+pub fn open_scope(
+    s: &[u8],
+    tab: &[u64],
+    b: &[u8],
+    ent: &mut [u64],
+    options: Options,
+    p: usize,
+    w: Expanded,
+    d: usize,
+    rc: RenderContext,
+) -> RenderContext
+    requires { ⌜ Accepted (now s) (now tab) × (length (now b) ≤ 65536) × SomeReady (now s) (now b) rc (now ent) × Holds (call-of (param d)) (bits (now b)) p × SomeWorked (now s) (now b) (now ent) options rc d p w ⌝ }
+    ensures { λ r. ⌜ ScopeOpened (now (s .entry)) (now (b .entry)) (now (ent .entry)) (now (ent .exit)) options rc r d p w ⌝ }
+{
+    let list = rc.scopes;
+    let base = including::partial_context(list, rc.used, w);
+    let call = calls::call_at(b, p, d);
+    let n = call.pairs as usize;
+    let t = end_of(rc);
+    let values = including::hash_values(s, tab, b, ent, list, rc.used, options, call.pair, n, d);
+    if 4096 < t + n {
+        return state::failed(rc, 22);
+    }
+    including::merge(ent, b, t, base, values, call.pair, n, d);
+    let m = including::merged_entries(s, tab, b, ent, t, n);
+    if 4096 - rc.total < m {
+        return state::failed(rc, 22);
+    }
+    if 32 <= rc.used {
+        return state::failed(rc, 23);
+    }
+    let c = including::scope_of(base, t, n, state::front(rc));
+    state::push_block(state::set_total(rc, rc.total + m), c)
+}
