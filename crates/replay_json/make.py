@@ -3,7 +3,7 @@
 
     make.py ORACLE GEN CASES...
 
-ORACLE and GEN are oracle/bin/oracle and oracle/bin/gen, CASES the files of the fixed list (crates/replay_vectors/data).
+ORACLE and GEN are oracle/bin/oracle and oracle/bin/gen, CASES the files of the fixed list (crates/replay_render/data).
 The texts: those of the list's json profile, those of the whole list that 7 to 10 refuse, edges that are written out here,
 and generated ones of the json profile. None comes twice. The form of a string is that of vectors/README.md.
 """

@@ -1,1 +1,5 @@
 pub mod Checks
+pub mod Answers
+pub mod Begins
+pub mod Calls
+pub mod Names

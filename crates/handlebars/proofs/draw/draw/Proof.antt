@@ -1,0 +1,59 @@
+use Rattle.rules.specs.Layout.{field}
+use mathlib.Core.Path.{sym, subst}
+use Prim.Native.Nat.{ℕ, _≤_}
+use Rattle.handlebars.specs.Answers.{shown}
+use Rattle.handlebars.specs.Begins.{few-templates}
+use Rattle.rules.specs.Bits.{bits}
+use Rattle.rules.specs.Call.{render-call}
+use borrow.Author.Needs.{needs}
+use Rattle.handlebars.proofs.draw.draw.Statement.{statement}
+use Rattle.handlebars.proofs.draw.draw.Tie as tie
+
+slice-aggregate-index : tie.Need-slice-aggregate-index
+slice-aggregate-index c = search needs
+
+index-requires : tie.Need-index-requires
+index-requires c κs = let z = c .before .before .before .before .before .before .before .before in (z .pre .0 .small, z .pre .0 .templates, few-templates (bits (z .args .b .now)) (z .pre .0 .templates))
+
+slice-aggregate-render-template : tie.Need-slice-aggregate-render-template
+slice-aggregate-render-template c = search needs
+
+render-template-requires : tie.Need-render-template-requires
+render-template-requires c κs =
+    let z = c .before .before .before .before .before .before .before .before .before .before .before .before .before .before .before in
+    let x = c .before .before .before .before .before .before .index2 .ensures in
+    (record { plan = z .pre .1; small = z .pre .0 .small; bundle = z .pre .0 .templates; listed = subst (λ (n : ℕ). field (bits (z .args .b .now)) 8 8 ≤ n) (sym (x .0)) (few-templates (bits (z .args .b .now)) (z .pre .0 .templates)); indexed = x .1 }, z .pre .2, z .pre .3, z .pre .4, z .pre .5, z .pre .6)
+
+answered-requires : tie.Need-answered-requires
+answered-requires c κs = search needs
+
+same-length : tie.Need-same-length
+same-length c = search needs
+
+same-length-2 : tie.Need-same-length-2
+same-length-2 c = search needs
+
+same-length-3 : tie.Need-same-length-3
+same-length-3 c = search needs
+
+same-length-4 : tie.Need-same-length-4
+same-length-4 c = search needs
+
+returns : tie.Need-returns
+unfolding render-call
+returns c = shown _ _ _ _ _ _ _ _ _ _ _ _ (c .before .before .before .before .before .before .before .before .before .render-template .ensures) _ (c .answered .ensures)
+
+pub draw-spec : {M : Type 1} → statement M
+draw-spec =
+    tie.close
+    (tie.spec
+    slice-aggregate-index
+    index-requires
+    slice-aggregate-render-template
+    render-template-requires
+    answered-requires
+    same-length
+    same-length-2
+    same-length-3
+    same-length-4
+    returns)

@@ -1,0 +1,119 @@
+// registry.rs: `render`, with the checks before it. All that is lent is cleared first, and at the end zero but for the text.
+ghost use mathlib.Core.List.{[], _∷_};
+ghost use mathlib.Core.Path.{_≡_};
+ghost use lib.ListN.{length};
+ghost use Rattle.rules.specs.Registry.{paper-limits};
+ghost use Rattle.drawing.specs.Renders.{options-of};
+ghost use Rattle.handlebars.specs.declared.start.Start.the-variants.{At};
+ghost use Rattle.handlebars.specs.Answers.{refusal};
+ghost use Rattle.handlebars.specs.Begins.{Roomy, StartHolds, goes-on};
+ghost use Rattle.handlebars.specs.Calls.{inputs, left, settled, predicted, Zero, Emptied};
+use crate::Answer;
+use crate::draw::draw;
+use crate::start::Start;
+use crate::start::begin;
+use crate::start::long_enough;
+use expand::Options;
+
+// A refusal by one of the first ten checks: no name, no position, no text.
+fn refused(number: u32) -> Answer
+    ensures { λ r. ⌜ r ≡ refusal number ⌝ }
+{
+    Answer {
+        number: number,
+        template: 0,
+        line: 0,
+        column: 0,
+        length: 0,
+    }
+}
+
+// Clears the page from the place on, and all scratch.
+fn clear_lent(
+    page: &mut [u8],
+    from: usize,
+    places: &mut [u64],
+    entries: &mut [u64],
+    texts: &mut [u8],
+    indent: &mut [u8],
+)
+    ensures { λ _. ⌜ Emptied from (now (page .entry)) (now (places .entry)) (now (entries .entry)) (now (texts .entry)) (now (indent .entry)) (now (page .exit)) (now (places .exit)) (now (entries .exit)) (now (texts .exit)) (now (indent .exit)) ⌝ }
+{
+    clear::clear_u8_from(page, from);
+    clear::clear_u64(places);
+    clear::clear_u64(entries);
+    clear::clear_u8(texts);
+    clear::clear_u8(indent);
+}
+
+// Checks 7 to 10, then the drawing of the template whose name stands at the place name and whose body at p.
+fn go_on(
+    bundle: &[u8],
+    plan: &[u8],
+    options: Options,
+    name: usize,
+    p: usize,
+    page: &mut [u8],
+    places: &mut [u64],
+    entries: &mut [u64],
+    texts: &mut [u8],
+    indent: &mut [u8],
+) -> Answer
+    requires { ⌜ StartHolds (now bundle) (At name p) × Roomy (now places) (now entries) (now texts) (now indent) × Zero (now page) (now places) (now entries) (now texts) (now indent) ⌝ }
+    ensures { λ r. ⌜ left (now (bundle .entry)) r (now (page .exit)) (now (places .exit) ∷ now (entries .exit) ∷ now (texts .exit) ∷ now (indent .exit) ∷ []) ≡ settled (length (now (page .entry))) (length (now (places .entry)) ∷ length (now (entries .entry)) ∷ length (now (texts .entry)) ∷ length (now (indent .entry)) ∷ []) (goes-on (now (bundle .entry)) (now (plan .entry)) (options-of options) (paper-limits (length (now (page .entry)))) (At name p)) ⌝ }
+{
+    let n = json::read_plan(plan, places);
+    if n != 0 {
+        return refused(n as u32);
+    }
+    let r = draw(
+        bundle,
+        plan,
+        places,
+        options,
+        name,
+        p,
+        page,
+        entries,
+        texts,
+        indent,
+    );
+    clear_lent(page, r.length, places, entries, texts, indent);
+    r
+}
+
+// The whole call: the text on the page and its length, or the first refusal in the paper's order. It asks nothing of its arguments.
+pub fn render(
+    bundle: &[u8],
+    plan: &[u8],
+    start: &[u8],
+    options: Options,
+    page: &mut [u8],
+    places: &mut [u64],
+    entries: &mut [u64],
+    texts: &mut [u8],
+    indent: &mut [u8],
+) -> Answer
+    ensures { λ r. ⌜ left (now (bundle .entry)) r (now (page .exit)) (now (places .exit) ∷ now (entries .exit) ∷ now (texts .exit) ∷ now (indent .exit) ∷ []) ≡ predicted (inputs (now (bundle .entry)) (now (plan .entry)) (now (start .entry)) options (length (now (page .entry))) (length (now (places .entry)) ∷ length (now (entries .entry)) ∷ length (now (texts .entry)) ∷ length (now (indent .entry)) ∷ [])) ⌝ }
+{
+    clear_lent(page, 0, places, entries, texts, indent);
+    if !long_enough(places.len(), entries.len(), texts.len(), indent.len()) {
+        return refused(1);
+    }
+    let from = begin(bundle, start, options);
+    match from {
+        Start::Refused(number) => refused(number),
+        Start::At(name, p) => go_on(
+            bundle,
+            plan,
+            options,
+            name,
+            p,
+            page,
+            places,
+            entries,
+            texts,
+            indent,
+        ),
+    }
+}

@@ -1,0 +1,72 @@
+// Checks 1 to 6: what a call needs before it reads the plan.
+ghost use mathlib.Core.List.{[], _∷_};
+ghost use mathlib.Core.Path.{_≡_};
+ghost use Rattle.rules.specs.Call.{long-enough, scratch-lengths};
+ghost use Rattle.registry.specs.Templates.{Standing};
+ghost use Rattle.handlebars.specs.Begins.{Begins};
+use expand::Options;
+use layout::Verdict;
+use registry::Found;
+
+// The lengths of the scratch buffers (docs/BUFFERS.md); include/handlebars.h has the same numbers.
+const PLACES: usize = 4096;
+
+const ENTRIES: usize = 8192;
+
+const TEXTS: usize = 16384;
+
+const INDENT: usize = 256;
+
+pub enum Start {
+    // the places of the template's name and of its body
+    At(usize, usize),
+    // the number of the refusal
+    Refused(u32),
+}
+
+// Check 1, of the lengths of the scratch buffers.
+pub fn long_enough(places: usize, entries: usize, texts: usize, indent: usize) -> bool
+    ensures { λ r. ⌜ r ≡ long-enough scratch-lengths (places ∷ entries ∷ texts ∷ indent ∷ []) ⌝ }
+{
+    if places < PLACES {
+        return false;
+    }
+    if entries < ENTRIES {
+        return false;
+    }
+    if texts < TEXTS {
+        return false;
+    }
+    if indent < INDENT {
+        return false;
+    }
+    true
+}
+
+// Checks 5 and 6.
+fn find(b: &[u8], start: &[u8], options: Options) -> Start
+    requires { ⌜ Standing (now b) ⌝ }
+    ensures { λ r. ⌜ Begins (now (b .entry)) (now (start .entry)) options r ⌝ }
+{
+    if options.strict & options.guide_truth {
+        return Start::Refused(5);
+    }
+    let f = registry::get_template(b, 16, start);
+    match f {
+        Found::Template(_, name, body) => Start::At(name, body),
+        Found::Missing => Start::Refused(6),
+    }
+}
+
+// Checks 2 to 6.
+pub fn begin(b: &[u8], start: &[u8], options: Options) -> Start
+    ensures { λ r. ⌜ Begins (now (b .entry)) (now (start .entry)) options r ⌝ }
+{
+    let v = layout::check_bundle(b);
+    match v {
+        Verdict::Accepted => find(b, start, options),
+        Verdict::TooLong => Start::Refused(2),
+        Verdict::BadLayout => Start::Refused(3),
+        Verdict::PartialContext => Start::Refused(4),
+    }
+}
