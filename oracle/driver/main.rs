@@ -1,69 +1,50 @@
-//! The driver of ../compare: the C library's functions, held to the oracle's checks.
+//! The driver of ../compare: the C library's functions, held to the oracle.
 //!
-//! ../compare sets `check_bundle` and `check_plan` for the functions that the library has.
+//! ../compare sets `check_bundle`, `check_plan` and `render` for the functions that the library has.
 
 #![allow(unexpected_cfgs)]
 
+mod library;
+mod speed;
+mod stack;
+
 use std::fs;
-use std::process::{Command, ExitCode};
-use std::thread;
+use std::process::ExitCode;
 use std::time::Instant;
 
+use oracle_core::batch;
+use oracle_core::call::with_big_stack;
+use oracle_core::compare::render::{self, Lending, Rendered};
 use oracle_core::compare::{self, Report};
-use oracle_core::gen::rng::Rng;
-use oracle_core::gen::{cases, limits, sheets, Case, Order, PROFILES};
+use oracle_core::gen::{cases, Case, Order, PROFILES};
 
 const USAGE: &str = "\
-usage: oracle/compare [--lib FILE] [COMMAND] [FLAGS]      without a command: all four
+usage: oracle/compare [--lib FILE] [--valgrind] [COMMAND] [FLAGS]      without a command: all five
   check_bundle   handlebars_check_bundle on generated bundles
   check_plan     handlebars_check_plan on generated plans
-  speed          MB/s of handlebars_check_plan, beside serde_json
-  stack          both on the deepest bundles and plans, with 256 KiB of stack
-flags: --profiles A,B (check_bundle: rich,limits,damaged,sheets; check_plan: json too)
-       --seed S (1)   --count N, for each profile (10000)   --rounds R, of speed (11)
-       --save DIR, for the cases that differ (a folder `handlebars-compare` for temporary files)";
+  render         handlebars_render and handlebars_template_name on generated cases
+  speed          MB/s of handlebars_check_plan, beside serde_json; sheets/s of handlebars_render, beside the Rust
+  stack          checks with 256 KiB of stack, the deepest drawings with 8 MiB; then with less
+flags: --profiles A,B or A:N,B:M (check_bundle: rich,limits,damaged,sheets; check_plan: json too; render: marks,nest too)
+       --seed S (1)   --count N, for each profile without its own (10000)   --rounds R, of speed (11)
+       --save DIR, for the cases that differ (a folder `handlebars-compare` for temporary files)
+       of render: --batch FILE, for the cases of a batch   --exact, buffers without guards that were never written
+       of speed: --csv FILE, for the sheets   --into FILE, a page between whose marks the tables go
+--valgrind runs render --exact under valgrind, on 5,000 cases unless --profiles is given";
 
-#[allow(dead_code)]
-mod library {
-    extern "C" {
-        #[cfg(check_bundle)]
-        fn handlebars_check_bundle(bundle: *const u8, len: usize) -> u32;
-        #[cfg(check_plan)]
-        fn handlebars_check_plan(plan: *const u8, len: usize, table: *mut u64, entries: usize) -> u32;
-    }
-
-    pub const HAS_BUNDLE: bool = cfg!(check_bundle);
-    pub const HAS_PLAN: bool = cfg!(check_plan);
-
-    #[cfg(check_bundle)]
-    pub fn check_bundle(bundle: &mut [u8]) -> u32 {
-        // SAFETY: pointer and length are those of the slice
-        unsafe { handlebars_check_bundle(bundle.as_mut_ptr(), bundle.len()) }
-    }
-
-    #[cfg(not(check_bundle))]
-    pub fn check_bundle(_: &mut [u8]) -> u32 {
-        unreachable!("not called where the library lacks it")
-    }
-
-    #[cfg(check_plan)]
-    pub fn check_plan(plan: &mut [u8], table: &mut [u64]) -> u32 {
-        // SAFETY: pointers and lengths are those of the slices
-        unsafe { handlebars_check_plan(plan.as_mut_ptr(), plan.len(), table.as_mut_ptr(), table.len()) }
-    }
-
-    #[cfg(not(check_plan))]
-    pub fn check_plan(_: &mut [u8], _: &mut [u64]) -> u32 {
-        unreachable!("not called where the library lacks it")
-    }
-}
+/// A profile, and its own count if it has one.
+type Profile = (String, Option<usize>);
 
 struct Flags {
-    profiles: Option<Vec<String>>,
+    profiles: Option<Vec<Profile>>,
     seed: u64,
     count: usize,
     rounds: usize,
     save: std::path::PathBuf,
+    batch: Option<String>,
+    lending: Lending,
+    csv: Option<String>,
+    into: Option<String>,
 }
 
 impl Flags {
@@ -74,6 +55,10 @@ impl Flags {
             count: 10_000,
             rounds: 11,
             save: std::env::temp_dir().join("handlebars-compare"),
+            batch: None,
+            lending: Lending::Guarded,
+            csv: None,
+            into: None,
         };
         let mut args = args.iter();
         while let Some(flag) = args.next() {
@@ -86,6 +71,10 @@ impl Flags {
                 "--count" => flags.count = number(flag, args.next().ok_or_else(value)?)? as usize,
                 "--rounds" => flags.rounds = number(flag, args.next().ok_or_else(value)?)? as usize,
                 "--save" => flags.save = args.next().ok_or_else(value)?.into(),
+                "--batch" => flags.batch = Some(args.next().ok_or_else(value)?.clone()),
+                "--exact" => flags.lending = Lending::Exact,
+                "--csv" => flags.csv = Some(args.next().ok_or_else(value)?.clone()),
+                "--into" => flags.into = Some(args.next().ok_or_else(value)?.clone()),
                 _ => return Err(format!("{flag}: unknown\n{USAGE}")),
             }
         }
@@ -95,8 +84,17 @@ impl Flags {
         Ok(flags)
     }
 
-    fn profiles(&self, default: &[&str]) -> Vec<String> {
-        self.profiles.clone().unwrap_or_else(|| default.iter().map(|p| (*p).to_owned()).collect())
+    /// What to generate: the profiles asked for, or these.
+    fn orders(&self, default: &[&str]) -> Vec<Order> {
+        let all = default.iter().map(|p| ((*p).to_owned(), None)).collect();
+        let order = |(profile, count): Profile| Order {
+            profile,
+            seed: self.seed,
+            count: count.unwrap_or(self.count),
+            max_bytes: usize::MAX,
+            cabinets: 12,
+        };
+        self.profiles.clone().unwrap_or(all).into_iter().map(order).collect()
     }
 }
 
@@ -104,12 +102,18 @@ fn number(flag: &str, value: &str) -> Result<u64, String> {
     value.parse().map_err(|_| format!("{flag}: {value} is no number"))
 }
 
-fn profiles(value: &str) -> Result<Vec<String>, String> {
-    let all: Vec<String> = value.split(',').map(str::to_owned).collect();
-    match all.iter().find(|p| !PROFILES.contains(&p.as_str())) {
-        Some(p) => Err(format!("--profiles: {p} is none of {}", PROFILES.join(", "))),
-        None => Ok(all),
-    }
+fn profiles(value: &str) -> Result<Vec<Profile>, String> {
+    let one = |part: &str| {
+        let (name, count) = match part.split_once(':') {
+            Some((name, count)) => (name, Some(number("--profiles", count)? as usize)),
+            None => (part, None),
+        };
+        if !PROFILES.contains(&name) {
+            return Err(format!("--profiles: {name} is none of {}", PROFILES.join(", ")));
+        }
+        Ok((name.to_owned(), count))
+    };
+    value.split(',').map(one).collect()
 }
 
 fn main() -> ExitCode {
@@ -123,7 +127,8 @@ fn main() -> ExitCode {
             println!("{USAGE}");
             Ok(true)
         }
-        ("stack-of", [kib]) => number("stack-of", kib).and_then(|kib| stack_of(kib as usize)),
+        ("stack-of", [kib]) => number("stack-of", kib).and_then(|kib| stack::stack_of(kib as usize)),
+        ("draw-of", [drawing, kib]) => draw_of(drawing, kib),
         _ => Flags::read(rest).and_then(|flags| run(command, &flags)),
     };
     match result {
@@ -136,16 +141,22 @@ fn main() -> ExitCode {
     }
 }
 
+fn draw_of(drawing: &str, kib: &str) -> Result<bool, String> {
+    stack::draw_of(number("draw-of", drawing)? as usize, number("draw-of", kib)? as usize)
+}
+
 /// Whether nothing differs.
 fn run(command: &str, flags: &Flags) -> Result<bool, String> {
     match command {
         "check_bundle" => check_bundle(flags),
         "check_plan" => check_plan(flags),
-        "speed" => speed(flags),
-        "stack" => stack(),
+        "render" => render(flags),
+        "speed" => speed::speed(flags),
+        "stack" => stack::stack(),
         "all" => {
-            let all = [check_bundle(flags)?, check_plan(flags)?, speed(flags)?, stack()?];
-            Ok(all.iter().all(|good| *good))
+            let compared = [check_bundle(flags)?, check_plan(flags)?, render(flags)?];
+            let measured = [speed::speed(flags)?, stack::stack()?];
+            Ok(compared.iter().chain(&measured).all(|good| *good))
         }
         _ => Err(format!("{command}: unknown\n{USAGE}")),
     }
@@ -161,40 +172,38 @@ fn wanted(has: bool, name: &str) -> Result<(), String> {
 
 fn check_bundle(flags: &Flags) -> Result<bool, String> {
     wanted(library::HAS_BUNDLE, "handlebars_check_bundle")?;
-    let names = flags.profiles(&["rich", "limits", "damaged", "sheets"]);
-    over("check_bundle", "bin", &names, flags, |cases| {
+    let orders = flags.orders(&["rich", "limits", "damaged", "sheets"]);
+    over("check_bundle", "bin", &orders, flags, |cases| {
         compare::bundles(&library::check_bundle, cases.map(|c| c.bundle))
     })
 }
 
 fn check_plan(flags: &Flags) -> Result<bool, String> {
     wanted(library::HAS_PLAN, "handlebars_check_plan")?;
-    let names = flags.profiles(&["json", "rich", "limits", "damaged", "sheets"]);
-    over("check_plan", "json", &names, flags, |cases| {
+    let orders = flags.orders(&["json", "rich", "limits", "damaged", "sheets"]);
+    over("check_plan", "json", &orders, flags, |cases| {
         compare::plans(&library::check_plan, cases.map(|c| c.plan))
     })
+}
+
+fn counts(report: &Report) -> String {
+    let numbers: Vec<String> = report.numbers.iter().map(|(n, k)| format!("{n}: {k}")).collect();
+    numbers.join(", ")
 }
 
 /// Runs `compare` over the cases of each profile, prints what it met and saves the first cases that differ.
 fn over(
     what: &str,
     ending: &str,
-    profiles: &[String],
+    orders: &[Order],
     flags: &Flags,
     compare: impl Fn(&mut dyn Iterator<Item = Case>) -> Report,
 ) -> Result<bool, String> {
     let mut good = true;
-    for profile in profiles {
-        let order = Order {
-            profile: profile.clone(),
-            seed: flags.seed,
-            count: flags.count,
-            max_bytes: usize::MAX,
-            cabinets: 12,
-        };
+    for order in orders {
+        let profile = &order.profile;
         let begin = Instant::now();
-        let report = compare(&mut cases(&order));
-        let numbers: Vec<String> = report.numbers.iter().map(|(n, k)| format!("{n}: {k}")).collect();
+        let report = compare(&mut cases(order));
         let serde = if ending == "json" {
             format!(", {} also by serde_json", report.serde)
         } else {
@@ -204,7 +213,7 @@ fn over(
             "{what} {profile}, seed {}: {} cases ({}){serde}, {:.1} s: {} differ",
             flags.seed,
             report.cases,
-            numbers.join(", "),
+            counts(&report),
             begin.elapsed().as_secs_f64(),
             report.differ
         );
@@ -212,6 +221,41 @@ fn over(
         good &= report.differ == 0;
     }
     Ok(good)
+}
+
+/// The whole call on the cases of each profile, or of a batch.
+fn render(flags: &Flags) -> Result<bool, String> {
+    wanted(library::HAS_RENDER, "handlebars_render and handlebars_template_name")?;
+    if let Some(file) = &flags.batch {
+        let bytes = fs::read(file).map_err(|e| format!("{file}: {e}"))?;
+        let all = batch::read(&bytes).map_err(|e| format!("{file}: {e}"))?;
+        return rendered("batch", flags, &mut all.iter().map(Case::of_batch));
+    }
+    let mut good = true;
+    for order in flags.orders(&["rich", "marks", "nest", "limits", "damaged", "json", "sheets"]) {
+        good &= rendered(&order.profile, flags, &mut cases(&order))?;
+    }
+    Ok(good)
+}
+
+fn rendered(profile: &str, flags: &Flags, cases: &mut (dyn Iterator<Item = Case> + Send)) -> Result<bool, String> {
+    let begin = Instant::now();
+    // Both the oracle and the library need a large stack.
+    let met = with_big_stack(|| render::cases(&library::Linked, cases, flags.lending))?;
+    let Rendered { report, calls, gave_up, library, slowest } = &met;
+    println!(
+        "render {profile}, seed {}: {} cases, {calls} calls ({}), {gave_up} left out, {:.1} s, of them {library:.1} in the library, \
+         {:.4} at most (case {}): {} differ",
+        flags.seed,
+        report.cases,
+        counts(report),
+        begin.elapsed().as_secs_f64(),
+        slowest.0,
+        slowest.1,
+        report.differ
+    );
+    save("render", profile, "batch", flags, report)?;
+    Ok(report.differ == 0)
 }
 
 fn save(what: &str, profile: &str, ending: &str, flags: &Flags, report: &Report) -> Result<(), String> {
@@ -225,92 +269,4 @@ fn save(what: &str, profile: &str, ending: &str, flags: &Flags, report: &Report)
         println!("  case {}: {}: {}", d.case, d.what, file.display());
     }
     Ok(())
-}
-
-/// The plans that are measured: those of the samples, and two of 64 KiB.
-fn measured() -> Result<Vec<(String, Vec<u8>)>, String> {
-    let samples = concat!(env!("ORACLE"), "/../samples");
-    let mut plans = Vec::new();
-    for name in ["quotation", "cutting-list", "delivery-note"] {
-        let file = format!("{samples}/{name}/plan.json");
-        plans.push((name.to_owned(), fs::read(&file).map_err(|e| format!("{file}: {e}"))?));
-    }
-    for (name, indented) in [("64 KiB", false), ("64 KiB, indented", true)] {
-        plans.push((name.to_owned(), sheets::large_plan(1, indented).into_bytes()));
-    }
-    Ok(plans)
-}
-
-fn speed(flags: &Flags) -> Result<bool, String> {
-    wanted(library::HAS_PLAN, "handlebars_check_plan")?;
-    println!("speed, MB/s of processor time, medians of {} rounds", flags.rounds);
-    println!("{:<18} {:>7} {:>9} {:>11} {:>6}", "plan", "bytes", "library", "serde_json", "ratio");
-    for (name, plan) in measured()? {
-        let s = compare::speed(&library::check_plan, &plan, flags.rounds).map_err(|e| format!("{name}: {e}"))?;
-        println!(
-            "{name:<18} {:>7} {:>9.1} {:>11.1} {:>6.2}",
-            plan.len(),
-            s.library,
-            s.serde,
-            s.library / s.serde
-        );
-    }
-    Ok(true)
-}
-
-/// Each size of stack has a process of its own, since one that is too small ends it.
-fn stack() -> Result<bool, String> {
-    wanted(library::HAS_BUNDLE || library::HAS_PLAN, "function to call")?;
-    let me = std::env::current_exe().map_err(|e| format!("the driver: {e}"))?;
-    for kib in [256, 128, 64, 32, 16] {
-        let child = Command::new(&me).args(["stack-of", &kib.to_string()]).output();
-        let child = child.map_err(|e| format!("the driver: {e}"))?;
-        let said = String::from_utf8_lossy(&child.stdout);
-        if !child.status.success() {
-            let why = if said.is_empty() { "it does not do" } else { said.trim() };
-            println!("stack of {kib} KiB: {why} ({})", child.status);
-            return Ok(kib < 256 && said.is_empty());
-        }
-        println!("stack of {kib} KiB: {}", said.trim());
-    }
-    Ok(true)
-}
-
-/// The deepest bundles and plans, and those one deeper, on a thread with so much stack.
-fn stack_of(kib: usize) -> Result<bool, String> {
-    let mut rng = Rng::new(1);
-    let made: Vec<[limits::Made; 3]> = (0..200).map(|i| limits::deepest(&mut rng, i % 2 == 1)).collect();
-    let mut table = vec![0; 4_096];
-    let mut calls: Vec<(bool, Vec<u8>, u32)> = Vec::new();
-    let deep = made.len();
-    for [bodies, parameters, plan] in made {
-        if library::HAS_BUNDLE {
-            calls.push((true, bodies.0.bundle, bodies.1));
-            calls.push((true, parameters.0.bundle, parameters.1));
-        }
-        if library::HAS_PLAN {
-            calls.push((false, plan.0.plan, plan.1));
-        }
-    }
-    let on_thread = move || {
-        calls.iter_mut().all(|(bundle, bytes, wanted)| {
-            let got = if *bundle {
-                library::check_bundle(bytes)
-            } else {
-                library::check_plan(bytes, &mut table)
-            };
-            got == *wanted
-        })
-    };
-    let thread = thread::Builder::new().stack_size(kib << 10).spawn(on_thread);
-    let thread = thread.map_err(|e| format!("a thread: {e}"))?;
-    let good = thread.join().map_err(|_| "the thread panicked".to_owned())?;
-    if !good {
-        println!("a wrong answer");
-        return Ok(false);
-    }
-    let bundles = usize::from(library::HAS_BUNDLE) * 2 * deep;
-    let plans = usize::from(library::HAS_PLAN) * deep;
-    println!("right on {bundles} bundles and {plans} plans, at the limit of depth and one past it");
-    Ok(true)
 }

@@ -49,8 +49,8 @@ pub fn render_call(
     options: Options,
     page: usize,
 ) -> Answer {
-    with_big_stack(|| match checked(bundle, plan, start, options) {
-        Ok((bundle, start, plan)) => draw(bundle, &start, plan, options, page),
+    with_big_stack(|| match Ready::new(bundle, plan, start, options) {
+        Ok(ready) => ready.draw(page),
         Err(number) => Answer {
             number,
             ..Answer::default()
@@ -151,29 +151,74 @@ fn has_partial_path(template: &Template) -> bool {
     })
 }
 
-fn draw(bundle: Bundle, start: &str, plan: Json, options: Options, page: usize) -> Answer {
-    let mut registry = Registry::new();
-    registry.set_strict_mode(options.strict);
-    registry.set_recursive_lookup(options.recursive_lookup);
-    registry.set_guide_truth(options.guide_truth);
-    for (name, template) in bundle.templates {
-        registry.register_template(&name, template);
+/// A call past checks 2 to 10, which can be drawn on one page after another.
+pub struct Ready {
+    registry: Registry<'static>,
+    start: String,
+    context: Context,
+}
+
+impl Ready {
+    /// An error is the refusal.
+    pub fn new(bundle: &[u8], plan: &[u8], start: &[u8], options: Options) -> Result<Ready, u32> {
+        let (bundle, start, plan) = checked(bundle, plan, start, options)?;
+        let mut registry = Registry::new();
+        for (name, template) in bundle.templates {
+            registry.register_template(&name, template);
+        }
+        let context = Context::from(plan);
+        let mut ready = Ready { registry, start, context };
+        ready.set(options);
+        Ok(ready)
     }
-    limits::begin();
-    let mut out = StringOutput::limited(Room::new(page, 25));
-    let result = registry.render_to_output(start, &Context::from(plan), &mut out);
-    if limits::gave_up() {
-        return Answer {
-            gave_up: true,
-            ..Answer::default()
-        };
+
+    /// Options that check 5 allows.
+    pub fn set(&mut self, options: Options) {
+        self.registry.set_strict_mode(options.strict);
+        self.registry.set_recursive_lookup(options.recursive_lookup);
+        self.registry.set_guide_truth(options.guide_truth);
     }
-    match result {
-        Ok(()) => Answer {
-            text: out.into_string().expect("text of strings").into_bytes(),
-            ..Answer::default()
-        },
-        Err(e) => refusal(&e),
+
+    /// Into a page of `page` bytes; `with_big_stack` has the stack that it needs.
+    pub fn draw(&self, page: usize) -> Answer {
+        limits::begin();
+        let mut out = StringOutput::limited(Room::new(page, 25));
+        let result = self.registry.render_to_output(&self.start, &self.context, &mut out);
+        if limits::gave_up() {
+            return Answer {
+                gave_up: true,
+                ..Answer::default()
+            };
+        }
+        match result {
+            Ok(()) => Answer {
+                text: out.into_string().expect("text of strings").into_bytes(),
+                ..Answer::default()
+            },
+            Err(e) => refusal(&e),
+        }
+    }
+}
+
+/// The core as a caller of the crate has it: a registry made once, no page. For measuring.
+pub struct Made {
+    registry: Registry<'static>,
+}
+
+impl Made {
+    /// The templates of a bundle, options off; nothing if checks 2 to 4 refuse it.
+    pub fn new(bundle: &[u8]) -> Option<Made> {
+        let mut registry = Registry::new();
+        for (name, template) in checked_bundle(bundle).ok()?.templates {
+            registry.register_template(&name, template);
+        }
+        Some(Made { registry })
+    }
+
+    /// A plan read by serde_json and drawn, on the stack of the caller.
+    pub fn render(&self, start: &str, plan: &[u8]) -> Option<String> {
+        let plan: Json = serde_json::from_slice(plan).ok()?;
+        self.registry.render_with_context(start, &Context::from(plan)).ok()
     }
 }
 

@@ -1,7 +1,11 @@
-//! Holds the checks of another implementation to the oracle's: many cases a second, in one process. ../compare links the C library to it.
+//! Holds another implementation to the oracle: many cases a second, in one process. ../compare links the C library to it.
+//! Here the checks of bundles and plans; `render` has the whole call, `sheets` the speed of it.
 //!
 //! The bytes of a case are lent with other bytes behind them, so that reading too far is noticed, and must come back as they were.
 //! The table is lent full of other numbers and with a guard on either side.
+
+pub mod render;
+pub mod sheets;
 
 use std::collections::BTreeMap;
 use std::hint::black_box;
@@ -45,12 +49,18 @@ impl Report {
     fn note(&mut self, number: u32, bytes: Vec<u8>, outcome: Result<(), String>) {
         *self.numbers.entry(number).or_default() += 1;
         if let Err(what) = outcome {
-            self.differ += 1;
-            if self.first.len() < KEPT {
-                self.first.push(Difference { case: self.cases, what, bytes });
-            }
+            self.differs(what, || bytes);
         }
         self.cases += 1;
+    }
+
+    /// Only the first difference of a case is kept.
+    fn differs(&mut self, what: String, bytes: impl FnOnce() -> Vec<u8>) {
+        self.differ += 1;
+        let kept = self.first.last().is_some_and(|d| d.case == self.cases);
+        if !kept && self.first.len() < KEPT {
+            self.first.push(Difference { case: self.cases, what, bytes: bytes() });
+        }
     }
 }
 

@@ -2,6 +2,7 @@
 
 pub mod calls;
 pub mod damaged;
+pub mod deep;
 pub mod json;
 pub mod limits;
 mod limits_draw;
@@ -14,6 +15,7 @@ mod rich_fail;
 pub mod rng;
 mod scope;
 pub mod sheets;
+pub mod sheets_even;
 pub mod tree;
 pub mod vectors;
 pub mod write;
@@ -48,11 +50,24 @@ impl Case {
         Case { options: 0, start: b"main".to_vec(), page: PAGE, bundle, plan }
     }
 
+    /// A case of a batch.
+    pub fn of_batch(case: &batch::Case<'_>) -> Case {
+        let options = case.options;
+        let bits = [(options.strict, STRICT), (options.recursive_lookup, RECURSIVE), (options.guide_truth, GUIDE)];
+        Case {
+            options: bits.iter().filter(|(set, _)| *set).map(|(_, bit)| bit).sum(),
+            start: case.start.to_vec(),
+            page: case.page,
+            bundle: case.bundle.to_vec(),
+            plan: case.plan.to_vec(),
+        }
+    }
+
     pub fn size(&self) -> usize {
         self.bundle.len() + self.plan.len()
     }
 
-    fn call_options(&self) -> Options {
+    pub fn call_options(&self) -> Options {
         Options {
             strict: self.options & STRICT != 0,
             recursive_lookup: self.options & RECURSIVE != 0,

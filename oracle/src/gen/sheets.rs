@@ -29,7 +29,14 @@ pub fn case(rng: &mut Rng, cabinets: usize) -> Case {
 fn plan(rng: &mut Rng, cabinets: usize) -> Json {
     // A cabinet takes six values and one for its list; a panel takes six.
     let room_left = 4_000 / cabinets.max(1);
-    let panels = room_left.saturating_sub(8) / 6;
+    let panels = (room_left.saturating_sub(8) / 6).min(5);
+    plan_of(rng, cabinets, &|rng| cabinet(rng, panels))
+}
+
+/// What makes a cabinet of a plan.
+pub(super) type Cabinet<'a> = &'a dyn Fn(&mut Rng) -> Json;
+
+pub(super) fn plan_of(rng: &mut Rng, cabinets: usize, cabinet: Cabinet<'_>) -> Json {
     let names = ["Kitchen", "Utility", "Pantry & larder", "Hall", "Study"];
     let mut left = cabinets;
     let mut rooms = Vec::new();
@@ -38,7 +45,7 @@ fn plan(rng: &mut Rng, cabinets: usize) -> Json {
         left -= here;
         let name = names[rooms.len() % names.len()];
         rooms.push(
-            json!({"name": name, "floor": rooms.len() / 3, "runs": runs(rng, here, panels.min(5))}),
+            json!({"name": name, "floor": rooms.len() / 3, "runs": runs(rng, here, cabinet)}),
         );
     }
     json!({
@@ -84,20 +91,20 @@ fn fill_notes(plan: &mut Json, text: &dyn Fn(&Json) -> String) {
     add(plan, left);
 }
 
-fn runs(rng: &mut Rng, cabinets: usize, panels: usize) -> Vec<Json> {
+fn runs(rng: &mut Rng, cabinets: usize, cabinet: Cabinet<'_>) -> Vec<Json> {
     let walls = ["north", "east", "south", "west", "island"];
     let mut left = cabinets;
     let mut runs = Vec::new();
     while left > 0 {
         let here = left.min(12);
         left -= here;
-        let list: Vec<Json> = (0..here).map(|_| cabinet(rng, panels)).collect();
+        let list: Vec<Json> = (0..here).map(|_| cabinet(rng)).collect();
         runs.push(json!({"wall": walls[runs.len() % walls.len()], "cabinets": list}));
     }
     runs
 }
 
-fn cabinet(rng: &mut Rng, panels: usize) -> Json {
+pub(super) fn cabinet(rng: &mut Rng, panels: usize) -> Json {
     let w = 100 * rng.between(3, 10);
     let code = format!("{}{}", rng.pick(&["B", "W", "T", "D"]), w / 10);
     let parts = ["side", "bottom", "back", "shelf", "door"];
@@ -145,8 +152,12 @@ fn notes() -> Kind {
     block("each", vec![root(&["notes"])], line)
 }
 
-fn quotation() -> Tree {
-    let size = vec![show(path(&["w"])), raw("x"), show(path(&["h"])), raw("x"), show(path(&["d"]))];
+pub(super) fn quotation() -> Tree {
+    quotation_with(vec![show(path(&["w"])), raw("x"), show(path(&["h"])), raw("x"), show(path(&["d"]))])
+}
+
+/// The partial `size` says what a line has behind a cabinet's code.
+pub(super) fn quotation_with(size: Vec<Kind>) -> Tree {
     let line = vec![
         show(local(0, "index")),
         raw(". "),
@@ -181,7 +192,7 @@ fn quotation() -> Tree {
     ])
 }
 
-fn cutting_list() -> Tree {
+pub(super) fn cutting_list() -> Tree {
     let edge = block_of(
         calls("if", vec![path(&["e"])]),
         &[],
@@ -224,7 +235,7 @@ fn cutting_list() -> Tree {
     ])
 }
 
-fn delivery_note() -> Tree {
+pub(super) fn delivery_note() -> Tree {
     let cabinet = vec![
         raw("[ ] "),
         Kind::Expr(calls("lookup", vec![path(&[]), string("code")]), false),
