@@ -1,0 +1,560 @@
+// render.rs and partial.rs: bodies draw elements, elements call helpers and partials, and these draw bodies again.
+// s is the plan with its places tab, b the bundle with the places of its templates; d is the number of depths left for a body, its own
+// included. ent holds the entries of open partials, indent the indent in force; page and texts are written into.
+ghost use mathlib.Core.Path.{_≡_};
+ghost use mathlib.Core.Option.{some};
+ghost use Prim.Native.Nat.{ℕ, _+_, _≤_, _<_};
+ghost use lib.ListN.{length};
+ghost use Rattle.rules.specs.Bits.{bits};
+ghost use Rattle.rules.specs.Bundle.{string, body, param, call-of, block-names};
+ghost use Rattle.rules.specs.Call.{fresh as rules-fresh};
+ghost use Rattle.rules.specs.Registry.{paper-limits};
+ghost use Rattle.rules.specs.Render as rule;
+ghost use Rattle.rules.specs.Render.{render-element};
+ghost use Rattle.layout.specs.Text.{text-at};
+ghost use Rattle.parts.specs.Holds.{Holds};
+ghost use Rattle.parts.specs.Says.{MaybeHolds, names-at};
+ghost use Rattle.template.specs.Views.{template-at, element-says, ElementHolds};
+ghost use Rattle.state.specs.Setters.{fresh};
+ghost use Rattle.state.specs.World.{world, Ready, Draws};
+ghost use Rattle.drawing.specs.Renders.{Checked, Named, Renders, registry-of, Openable};
+ghost use Rattle.helping.specs.Decided.{helper-rule};
+ghost use Rattle.helping.specs.Begun.{turns-rule};
+ghost use Rattle.targets.specs.Target.{body-rule};
+ghost use Rattle.beginning.specs.Opened.{partial-rule};
+ghost use Rattle.render.specs.Texts.{TextDrawn, TextReady};
+use expand::Options;
+use parts::Maybe;
+use state::RenderContext;
+use template::Element;
+use turns::Turn;
+use value::Value;
+
+// A body, or all of a template whose name stands at the place before name; 0 where it has none.
+fn render_elements(
+    s: &[u8],
+    tab: &[u64],
+    b: &[u8],
+    index: &[u32],
+    ent: &mut [u64],
+    page: &mut [u8],
+    texts: &mut [u8],
+    indent: &mut [u8],
+    options: Options,
+    p: usize,
+    d: usize,
+    name: usize,
+    rc: RenderContext,
+) -> RenderContext
+    requires { ⌜ Checked (now s) (now tab) (now b) (now index) × Ready (now s) (now b) (world rc (now page) (now texts) (now indent) (now ent)) × (d ≤ 16) × Holds (body 16 d) (bits (now b)) p × Named (now b) name ⌝ }
+    ensures { λ r. ⌜ Renders (now (s .entry)) (now (b .entry)) options (world rc (now (page .entry)) (now (texts .entry)) (now (indent .entry)) (now (ent .entry))) (world r (now (page .exit)) (now (texts .exit)) (now (indent .exit)) (now (ent .exit))) (body-rule (now (b .entry)) d p name) ⌝ }
+{
+    let body = template::body_at(b, p);
+    let count = body.count;
+    let mut q = rc;
+    let mut cur = body.first;
+    let mut i: u64 = 0;
+    while i < count {
+        let e = template::element_at(b, cur, 16, d - 1);
+        let element = e.element;
+        q = render_element(
+            s,
+            tab,
+            b,
+            index,
+            ent,
+            page,
+            texts,
+            indent,
+            options,
+            element,
+            d - 1,
+            q,
+        );
+        if q.bad != 0 {
+            return state::located(q, name, e.line, e.column);
+        }
+        cur = e.next;
+        i += 1;
+    }
+    q
+}
+
+fn render_element(
+    s: &[u8],
+    tab: &[u64],
+    b: &[u8],
+    index: &[u32],
+    ent: &mut [u64],
+    page: &mut [u8],
+    texts: &mut [u8],
+    indent: &mut [u8],
+    options: Options,
+    e: Element,
+    d: usize,
+    rc: RenderContext,
+) -> RenderContext
+    requires { ⌜ Checked (now s) (now tab) (now b) (now index) × Ready (now s) (now b) (world rc (now page) (now texts) (now indent) (now ent)) × (d < 16) × ElementHolds 16 d (bits (now b)) e ⌝ }
+    ensures { λ r. ⌜ Renders (now (s .entry)) (now (b .entry)) options (world rc (now (page .entry)) (now (texts .entry)) (now (indent .entry)) (now (ent .entry))) (world r (now (page .exit)) (now (texts .exit)) (now (indent .exit)) (now (ent .exit))) (λ g R. render-element g R (element-says 16 d (bits (now (b .entry))) e)) ⌝ }
+{
+    match e {
+        Element::RawString(p) => writing::raw_string(page, texts, indent, b, p, rc),
+        Element::HtmlExpression(p, before) => {
+            expressions::render_html_expression(
+                s,
+                tab,
+                b,
+                ent,
+                page,
+                texts,
+                indent,
+                options,
+                p,
+                before,
+                d,
+                rc,
+            )
+        }
+        Element::Expression(p, before) => {
+            expressions::render_expression(
+                s,
+                tab,
+                b,
+                ent,
+                page,
+                texts,
+                indent,
+                options,
+                p,
+                before,
+                d,
+                rc,
+            )
+        }
+        Element::HelperBlock(p, at, template, inverse, before) => {
+            render_helper(
+                s,
+                tab,
+                b,
+                index,
+                ent,
+                page,
+                texts,
+                indent,
+                options,
+                p,
+                at,
+                template,
+                inverse,
+                before,
+                d,
+                rc,
+            )
+        }
+        Element::DecoratorExpression(p, at, _) => {
+            inlining::eval_decorator(s, tab, b, ent, options, p, Maybe::Nothing, at, d, rc)
+        }
+        Element::DecoratorBlock(p, body, at, _) => {
+            inlining::eval_decorator(s, tab, b, ent, options, p, Maybe::At(body), at, d, rc)
+        }
+        Element::PartialExpression(p, at, before) => {
+            render_partial(
+                s,
+                tab,
+                b,
+                index,
+                ent,
+                page,
+                texts,
+                indent,
+                options,
+                p,
+                Maybe::Nothing,
+                at,
+                before,
+                d,
+                rc,
+            )
+        }
+        Element::PartialBlock(p, body, at, before) => {
+            render_partial(
+                s,
+                tab,
+                b,
+                index,
+                ent,
+                page,
+                texts,
+                indent,
+                options,
+                p,
+                Maybe::At(body),
+                at,
+                before,
+                d,
+                rc,
+            )
+        }
+        Element::Comment(_) => rc,
+    }
+}
+
+// A block with a helper: its call at p, its block names at the place `at`.
+fn render_helper(
+    s: &[u8],
+    tab: &[u64],
+    b: &[u8],
+    index: &[u32],
+    ent: &mut [u64],
+    page: &mut [u8],
+    texts: &mut [u8],
+    indent: &mut [u8],
+    options: Options,
+    p: usize,
+    at: usize,
+    template: Maybe,
+    inverse: Maybe,
+    before: bool,
+    d: usize,
+    rc: RenderContext,
+) -> RenderContext
+    requires { ⌜ Checked (now s) (now tab) (now b) (now index) × Ready (now s) (now b) (world rc (now page) (now texts) (now indent) (now ent)) × (d < 16) × Holds (call-of (param d)) (bits (now b)) p × Holds block-names (bits (now b)) at × MaybeHolds (body 16 d) (bits (now b)) template × MaybeHolds (body 16 d) (bits (now b)) inverse ⌝ }
+    ensures { λ r. ⌜ Renders (now (s .entry)) (now (b .entry)) options (world rc (now (page .entry)) (now (texts .entry)) (now (indent .entry)) (now (ent .entry))) (world r (now (page .exit)) (now (texts .exit)) (now (indent .exit)) (now (ent .exit))) (helper-rule (now (b .entry)) d p before (names-at (bits (now (b .entry))) at) template inverse) ⌝ }
+{
+    let begun = helping::begin(
+        s,
+        tab,
+        b,
+        ent,
+        page,
+        texts,
+        indent,
+        options,
+        p,
+        at,
+        template,
+        inverse,
+        before,
+        d,
+        rc,
+    );
+    let q = begun.rc;
+    let next = begun.next;
+    match next {
+        helping::Next::Done => q,
+        helping::Next::Body(t) => state::finish(
+            render_elements(
+                s,
+                tab,
+                b,
+                index,
+                ent,
+                page,
+                texts,
+                indent,
+                options,
+                t,
+                d,
+                0,
+                q,
+            ),
+            rc.writer,
+        ),
+        helping::Next::Within(t) => {
+            state::finish_within(
+                render_elements(
+                    s,
+                    tab,
+                    b,
+                    index,
+                    ent,
+                    page,
+                    texts,
+                    indent,
+                    options,
+                    t,
+                    d,
+                    0,
+                    q,
+                ),
+                rc.total,
+                rc.writer,
+            )
+        }
+        helping::Next::Turns(v, t) => state::finish(
+            render_turns(
+                s,
+                tab,
+                b,
+                index,
+                ent,
+                page,
+                texts,
+                indent,
+                options,
+                v,
+                at,
+                t,
+                d,
+                q,
+            ),
+            rc.writer,
+        ),
+    }
+}
+
+// `each`: the body at p for each turn over the value, all in one scope.
+fn render_turns(
+    s: &[u8],
+    tab: &[u64],
+    b: &[u8],
+    index: &[u32],
+    ent: &mut [u64],
+    page: &mut [u8],
+    texts: &mut [u8],
+    indent: &mut [u8],
+    options: Options,
+    v: Value,
+    at: usize,
+    p: usize,
+    d: usize,
+    rc: RenderContext,
+) -> RenderContext
+    requires { ⌜ Checked (now s) (now tab) (now b) (now index) × Ready (now s) (now b) (world rc (now page) (now texts) (now indent) (now ent)) × (d < 16) × Holds block-names (bits (now b)) at × Holds (body 16 d) (bits (now b)) p × Openable (now s) (now b) (world rc (now page) (now texts) (now indent) (now ent)) v ⌝ }
+    ensures { λ r. ⌜ Renders (now (s .entry)) (now (b .entry)) options (world rc (now (page .entry)) (now (texts .entry)) (now (indent .entry)) (now (ent .entry))) (world r (now (page .exit)) (now (texts .exit)) (now (indent .exit)) (now (ent .exit))) (turns-rule (now (s .entry)) (now (b .entry)) (world rc (now (page .entry)) (now (texts .entry)) (now (indent .entry)) (now (ent .entry))) d at p v) ⌝ }
+{
+    let mut q = blocks::open_each(b, at, v, rc);
+    let mut turn = turns::first_turn(s, tab, b, ent, v);
+    let mut k: usize = 0;
+    loop {
+        let Turn::Item(item, key, object, last) = turn else {
+            return state::pop_block(q, rc.total);
+        };
+        let u = blocks::begin_turn(q, item, key, k, object, last);
+        q = render_elements(
+            s,
+            tab,
+            b,
+            index,
+            ent,
+            page,
+            texts,
+            indent,
+            options,
+            p,
+            d,
+            0,
+            u,
+        );
+        if q.bad != 0 {
+            return q;
+        }
+        k += 1;
+        turn = turns::next_turn(s, tab, b, ent, v, k, turn);
+    }
+}
+
+// A partial: its call at p, its own body and its own indent.
+fn render_partial(
+    s: &[u8],
+    tab: &[u64],
+    b: &[u8],
+    index: &[u32],
+    ent: &mut [u64],
+    page: &mut [u8],
+    texts: &mut [u8],
+    indent: &mut [u8],
+    options: Options,
+    p: usize,
+    own: Maybe,
+    at: Maybe,
+    before: bool,
+    d: usize,
+    rc: RenderContext,
+) -> RenderContext
+    requires { ⌜ Checked (now s) (now tab) (now b) (now index) × Ready (now s) (now b) (world rc (now page) (now texts) (now indent) (now ent)) × (d < 16) × Holds (call-of (param d)) (bits (now b)) p × MaybeHolds (body 16 d) (bits (now b)) own × MaybeHolds string (bits (now b)) at ⌝ }
+    ensures { λ r. ⌜ Renders (now (s .entry)) (now (b .entry)) options (world rc (now (page .entry)) (now (texts .entry)) (now (indent .entry)) (now (ent .entry))) (world r (now (page .exit)) (now (texts .exit)) (now (indent .exit)) (now (ent .exit))) (partial-rule (now (b .entry)) d p own at before) ⌝ }
+{
+    let begun = beginning::begin(
+        s,
+        tab,
+        b,
+        index,
+        ent,
+        page,
+        texts,
+        indent,
+        options,
+        p,
+        own,
+        at,
+        before,
+        d,
+        rc,
+    );
+    let q = begun.rc;
+    let next = begun.next;
+    match next {
+        beginning::Next::Done => q,
+        beginning::Next::Fallback(t) => {
+            state::finish_named(
+                render_elements(
+                    s,
+                    tab,
+                    b,
+                    index,
+                    ent,
+                    page,
+                    texts,
+                    indent,
+                    options,
+                    t,
+                    d,
+                    0,
+                    q,
+                ),
+                rc.template,
+                rc.writer,
+            )
+        }
+        beginning::Next::Body(t, e, name) => {
+            texts::finish_partial(
+                render_elements(
+                    s,
+                    tab,
+                    b,
+                    index,
+                    ent,
+                    page,
+                    texts,
+                    indent,
+                    options,
+                    t,
+                    e,
+                    name,
+                    q,
+                ),
+                rc,
+            )
+        }
+        beginning::Next::Text(o, t, e, name) => {
+            render_text(
+                s,
+                tab,
+                b,
+                index,
+                ent,
+                page,
+                texts,
+                indent,
+                options,
+                o,
+                t,
+                e,
+                name,
+                at,
+                d,
+                q,
+                rc,
+            )
+        }
+    }
+}
+
+// The body of a partial's block text at o is drawn first, then its body at p; around is the context in front of the element.
+fn render_text(
+    s: &[u8],
+    tab: &[u64],
+    b: &[u8],
+    index: &[u32],
+    ent: &mut [u64],
+    page: &mut [u8],
+    texts: &mut [u8],
+    indent: &mut [u8],
+    options: Options,
+    o: usize,
+    p: usize,
+    e: usize,
+    name: usize,
+    at: Maybe,
+    d: usize,
+    rc: RenderContext,
+    around: RenderContext,
+) -> RenderContext
+    requires { ⌜ Checked (now s) (now tab) (now b) (now index) × Ready (now s) (now b) (world rc (now page) (now texts) (now indent) (now ent)) × (d < 16) × TextReady (now s) (now b) options (world rc (now page) (now texts) (now indent) (now ent)) around d o p e name at ⌝ }
+    ensures { λ r. ⌜ TextDrawn (now (s .entry)) (now (b .entry)) options (world rc (now (page .entry)) (now (texts .entry)) (now (indent .entry)) (now (ent .entry))) (world r (now (page .exit)) (now (texts .exit)) (now (indent .exit)) (now (ent .exit))) around d o p e name at ⌝ }
+{
+    let q = render_elements(
+        s,
+        tab,
+        b,
+        index,
+        ent,
+        page,
+        texts,
+        indent,
+        options,
+        o,
+        d,
+        0,
+        rc,
+    );
+    if q.bad != 0 {
+        return q;
+    }
+    let w = around.writer;
+    let u = beginning::end_text(texts, indent, b, at, name, w.low, w.block_text, q);
+    texts::finish_partial(
+        render_elements(
+            s,
+            tab,
+            b,
+            index,
+            ent,
+            page,
+            texts,
+            indent,
+            options,
+            p,
+            e,
+            name,
+            u,
+        ),
+        around,
+    )
+}
+
+// A template of the bundle from the start: its name stands at the place name and its body at p.
+pub fn render_template(
+    s: &[u8],
+    tab: &[u64],
+    b: &[u8],
+    index: &[u32],
+    ent: &mut [u64],
+    page: &mut [u8],
+    texts: &mut [u8],
+    indent: &mut [u8],
+    options: Options,
+    name: usize,
+    p: usize,
+) -> RenderContext
+    requires { ⌜ Checked (now s) (now tab) (now b) (now index) × (8192 ≤ length (now ent)) × (16384 ≤ length (now texts)) × (256 ≤ length (now indent)) × Holds string (bits (now b)) name × Holds (body 16 16) (bits (now b)) p ⌝ }
+    ensures { λ r. ⌜ Draws (now (s .entry)) (now (b .entry)) (world fresh (now (page .entry)) (now (texts .entry)) (now (indent .entry)) (now (ent .entry))) (world r (now (page .exit)) (now (texts .exit)) (now (indent .exit)) (now (ent .exit))) (rule.render-template (registry-of (now (s .entry)) (now (b .entry)) options (length (now (page .entry)))) 32 (some (text-at (bits (now (b .entry))) name)) (template-at 16 16 (bits (now (b .entry))) p) (rules-fresh (paper-limits (length (now (page .entry)))))) ⌝ }
+{
+    let rc = state::set_current_template_name(state::new(), name + 1);
+    render_elements(
+        s,
+        tab,
+        b,
+        index,
+        ent,
+        page,
+        texts,
+        indent,
+        options,
+        p,
+        16,
+        name + 1,
+        rc,
+    )
+}
