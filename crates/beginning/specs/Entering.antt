@@ -29,7 +29,7 @@ use Rattle.state.specs.World.{World, world, over, front, name-at, abs, Ready, G
 use Rattle.state.specs.Steps.{Within, goes-template}
 use Rattle.texts.specs.Setters.{text-opened, without-text, text-closed, text-place, cleaned}
 use Rattle.texts.specs.Opening.{text-begun, text-done, text-none, ready-begun, ready-none, included-none, included-text}
-use Rattle.drawing.specs.Parts.{is-at}
+use Rattle.inlining.specs.Decorated.{is-at}
 use Rattle.drawing.specs.Renders.{registry-of, Named, Renders, Worked, Joins, TextDrawn, BodyDrawn, IncludeDrawn}
 use Rattle.drawing.specs.Enclosed.{inside, body-drawn, text-nothing, text-refused, text-drawn}
 use Rattle.opening.specs.Scoped.{SomeWorked, ScopeOpened, Entered}

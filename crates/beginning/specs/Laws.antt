@@ -35,7 +35,7 @@ use Rattle.state.specs.Setters.{failed, marked, settled, with-template, unless-
 use Rattle.state.specs.World.{World, world, over, top, abs, Ready, Draws}
 use Rattle.state.specs.Steps.{goes-marks, goes-template}
 use Rattle.texts.specs.Setters.{cleaned, concluded}
-use Rattle.drawing.specs.Parts.{is-at, before-partial}
+use Rattle.drawing.specs.Parts.{before-partial}
 use Rattle.drawing.specs.Renders.{registry-of, Named, Renders, Worked, joined, PartialDrawn, IncludeDrawn}
 use Rattle.drawing.specs.Continues.{Continues, unless-refused, unless-both}
 use Rattle.drawing.specs.Enclosed.{own-says}

@@ -23,7 +23,7 @@ use Rattle.state.specs.declared.RenderContext.{RenderContext}
 use Rattle.state.specs.Setters.{with-template, finished-named}
 use Rattle.state.specs.World.{World, world, Ready}
 use Rattle.texts.specs.Setters.{text-closed, text-place, indented, concluded}
-use Rattle.drawing.specs.Parts.{is-at}
+use Rattle.inlining.specs.Decorated.{is-at}
 use Rattle.drawing.specs.Renders.{Named, Renders}
 use Rattle.drawing.specs.Continues.{Continues}
 use Rattle.targets.specs.Target.{body-rule}

@@ -11,7 +11,8 @@ ghost use Rattle.parts.specs.Holds.{Holds};
 ghost use Rattle.parts.specs.Says.{MaybeHolds};
 ghost use Rattle.state.specs.Setters.{failed, marked};
 ghost use Rattle.state.specs.World.{world, Ready};
-ghost use Rattle.drawing.specs.Parts.{is-at, before-partial};
+ghost use Rattle.inlining.specs.Decorated.{is-at};
+ghost use Rattle.drawing.specs.Parts.{before-partial};
 ghost use Rattle.drawing.specs.Renders.{Checked, Named, Worked, Joins};
 ghost use Rattle.beginning.specs.Opened.{done, BodyFits, body-context, body-buffer, TextEnds, text-context, text-buffer, partial-rule, PartialBegun};
 ghost use Rattle.beginning.specs.Entering.{Enterable, Enters};
@@ -22,22 +23,13 @@ use parts::Maybe;
 use state::RenderContext;
 use targets::Target;
 
-fn is_at(m: Maybe) -> bool
-    ensures { λ r. ⌜ r ≡ is-at m ⌝ }
-{
-    match m {
-        Maybe::At(_) => true,
-        Maybe::Nothing => false,
-    }
-}
-
 fn has_indent(w: Writer, at: Maybe) -> bool
     ensures { λ r. ⌜ r ≡ (w .«has_indent» || is-at at) ⌝ }
 {
     if w.has_indent {
         return true;
     }
-    is_at(at)
+    inlining::is_at(at)
 }
 
 // The indent of a partial is set in front of its body, with its own indent at the place `at`; and the body's name, by one more than its place.
@@ -150,7 +142,7 @@ fn before_partial(w: Writer, at: Maybe, before: bool) -> bool
         if w.trailing_newline {
             return true;
         }
-        return is_at(at);
+        return inlining::is_at(at);
     }
     false
 }

@@ -32,7 +32,7 @@ use Rattle.texts.specs.Included.{Included}
 use Rattle.texts.specs.Opening.{text-begun, text-done, text-none, indent-set, abs-begun, ready-begun, abs-done, included-text, abs-none, included-none, abs-indent, included-indent}
 use Rattle.texts.specs.Cleanup.{draws-cleanup, draws-cleanup-stop}
 use Rattle.texts.specs.Drawing.{draws-text-stop}
-use Rattle.drawing.specs.Parts.{is-at}
+use Rattle.inlining.specs.Decorated.{is-at}
 use Rattle.drawing.specs.Renders.{registry-of, Named, Renders, Joins, joined, target, Concludes, TextDrawn, BodyDrawn}
 
 pub own-says : (b : Bytes) (m : Maybe) → own (bits b) m ≡ indent-says (bits b) m

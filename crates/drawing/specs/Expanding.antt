@@ -38,7 +38,8 @@ use Rattle.state.specs.World.{World, over, top, name-at, abs, Ready, Draws}
 use Rattle.state.specs.Laws.{draws-fail}
 use Rattle.state.specs.Steps.{goes-marks, blocks-abs}
 use Rattle.state.specs.Marks.{aware-done, aware-stop}
-use Rattle.drawing.specs.Parts.{is-at, before-partial}
+use Rattle.inlining.specs.Decorated.{is-at}
+use Rattle.drawing.specs.Parts.{before-partial}
 use Rattle.drawing.specs.Renders.{registry-of, Renders, Worked, joined, PartialDrawn, IncludeDrawn, target}
 use Rattle.drawing.specs.Members.{setting}
 use Rattle.drawing.specs.Helping.{not-worked}

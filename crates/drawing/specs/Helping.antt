@@ -37,7 +37,8 @@ use Rattle.state.specs.World.{World, over, top, abs, Ready, Draws}
 use Rattle.state.specs.Laws.{reason-some}
 use Rattle.state.specs.Steps.{goes-marks}
 use Rattle.state.specs.Marks.{aware-done, aware-stop}
-use Rattle.drawing.specs.Parts.{is-at, before-helper}
+use Rattle.inlining.specs.Decorated.{is-at}
+use Rattle.drawing.specs.Parts.{before-helper}
 use Rattle.drawing.specs.Renders.{registry-of, Renders, Possible, Helped}
 use Rattle.drawing.specs.Members.{alike, draws-failed}
 

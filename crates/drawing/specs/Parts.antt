@@ -1,12 +1,8 @@
 -- Small parts of the drawing.
 use mathlib.Core.Bool.{Bool, true, false, _&&_, _||_}
 use Rattle.parts.specs.declared.Maybe.{Maybe}
-use Rattle.parts.specs.declared.Maybe.the-variants.{At, Nothing}
 use Rattle.output.specs.declared.Writer.{Writer}
-
-abbrev pub is-at : Maybe → Bool
-is-at (At p) = true
-is-at Nothing = false
+use Rattle.inlining.specs.Decorated.{is-at}
 
 -- whether an indent comes in front of what a helper writes
 abbrev pub before-helper : Writer → Bool → Bool

@@ -53,8 +53,8 @@ use Rattle.state.specs.Setters.{failed, marked, settled, with-template, pushed,
 use Rattle.state.specs.World.{World, world, over, front, top, abs, Ready, Draws}
 use Rattle.state.specs.Laws.{draws-nothing, draws-refused}
 use Rattle.state.specs.Steps.{goes-marks, goes-template}
-use Rattle.inlining.specs.Decorated.{SomeReady}
-use Rattle.drawing.specs.Parts.{is-at, before-helper}
+use Rattle.inlining.specs.Decorated.{is-at, SomeReady}
+use Rattle.drawing.specs.Parts.{before-helper}
 use Rattle.drawing.specs.Renders.{registry-of, Renders, Openable, Possible, Helped}
 use Rattle.drawing.specs.Members.{setting, draws-failed, body-nothing, body-drawn}
 use Rattle.drawing.specs.Helping.{helper-possible, helper-refused, helper-done}

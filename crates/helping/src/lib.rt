@@ -13,7 +13,7 @@ ghost use Rattle.places.specs.Accepted.{Accepted};
 ghost use Rattle.state.specs.Setters.{marked};
 ghost use Rattle.state.specs.World.{world, Ready};
 ghost use Rattle.inlining.specs.Decorated.{SomeReady};
-ghost use Rattle.drawing.specs.Parts.{is-at, before-helper};
+ghost use Rattle.drawing.specs.Parts.{before-helper};
 ghost use Rattle.blocks.specs.Opened.{Opens};
 ghost use Rattle.helping.specs.Begun.{done, body-next, within-next, turns-next, HelperBegun};
 ghost use Rattle.helping.specs.Decided.{Decided};
@@ -23,15 +23,6 @@ use output::Writer;
 use parts::Maybe;
 use state::RenderContext;
 use value::Value;
-
-fn is_at(m: Maybe) -> bool
-    ensures { λ r. ⌜ r ≡ is-at m ⌝ }
-{
-    match m {
-        Maybe::At(_) => true,
-        Maybe::Nothing => false,
-    }
-}
 
 // What the helper of the call at p does.
 pub fn decide(
@@ -56,8 +47,8 @@ pub fn decide(
     }
     let n = w.name;
     let h = expand::get_helper(s, tab, b, n);
-    let t = is_at(template);
-    let i = is_at(inverse);
+    let t = inlining::is_at(template);
+    let i = inlining::is_at(inverse);
     helpers::call_helper(s, tab, b, ent, rc.used, options, h, w, t, i)
 }
 

@@ -18,7 +18,7 @@ use parts::Maybe;
 use state::RenderContext;
 use value::Value;
 
-fn is_at(m: Maybe) -> bool
+pub fn is_at(m: Maybe) -> bool
     ensures { λ r. ⌜ r ≡ is-at m ⌝ }
 {
     match m {

@@ -1,6 +1,6 @@
 use Rattle.expand.specs.Answers.{helper-of}
 use Rattle.rules.specs.Registry.{get-helper}
-use Rattle.drawing.specs.Parts.{is-at}
+use Rattle.inlining.specs.Decorated.{is-at}
 use mathlib.Core.Bool.{Bool}
 use Rattle.helpers.specs.Does.{Decides}
 use Rattle.helping.specs.Decided.{Decided}
@@ -16,7 +16,7 @@ use Rattle.helping.proofs.decide.Lts as lts
 use Rattle.expand.proofs.get_helper.Reads as get-helper-reads
 use Rattle.expand.proofs.try_from_template.Reads as try-from-template-reads
 use Rattle.helpers.proofs.call_helper.Reads as call-helper-reads
-use Rattle.helping.proofs.is_at.Reads as is-at-reads
+use Rattle.inlining.proofs.is_at.Reads as is-at-reads
 
 -- src/lib.rt:53:9
 try-from-template-requires : tie.Need-try-from-template-requires
