@@ -33,7 +33,7 @@ use Rattle.inlining.specs.Decorated.{is-at}
 use Rattle.drawing.specs.Renders.{registry-of, Named, Renders, Worked, Joins, TextDrawn, BodyDrawn, IncludeDrawn}
 use Rattle.drawing.specs.Enclosed.{inside, body-drawn, text-nothing, text-refused, text-drawn}
 use Rattle.opening.specs.Scoped.{SomeWorked, ScopeOpened, Entered}
-use Rattle.targets.specs.Target.{body-rule}
+use Rattle.drawing.specs.Renders.{body-rule}
 use Rattle.drawing.specs.Continues.{unless-not}
 use Rattle.beginning.specs.declared.Next.{Next}
 use Rattle.beginning.specs.declared.Next.the-variants.{Done, Fallback, Body, Text}

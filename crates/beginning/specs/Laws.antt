@@ -42,7 +42,8 @@ use Rattle.drawing.specs.Enclosed.{own-says}
 use Rattle.drawing.specs.Expanding.{partial-stop, partial-too-long, partial-worked, partial-refused, partial-done}
 use Rattle.targets.specs.declared.Target.{Target}
 use Rattle.targets.specs.declared.Target.the-variants as to
-use Rattle.targets.specs.Target.{body-rule, Leads}
+use Rattle.targets.specs.Target.{Leads}
+use Rattle.drawing.specs.Renders.{body-rule}
 use Rattle.beginning.specs.declared.Next.{Next}
 use Rattle.beginning.specs.declared.Next.the-variants.{Done, Fallback, Body, Text}
 use Rattle.beginning.specs.Opened.{partial-rule, TextBegun, PartialBegun}

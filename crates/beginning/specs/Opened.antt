@@ -26,7 +26,7 @@ use Rattle.texts.specs.Setters.{text-closed, text-place, indented, concluded}
 use Rattle.inlining.specs.Decorated.{is-at}
 use Rattle.drawing.specs.Renders.{Named, Renders}
 use Rattle.drawing.specs.Continues.{Continues}
-use Rattle.targets.specs.Target.{body-rule}
+use Rattle.drawing.specs.Renders.{body-rule}
 use Rattle.beginning.specs.declared.Next.{Next}
 use Rattle.beginning.specs.declared.Next.the-variants.{Done, Fallback, Body, Text}
 use Rattle.beginning.specs.declared.Begun.{Begun}

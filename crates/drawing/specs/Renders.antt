@@ -119,6 +119,10 @@ pub record PartialDrawn (s b : Bytes) (o : Options) (w w′ : World) (d p : ℕ)
 abbrev pub target : Registry → ℕ → Bytes → ℕ → ℕ → ℕ → Draw
 target g f b q e n u = render-elements g (render-template g f) (name-at b n) (template-at 16 e (bits b) q) (set-current-template-name (name-at b n) u)
 
+-- the body of d depths at p; n is one more than the place of its name, 0 where it has none
+abbrev pub body-rule : Bytes → ℕ → ℕ → ℕ → Registry → Rendering → Draw
+body-rule b d p n g R = render-elements g R (name-at b n) (template-at 16 d (bits b) p)
+
 -- a partial that was found is drawn by D, which is that body where a scope may be opened; own is its block text's body
 pub record IncludeDrawn (s b : Bytes) (o : Options) (w w′ : World) (d p : ℕ) (x : Expanded) (q e n : ℕ) (own ind : Maybe) : Type 0 where
   pub at : (f k : ℕ) → 32 ≤ f + suc (w .rc .used) → 32 ≤ k + suc (w .rc .used) → (y : block-util.Expanded) → Worked s b o w d p x y

@@ -27,7 +27,8 @@ use Rattle.expand.specs.declared.Options.{Options}
 use Rattle.state.specs.declared.RenderContext.{RenderContext}
 use Rattle.state.specs.Setters.{with-template, settled, pushed, finished, finished-within}
 use Rattle.state.specs.World.{World}
-use Rattle.drawing.specs.Renders.{Renders, Openable}
+use Rattle.drawing.specs.Renders.{Renders, Openable, body-rule}
+use Rattle.drawing.specs.EachLoop.{each-rule}
 use Rattle.drawing.specs.Continues.{Continues}
 use Rattle.helping.specs.declared.Next.{Next}
 use Rattle.helping.specs.declared.Next.the-variants.{Done, Body, Within, Turns}
@@ -50,21 +51,12 @@ abbrev pub turns-next : Maybe → Value → RenderContext → Writer → Begun
 turns-next (At p) v c w = record { rc = c; next = Turns v p }
 turns-next Nothing v c w = done (settled c w)
 
--- the body at p
-abbrev pub body-rule : Bytes → ℕ → ℕ → Registry → Rendering → Draw
-body-rule b d p g R = render-elements g R none (template-at 16 d (bits b) p)
-
--- `each`: the body for each turn over v, in one scope
-abbrev pub turns-rule : Bytes → Bytes → World → ℕ → ℕ → ℕ → Value → Registry → Rendering → Draw
-turns-rule s b w d n p v g R st =
-    pop-block after turns (turn-block (scoped-of s b (w .ent) v) (names-at (bits b) n)) (render-or-nothing (render-body g R (template.body (template-at 16 d (bits b) p)))) (each-turns (json-of s b (w .ent) v)) (push-block (create-block (scoped-of s b (w .ent) v)) st)
-
 -- w is in front of the helper, w₁ is what its beginning leaves
 abbrev pub HelperBegun : Bytes → Bytes → Options → World → World → ℕ → ℕ → ℕ → Maybe → Maybe → Bool → Next → Type 0
 HelperBegun s b o w w₁ d p n tm im before Done = Renders s b o w w₁ (helper-rule b d p before (names-at (bits b) n) tm im)
 HelperBegun s b o w w₁ d p n tm im before (Body q) =
-    Holds (body 16 d) (bits b) q × Continues s b o w w₁ 0 (body-rule b d q) (helper-rule b d p before (names-at (bits b) n) tm im) (finished (w .rc .writer))
+    Holds (body 16 d) (bits b) q × Continues s b o w w₁ 0 (body-rule b d q 0) (helper-rule b d p before (names-at (bits b) n) tm im) (finished (w .rc .writer))
 HelperBegun s b o w w₁ d p n tm im before (Within q) =
-    Holds (body 16 d) (bits b) q × Continues s b o w w₁ 1 (body-rule b d q) (helper-rule b d p before (names-at (bits b) n) tm im) (finished-within (w .rc .total) (w .rc .writer))
+    Holds (body 16 d) (bits b) q × Continues s b o w w₁ 1 (body-rule b d q 0) (helper-rule b d p before (names-at (bits b) n) tm im) (finished-within (w .rc .total) (w .rc .writer))
 HelperBegun s b o w w₁ d p n tm im before (Turns v q) =
-    Holds (body 16 d) (bits b) q × Openable s b w₁ v × Continues s b o w w₁ 0 (turns-rule s b w₁ d n q v) (helper-rule b d p before (names-at (bits b) n) tm im) (finished (w .rc .writer))
+    Holds (body 16 d) (bits b) q × Openable s b w₁ v × Continues s b o w w₁ 0 (each-rule s b w₁ d n q v) (helper-rule b d p before (names-at (bits b) n) tm im) (finished (w .rc .writer))

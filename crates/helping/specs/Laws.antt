@@ -63,7 +63,9 @@ use Rattle.drawing.specs.Continues.{Continues, unless-refused, unless-fine, unl
 use Rattle.helping.specs.declared.Next.{Next}
 use Rattle.helping.specs.declared.Next.the-variants as next
 use Rattle.helping.specs.Decided.{helper-rule, marks-set, Drawable, Decided}
-use Rattle.helping.specs.Begun.{done, body-next, within-next, turns-next, body-rule, turns-rule, HelperBegun}
+use Rattle.helping.specs.Begun.{done, body-next, within-next, turns-next, HelperBegun}
+use Rattle.drawing.specs.Renders.{body-rule}
+use Rattle.drawing.specs.EachLoop.{each-rule}
 
 -- `decide`
 
@@ -244,7 +246,7 @@ module _ (s b : Bytes) (o : Options) (w : World) (d p n : ℕ) (before : Bool) (
   -- `each`
 
   module _ (v : Value) where
-    drawn : (z : ℕ) → tm ≡ At z → (u : World) → Renders s b o w₁ u (turns-rule s b w₁ d n z v) → Drawn u (does.Turns v)
+    drawn : (z : ℕ) → tm ≡ At z → (u : World) → Renders s b o w₁ u (each-rule s b w₁ d n z v) → Drawn u (does.Turns v)
     unfolding render-body
     drawn z e u R = record {
       at = λ f le x t.

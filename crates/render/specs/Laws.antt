@@ -16,7 +16,7 @@ use Rattle.state.specs.World.{World, world}
 use Rattle.texts.specs.Setters.{concluded}
 use Rattle.drawing.specs.Renders.{Renders}
 use Rattle.drawing.specs.Continues.{Continues}
-use Rattle.targets.specs.Target.{body-rule}
+use Rattle.drawing.specs.Renders.{body-rule}
 use Rattle.beginning.specs.Opened.{text-context, text-buffer, body-buffer, TextBegun, text-ended}
 
 -- a block text is finished: r, ts and i are what `end_text` made of w₂

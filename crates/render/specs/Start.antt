@@ -39,7 +39,7 @@ use Rattle.state.specs.World.{World, world, over, outputs-of, name-at, abs, Rea
 use Rattle.state.specs.Laws.{draws-from}
 use Rattle.state.specs.Steps.{goes-template, abs-template}
 use Rattle.drawing.specs.Renders.{registry-of, Renders}
-use Rattle.targets.specs.Target.{body-rule}
+use Rattle.drawing.specs.Renders.{body-rule}
 
 module _ (s b page texts indent : Bytes) (ent : List ℕ) where
   abbrev w : World

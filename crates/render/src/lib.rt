@@ -19,8 +19,8 @@ ghost use Rattle.state.specs.Setters.{fresh};
 ghost use Rattle.state.specs.World.{world, Ready, Draws};
 ghost use Rattle.drawing.specs.Renders.{Checked, Named, Renders, registry-of, Openable};
 ghost use Rattle.helping.specs.Decided.{helper-rule};
-ghost use Rattle.helping.specs.Begun.{turns-rule};
-ghost use Rattle.targets.specs.Target.{body-rule};
+ghost use Rattle.drawing.specs.EachLoop.{each-rule};
+ghost use Rattle.drawing.specs.Renders.{body-rule};
 ghost use Rattle.beginning.specs.Opened.{partial-rule};
 ghost use Rattle.render.specs.Texts.{TextDrawn, TextReady};
 use expand::Options;
@@ -321,7 +321,7 @@ fn render_turns(
     rc: RenderContext,
 ) -> RenderContext
     requires { ⌜ Checked (now s) (now tab) (now b) (now index) × Ready (now s) (now b) (world rc (now page) (now texts) (now indent) (now ent)) × (d < 16) × Holds block-names (bits (now b)) at × Holds (body 16 d) (bits (now b)) p × Openable (now s) (now b) (world rc (now page) (now texts) (now indent) (now ent)) v ⌝ }
-    ensures { λ r. ⌜ Renders (now (s .entry)) (now (b .entry)) options (world rc (now (page .entry)) (now (texts .entry)) (now (indent .entry)) (now (ent .entry))) (world r (now (page .exit)) (now (texts .exit)) (now (indent .exit)) (now (ent .exit))) (turns-rule (now (s .entry)) (now (b .entry)) (world rc (now (page .entry)) (now (texts .entry)) (now (indent .entry)) (now (ent .entry))) d at p v) ⌝ }
+    ensures { λ r. ⌜ Renders (now (s .entry)) (now (b .entry)) options (world rc (now (page .entry)) (now (texts .entry)) (now (indent .entry)) (now (ent .entry))) (world r (now (page .exit)) (now (texts .exit)) (now (indent .exit)) (now (ent .exit))) (each-rule (now (s .entry)) (now (b .entry)) (world rc (now (page .entry)) (now (texts .entry)) (now (indent .entry)) (now (ent .entry))) d at p v) ⌝ }
 {
     let mut q = blocks::open_each(b, at, v, rc);
     let mut turn = turns::first_turn(s, tab, b, ent, v);

@@ -1,32 +1,26 @@
 -- What a partial's name stands for, and what is then to be drawn: s is the plan, b the bundle.
 use Prim.Native.Nat.{ℕ, _+_, _≤_}
 use mathlib.Core.List.{List}
-use mathlib.Core.Option.{none}
 use mathlib.Core.Path.{_≡_}
 use lib.ListN.{length, take, drop}
 use Rattle.rules.specs.Bytes.{Bytes}
 use Rattle.rules.specs.Bits.{bits}
 use Rattle.rules.specs.Bundle.{body}
-use Rattle.rules.specs.State.{Draw}
 use Rattle.rules.specs.Output.{write}
-use Rattle.rules.specs.Registry.{Registry}
-use Rattle.rules.specs.Partial.{Rendering}
-use Rattle.rules.specs.Render.{render-elements}
 use Rattle.parts.specs.declared.Maybe.{Maybe}
 use Rattle.parts.specs.declared.Maybe.the-variants.{At, Nothing}
 use Rattle.parts.specs.Holds.{Holds}
 use Rattle.parts.specs.Says.{MaybeHolds}
-use Rattle.template.specs.Views.{template-at}
 use Rattle.value.specs.declared.Value.{Value}
 use Rattle.expand.specs.declared.Options.{Options}
 use Rattle.expand.specs.declared.Expanded.{Expanded}
 use Rattle.state.specs.declared.RenderContext.{RenderContext}
 use Rattle.state.specs.Setters.{failed, with-template, unless-bad}
-use Rattle.state.specs.World.{World, world, over, name-at, abs, Ready, Draws}
+use Rattle.state.specs.World.{World, world, over, abs, Ready, Draws}
 use Rattle.texts.specs.declared.Peek.{Peek}
 use Rattle.texts.specs.declared.Peek.the-variants as peek
 use Rattle.texts.specs.Peeking.{peeked}
-use Rattle.drawing.specs.Renders.{Named, Renders, PartialDrawn, IncludeDrawn}
+use Rattle.drawing.specs.Renders.{Named, body-rule, Renders, PartialDrawn, IncludeDrawn}
 use Rattle.targets.specs.declared.Target.{Target}
 use Rattle.targets.specs.declared.Target.the-variants.{Bad, Text, Fallback, Body}
 
@@ -47,10 +41,6 @@ block-target own c = by-peek own (peeked (c .scopes) (c .used) (c .writer .high)
 abbrev pub own-target : Maybe → ℕ → Target
 own-target (At p) d = Body p d 0 Nothing
 own-target Nothing d = Bad 12
-
--- the body of d depths at p; n is one more than the place of its name
-abbrev pub body-rule : Bytes → ℕ → ℕ → ℕ → Registry → Rendering → Draw
-body-rule b d p n g R = render-elements g R (name-at b n) (template-at 16 d (bits b) p)
 
 -- what is drawn from w for each target draws the partial; x is what its call was worked out to
 abbrev pub Leads : Bytes → Bytes → Options → World → ℕ → ℕ → Expanded → Maybe → Maybe → Target → Type 0

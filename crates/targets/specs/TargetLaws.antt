@@ -49,7 +49,8 @@ use Rattle.drawing.specs.Continues.{unless-refused}
 use Rattle.drawing.specs.Expanding.{names-agree, includes-self, is-block, found-done, found-nothing, found-own}
 use Rattle.targets.specs.declared.Target.{Target}
 use Rattle.targets.specs.declared.Target.the-variants.{Bad, Text, Fallback, Body}
-use Rattle.targets.specs.Target.{fallback, by-peek, block-target, own-target, body-rule, Leads, Decided}
+use Rattle.targets.specs.Target.{fallback, by-peek, block-target, own-target, Leads, Decided}
+use Rattle.drawing.specs.Renders.{body-rule}
 
 -- `@partial-block`: what is drawn for its target
 

@@ -1,5 +1,5 @@
 use Rattle.render.specs.Start.{ready-fresh, start-ready, start-named, start-drawn}
-use Rattle.targets.specs.Target.{body-rule}
+use Rattle.drawing.specs.Renders.{body-rule}
 use Rattle.drawing.specs.Renders.{Renders}
 use Rattle.state.specs.World.{World, world, over, Ready}
 use Rattle.state.specs.Setters.{fresh, with-template}

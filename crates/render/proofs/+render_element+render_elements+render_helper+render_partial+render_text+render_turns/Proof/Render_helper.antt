@@ -12,7 +12,8 @@ use Rattle.rules.specs.Bits.{bits}
 use Rattle.state.specs.declared.RenderContext.{RenderContext}
 use Rattle.state.specs.World.{World, world, over, name-at, Ready, Sizes}
 use Rattle.drawing.specs.Renders.{Renders}
-use Rattle.helping.specs.Begun.{HelperBegun, turns-rule}
+use Rattle.helping.specs.Begun.{HelperBegun}
+use Rattle.drawing.specs.EachLoop.{each-rule}
 use Rattle.helping.specs.Decided.{helper-rule}
 use Rattle.parts.specs.Says.{names-at}
 use Rattle.state.specs.Setters.{finished, finished-within}

@@ -14,7 +14,7 @@ use Rattle.state.specs.World.{World, world, over, name-at, Ready, Sizes}
 use Rattle.drawing.specs.Renders.{Renders}
 use Rattle.beginning.specs.Opened.{TextBegun, text-ended, text-context, text-buffer, body-buffer}
 use Rattle.drawing.specs.Continues.{Continues}
-use Rattle.targets.specs.Target.{body-rule}
+use Rattle.drawing.specs.Renders.{body-rule}
 use Rattle.texts.specs.Setters.{concluded}
 use Rattle.rules.specs.State.{Draw}
 use Rattle.rules.specs.Registry.{Registry}

@@ -29,7 +29,7 @@ use Rattle.turns.specs.declared.Turn.{Turn}
 use Rattle.turns.specs.declared.Turn.the-variants.{Item, End}
 use Rattle.drawing.specs.Renders.{Openable}
 use Rattle.drawing.specs.EachLoop.{each-rule, EachGoing, each-held, each-opens, each-begun, each-ended, each-used, each-sizes, each-item-fits, each-front, each-less, each-turn-ready, each-stopped, each-before, each-again}
-use Rattle.targets.specs.Target.{body-rule}
+use Rattle.drawing.specs.Renders.{body-rule}
 use Rattle.turns.specs.Turning.{TurnBefore}
 use Rattle.render.proofs.+render_element+render_elements+render_helper+render_partial+render_text+render_turns.Proof.Common.{render-turns-at, render-turns-claims}
 
