@@ -120,13 +120,14 @@ module _ (s b : Bytes) (o : Options) (w : World) (d p : ℕ) (own at : Maybe) (b
       pub begun-text : (f n : ℕ) → Leads s b o w₁ d p x own at (to.Text f n) → (u : World) → Draws s b w₁ u (write (take n (drop f (w .texts))) (abs s b w₁)) → Renders s b o w (over (finished m (u .rc)) u) rule
       begun-text f n L u D = finishes u (L .2 u D)
 
-      pub begun-fallback : (t : ℕ) → Leads s b o w₁ d p x own at (to.Fallback t) → PartialBegun s b o w (over (with-template (w₁ .rc) 0) w₁) d rule at (Fallback t)
+      pub begun-fallback : (t : ℕ) → Leads s b o w₁ d p x own at (to.Fallback t) → PartialBegun s b o w (over (with-template (w₁ .rc) 0) w₁) d rule own at (Fallback t)
       begun-fallback t L = (
         L .0,
+        L .1,
         record {
           ready = goes-template s b w₁ marks-ready 0 (λ z. absurd (z refl)) .ready;
           deeper = omega arith;
-          done = λ u R. finishes-by (λ c. with-template c (w .rc .template)) (λ c. refl) u (L .1 u R);
+          done = λ u R. finishes-by (λ c. with-template c (w .rc .template)) (λ c. refl) u (L .2 u R);
         },
       )
 
@@ -139,23 +140,26 @@ module _ (s b : Bytes) (o : Options) (w : World) (d p : ℕ) (own at : Maybe) (b
           done = λ v R. finishes-by (λ c. cleaned c (w .rc)) (λ c. refl) v (L .4 _ (B .done v R));
         }
 
-        pub begun-entered : (u : World) (next : Next) → EnteredNext s b o w₁ u d p x q i n own′ at next → PartialBegun s b o w u d rule at next
+        pub begun-entered : (u : World) (next : Next) → EnteredNext s b o w₁ u d p x q i n own′ at next → PartialBegun s b o w u d rule own at next
         begun-entered u Done E = refused u (L .4 u (E .0)) (E .1)
         begun-entered u (Fallback t) E = absurd E
         begun-entered u (Body t j k) E =
-            let step : PartialBegun s b o w u d rule at (Body q i n) = (L .0, L .1, L .2, continues u (E .3)) in
-            subst (λ (a : ℕ). PartialBegun s b o w u d rule at (Body a j k)) (sym (E .0)) (subst (λ (a : ℕ). PartialBegun s b o w u d rule at (Body q a k)) (sym (E .1)) (subst (λ (a : ℕ). PartialBegun s b o w u d rule at (Body q i a)) (sym (E .2)) step))
+            let step : PartialBegun s b o w u d rule own at (Body q i n) = (L .0, L .1, L .2, continues u (E .3)) in
+            subst (λ (a : ℕ). PartialBegun s b o w u d rule own at (Body a j k)) (sym (E .0)) (subst (λ (a : ℕ). PartialBegun s b o w u d rule own at (Body q a k)) (sym (E .1)) (subst (λ (a : ℕ). PartialBegun s b o w u d rule own at (Body q i a)) (sym (E .2)) step))
         begun-entered u (Text z t j k) E =
             let T = E .4 in
-            let step : PartialBegun s b o w u d rule at (Text z q i n) = record {
-              text = subst (MaybeHolds (body 16 d) (bits b)) (E .0) (L .3);
-              depth = L .0;
-              body = L .1;
-              named = L .2;
-              ready = T .ready;
-              deeper = omega (arith, T .deeper);
-              stop = λ v R y. refused v (L .4 v (T .stop v R y)) y;
-              ends = λ v R y. T .ends v R y;
-              goes = λ v R y. continues _ (T .goes v R y);
-            } in
-            subst (λ (a : ℕ). PartialBegun s b o w u d rule at (Text z a j k)) (sym (E .1)) (subst (λ (a : ℕ). PartialBegun s b o w u d rule at (Text z q a k)) (sym (E .2)) (subst (λ (a : ℕ). PartialBegun s b o w u d rule at (Text z q i a)) (sym (E .3)) step))
+            let step : PartialBegun s b o w u d rule own at (Text z q i n) = (
+              record {
+                text = subst (MaybeHolds (body 16 d) (bits b)) (E .0) (L .3);
+                depth = L .0;
+                body = L .1;
+                named = L .2;
+                ready = T .ready;
+                deeper = omega (arith, T .deeper);
+                stop = λ v R y. refused v (L .4 v (T .stop v R y)) y;
+                ends = λ v R y. T .ends v R y;
+                goes = λ v R y. continues _ (T .goes v R y);
+              },
+              L .5 z (E .0),
+            ) in
+            subst (λ (a : ℕ). PartialBegun s b o w u d rule own at (Text z a j k)) (sym (E .1)) (subst (λ (a : ℕ). PartialBegun s b o w u d rule own at (Text z q a k)) (sym (E .2)) (subst (λ (a : ℕ). PartialBegun s b o w u d rule own at (Text z q i a)) (sym (E .3)) step))

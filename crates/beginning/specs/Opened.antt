@@ -13,6 +13,7 @@ use Rattle.rules.specs.Registry.{Registry}
 use Rattle.rules.specs.Partial.{Rendering}
 use Rattle.rules.specs.Render.{render-body, render-partial-element}
 use Rattle.parts.specs.declared.Maybe.{Maybe}
+use Rattle.parts.specs.declared.Maybe.the-variants.{At}
 use Rattle.parts.specs.Holds.{Holds}
 use Rattle.parts.specs.Says.{MaybeHolds, indent-says}
 use Rattle.calls.specs.Calls.{call-at}
@@ -87,9 +88,10 @@ pub record TextBegun (s b : Bytes) (o : Options) (w w₁ : World) (d : ℕ) (rul
   pub goes : (w₂ : World) → Renders s b o w₁ w₂ (body-rule b d t 0) → w₂ .rc .bad ≡ 0
       → Continues s b o w (text-ended b at n (w .rc .writer .low) (w .rc .writer .«block_text») w₂) 1 (body-rule b e q n) rule (concluded (w .rc))
 
--- w is in front of the element, w₁ is what its beginning leaves
-abbrev pub PartialBegun : Bytes → Bytes → Options → World → World → ℕ → (Registry → Rendering → Draw) → Maybe → Next → Type 0
-PartialBegun s b o w w₁ d rule at Done = Renders s b o w w₁ rule
-PartialBegun s b o w w₁ d rule at (Fallback q) = Holds (body 16 d) (bits b) q × Continues s b o w w₁ 0 (body-rule b d q 0) rule (finished-named (w .rc .template) (w .rc .writer))
-PartialBegun s b o w w₁ d rule at (Body q e n) = (e ≤ 16) × Holds (body 16 e) (bits b) q × Named b n × Continues s b o w w₁ 1 (body-rule b e q n) rule (concluded (w .rc))
-PartialBegun s b o w w₁ d rule at (Text t q e n) = TextBegun s b o w w₁ d rule t q e n at
+-- w is in front of the element, w₁ is what its beginning leaves; only an element with an own body has a fallback or a block text
+abbrev pub PartialBegun : Bytes → Bytes → Options → World → World → ℕ → (Registry → Rendering → Draw) → Maybe → Maybe → Next → Type 0
+PartialBegun s b o w w₁ d rule own at Done = Renders s b o w w₁ rule
+PartialBegun s b o w w₁ d rule own at (Fallback q) =
+    Holds (body 16 d) (bits b) q × (own ≡ At q) × Continues s b o w w₁ 0 (body-rule b d q 0) rule (finished-named (w .rc .template) (w .rc .writer))
+PartialBegun s b o w w₁ d rule own at (Body q e n) = (e ≤ 16) × Holds (body 16 e) (bits b) q × Named b n × Continues s b o w w₁ 1 (body-rule b e q n) rule (concluded (w .rc))
+PartialBegun s b o w w₁ d rule own at (Text t q e n) = TextBegun s b o w w₁ d rule t q e n at × (own ≡ At t)

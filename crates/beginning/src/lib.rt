@@ -166,7 +166,7 @@ pub fn begin(
     rc: RenderContext,
 ) -> Begun
     requires { ⌜ Checked (now s) (now tab) (now b) (now index) × Ready (now s) (now b) (world rc (now page) (now texts) (now indent) (now ent)) × (d ≤ 16) × Holds (call-of (param d)) (bits (now b)) p × MaybeHolds (body 16 d) (bits (now b)) own × MaybeHolds string (bits (now b)) at ⌝ }
-    ensures { λ r. ⌜ PartialBegun (now (s .entry)) (now (b .entry)) options (world rc (now (page .entry)) (now (texts .entry)) (now (indent .entry)) (now (ent .entry))) (world (r .rc) (now (page .exit)) (now (texts .exit)) (now (indent .exit)) (now (ent .exit))) d (partial-rule (now (b .entry)) d p own at before) at (r .next) ⌝ }
+    ensures { λ r. ⌜ PartialBegun (now (s .entry)) (now (b .entry)) options (world rc (now (page .entry)) (now (texts .entry)) (now (indent .entry)) (now (ent .entry))) (world (r .rc) (now (page .exit)) (now (texts .exit)) (now (indent .exit)) (now (ent .exit))) d (partial-rule (now (b .entry)) d p own at before) own at (r .next) ⌝ }
 {
     let list = rc.scopes;
     let w = expand::try_from_template(s, tab, b, ent, list, rc.used, options, p, d);

@@ -12,6 +12,7 @@ ghost use Rattle.rules.specs.Registry.{paper-limits};
 ghost use Rattle.rules.specs.Render as rule;
 ghost use Rattle.rules.specs.Render.{render-element};
 ghost use Rattle.layout.specs.Text.{text-at};
+ghost use Rattle.parts.specs.declared.Maybe.the-variants.{At, Nothing};
 ghost use Rattle.parts.specs.Holds.{Holds};
 ghost use Rattle.parts.specs.Says.{MaybeHolds, names-at};
 ghost use Rattle.template.specs.Views.{template-at, element-says, ElementHolds};
@@ -157,6 +158,25 @@ fn render_element(
         Element::DecoratorBlock(p, body, at, _) => {
             inlining::eval_decorator(s, tab, b, ent, options, p, Maybe::At(body), at, d, rc)
         }
+        Element::PartialBlock(p, body, at, before) => {
+            render_partial_block(
+                s,
+                tab,
+                b,
+                index,
+                ent,
+                page,
+                texts,
+                indent,
+                options,
+                p,
+                body,
+                at,
+                before,
+                d,
+                rc,
+            )
+        }
         Element::PartialExpression(p, at, before) => {
             render_partial(
                 s,
@@ -169,26 +189,6 @@ fn render_element(
                 indent,
                 options,
                 p,
-                Maybe::Nothing,
-                at,
-                before,
-                d,
-                rc,
-            )
-        }
-        Element::PartialBlock(p, body, at, before) => {
-            render_partial(
-                s,
-                tab,
-                b,
-                index,
-                ent,
-                page,
-                texts,
-                indent,
-                options,
-                p,
-                Maybe::At(body),
                 at,
                 before,
                 d,
@@ -221,6 +221,8 @@ fn render_helper(
     requires { ⌜ Checked (now s) (now tab) (now b) (now index) × Ready (now s) (now b) (world rc (now page) (now texts) (now indent) (now ent)) × (d < 16) × Holds (call-of (param d)) (bits (now b)) p × Holds block-names (bits (now b)) at × MaybeHolds (body 16 d) (bits (now b)) template × MaybeHolds (body 16 d) (bits (now b)) inverse ⌝ }
     ensures { λ r. ⌜ Renders (now (s .entry)) (now (b .entry)) options (world rc (now (page .entry)) (now (texts .entry)) (now (indent .entry)) (now (ent .entry))) (world r (now (page .exit)) (now (texts .exit)) (now (indent .exit)) (now (ent .exit))) (helper-rule (now (b .entry)) d p before (names-at (bits (now (b .entry))) at) template inverse) ⌝ }
 {
+    let marks = rc.writer;
+    let total = rc.total;
     let begun = helping::begin(
         s,
         tab,
@@ -238,12 +240,12 @@ fn render_helper(
         d,
         rc,
     );
-    let q = begun.rc;
     let next = begun.next;
+    let mut q = begun.rc;
     match next {
-        helping::Next::Done => q,
-        helping::Next::Body(t) => state::finish(
-            render_elements(
+        helping::Next::Done => {}
+        helping::Next::Body(t) => {
+            q = render_elements(
                 s,
                 tab,
                 b,
@@ -257,32 +259,29 @@ fn render_helper(
                 d,
                 0,
                 q,
-            ),
-            rc.writer,
-        ),
-        helping::Next::Within(t) => {
-            state::finish_within(
-                render_elements(
-                    s,
-                    tab,
-                    b,
-                    index,
-                    ent,
-                    page,
-                    texts,
-                    indent,
-                    options,
-                    t,
-                    d,
-                    0,
-                    q,
-                ),
-                rc.total,
-                rc.writer,
-            )
+            );
+            q = state::finish(q, marks);
         }
-        helping::Next::Turns(v, t) => state::finish(
-            render_turns(
+        helping::Next::Within(t) => {
+            q = render_elements(
+                s,
+                tab,
+                b,
+                index,
+                ent,
+                page,
+                texts,
+                indent,
+                options,
+                t,
+                d,
+                0,
+                q,
+            );
+            q = state::finish_within(q, total, marks);
+        }
+        helping::Next::Turns(v, t) => {
+            q = render_turns(
                 s,
                 tab,
                 b,
@@ -297,10 +296,11 @@ fn render_helper(
                 t,
                 d,
                 q,
-            ),
-            rc.writer,
-        ),
+            );
+            q = state::finish(q, marks);
+        }
     }
+    q
 }
 
 // `each`: the body at p for each turn over the value, all in one scope.
@@ -354,7 +354,7 @@ fn render_turns(
     }
 }
 
-// A partial: its call at p, its own body and its own indent.
+// A partial without a body of its own: its call at p, its own indent at the place `at`.
 fn render_partial(
     s: &[u8],
     tab: &[u64],
@@ -366,14 +366,13 @@ fn render_partial(
     indent: &mut [u8],
     options: Options,
     p: usize,
-    own: Maybe,
     at: Maybe,
     before: bool,
     d: usize,
     rc: RenderContext,
 ) -> RenderContext
-    requires { ⌜ Checked (now s) (now tab) (now b) (now index) × Ready (now s) (now b) (world rc (now page) (now texts) (now indent) (now ent)) × (d < 16) × Holds (call-of (param d)) (bits (now b)) p × MaybeHolds (body 16 d) (bits (now b)) own × MaybeHolds string (bits (now b)) at ⌝ }
-    ensures { λ r. ⌜ Renders (now (s .entry)) (now (b .entry)) options (world rc (now (page .entry)) (now (texts .entry)) (now (indent .entry)) (now (ent .entry))) (world r (now (page .exit)) (now (texts .exit)) (now (indent .exit)) (now (ent .exit))) (partial-rule (now (b .entry)) d p own at before) ⌝ }
+    requires { ⌜ Checked (now s) (now tab) (now b) (now index) × Ready (now s) (now b) (world rc (now page) (now texts) (now indent) (now ent)) × (d < 16) × Holds (call-of (param d)) (bits (now b)) p × MaybeHolds string (bits (now b)) at ⌝ }
+    ensures { λ r. ⌜ Renders (now (s .entry)) (now (b .entry)) options (world rc (now (page .entry)) (now (texts .entry)) (now (indent .entry)) (now (ent .entry))) (world r (now (page .exit)) (now (texts .exit)) (now (indent .exit)) (now (ent .exit))) (partial-rule (now (b .entry)) d p Nothing at before) ⌝ }
 {
     let begun = beginning::begin(
         s,
@@ -386,59 +385,116 @@ fn render_partial(
         indent,
         options,
         p,
-        own,
+        Maybe::Nothing,
         at,
         before,
         d,
         rc,
     );
-    let q = begun.rc;
     let next = begun.next;
+    let mut q = begun.rc;
+    if let beginning::Next::Body(t, e, name) = next {
+        q = render_elements(
+            s,
+            tab,
+            b,
+            index,
+            ent,
+            page,
+            texts,
+            indent,
+            options,
+            t,
+            e,
+            name,
+            q,
+        );
+        q = texts::finish_partial(q, rc);
+    }
+    q
+}
+
+// The same with a body of its own. (A function of its own, so that `beginning::begin` is called from two places: what is called from one is made a part
+// of its caller, and its locals would lie on the stack as often as partials are nested.)
+fn render_partial_block(
+    s: &[u8],
+    tab: &[u64],
+    b: &[u8],
+    index: &[u32],
+    ent: &mut [u64],
+    page: &mut [u8],
+    texts: &mut [u8],
+    indent: &mut [u8],
+    options: Options,
+    p: usize,
+    own: usize,
+    at: Maybe,
+    before: bool,
+    d: usize,
+    rc: RenderContext,
+) -> RenderContext
+    requires { ⌜ Checked (now s) (now tab) (now b) (now index) × Ready (now s) (now b) (world rc (now page) (now texts) (now indent) (now ent)) × (d < 16) × Holds (call-of (param d)) (bits (now b)) p × Holds (body 16 d) (bits (now b)) own × MaybeHolds string (bits (now b)) at ⌝ }
+    ensures { λ r. ⌜ Renders (now (s .entry)) (now (b .entry)) options (world rc (now (page .entry)) (now (texts .entry)) (now (indent .entry)) (now (ent .entry))) (world r (now (page .exit)) (now (texts .exit)) (now (indent .exit)) (now (ent .exit))) (partial-rule (now (b .entry)) d p (At own) at before) ⌝ }
+{
+    let begun = beginning::begin(
+        s,
+        tab,
+        b,
+        index,
+        ent,
+        page,
+        texts,
+        indent,
+        options,
+        p,
+        Maybe::At(own),
+        at,
+        before,
+        d,
+        rc,
+    );
+    let next = begun.next;
+    let mut q = begun.rc;
     match next {
-        beginning::Next::Done => q,
+        beginning::Next::Done => {}
         beginning::Next::Fallback(t) => {
-            state::finish_named(
-                render_elements(
-                    s,
-                    tab,
-                    b,
-                    index,
-                    ent,
-                    page,
-                    texts,
-                    indent,
-                    options,
-                    t,
-                    d,
-                    0,
-                    q,
-                ),
-                rc.template,
-                rc.writer,
-            )
+            q = render_elements(
+                s,
+                tab,
+                b,
+                index,
+                ent,
+                page,
+                texts,
+                indent,
+                options,
+                t,
+                d,
+                0,
+                q,
+            );
+            q = state::finish_named(q, rc.template, rc.writer);
         }
         beginning::Next::Body(t, e, name) => {
-            texts::finish_partial(
-                render_elements(
-                    s,
-                    tab,
-                    b,
-                    index,
-                    ent,
-                    page,
-                    texts,
-                    indent,
-                    options,
-                    t,
-                    e,
-                    name,
-                    q,
-                ),
-                rc,
-            )
+            q = render_elements(
+                s,
+                tab,
+                b,
+                index,
+                ent,
+                page,
+                texts,
+                indent,
+                options,
+                t,
+                e,
+                name,
+                q,
+            );
+            q = texts::finish_partial(q, rc);
         }
         beginning::Next::Text(o, t, e, name) => {
-            render_text(
+            q = render_text(
                 s,
                 tab,
                 b,
@@ -456,9 +512,10 @@ fn render_partial(
                 d,
                 q,
                 rc,
-            )
+            );
         }
     }
+    q
 }
 
 // The body of a partial's block text at o is drawn first, then its body at p; around is the context in front of the element.

@@ -52,9 +52,12 @@ with-marks w produced before = record { written = w .written; low = w .low; high
 abbrev pub marked : RenderContext → Bool → RenderContext
 marked c b = with-writer c (with-marks (c .writer) false b)
 
--- the marks behind it; w holds those from in front
+-- the marks behind it; before and w hold those from in front
+abbrev pub settled-marks : Writer → Writer → Writer
+settled-marks w before = pick (w .«content_produced») (with-marks w true (w .«trailing_newline»)) (with-marks w (before .«content_produced») (before .«indent_before_write»))
+
 abbrev pub settled : RenderContext → Writer → RenderContext
-settled c w = with-writer c (pick (c .writer .«content_produced») (with-marks (c .writer) true (c .writer .«trailing_newline»)) (with-marks (c .writer) (w .«content_produced») (w .«indent_before_write»)))
+settled c w = with-writer c (settled-marks (c .writer) w)
 
 abbrev pub with-scopes : RenderContext → List Scope → ℕ → ℕ → RenderContext
 with-scopes c l n t = record { scopes = l; used = n; writer = c .writer; total = t; template = c .template; named = c .named; line = c .line; column = c .column; bad = c .bad; placed = c .placed; «disable_escape» = c .«disable_escape» }

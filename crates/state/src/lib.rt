@@ -5,7 +5,7 @@ ghost use lib.Dec.{eqb};
 ghost use lib.ListN.{length, getD};
 ghost use Rattle.rules.specs.Bytes.{pick};
 ghost use Rattle.scope.specs.Scopes.{blank};
-ghost use Rattle.state.specs.Setters.{fresh, failed, located, with-escape, with-template, with-writer, wrote, with-marks, marked, settled, pushed, turned, counted, closed, finished, finished-within, finished-named};
+ghost use Rattle.state.specs.Setters.{fresh, failed, located, with-escape, with-template, with-writer, wrote, with-marks, marked, settled-marks, settled, pushed, turned, counted, closed, finished, finished-within, finished-named};
 use output::Writer;
 use scope::Scope;
 
@@ -110,16 +110,23 @@ pub fn set_writer(rc: RenderContext, w: Writer) -> RenderContext
     q
 }
 
+fn full_number(block_text: bool) -> u8
+    ensures { λ r. ⌜ r ≡ pick «block_text» 24 25 ⌝ }
+{
+    if block_text {
+        return 24;
+    }
+    25
+}
+
 // A writer that has written; what does not fit is 24 in a block text and 25 on the page.
 pub fn wrote(rc: RenderContext, w: Writer) -> RenderContext
     ensures { λ r. ⌜ r ≡ wrote rc w ⌝ }
 {
-    let q = set_writer(rc, w);
+    let mut q = rc;
+    q.writer = w;
     if w.full {
-        if w.block_text {
-            return failed(q, 24);
-        }
-        return failed(q, 25);
+        q.bad = full_number(w.block_text);
     }
     q
 }
@@ -137,22 +144,27 @@ fn with_marks(w: Writer, produced: bool, before: bool) -> Writer
 pub fn begin_aware(rc: RenderContext, indent_before_write: bool) -> RenderContext
     ensures { λ r. ⌜ r ≡ marked rc «indent_before_write» ⌝ }
 {
-    let w = rc.writer;
-    set_writer(rc, with_marks(w, false, indent_before_write))
+    let mut q = rc;
+    q.writer = with_marks(q.writer, false, indent_before_write);
+    q
+}
+
+fn settle_marks(w: Writer, before: Writer) -> Writer
+    ensures { λ r. ⌜ r ≡ settled-marks w before ⌝ }
+{
+    if w.content_produced {
+        return with_marks(w, true, w.trailing_newline);
+    }
+    with_marks(w, before.content_produced, before.indent_before_write)
 }
 
 // The marks behind it; before holds those from in front.
 pub fn settle(rc: RenderContext, before: Writer) -> RenderContext
     ensures { λ r. ⌜ r ≡ settled rc before ⌝ }
 {
-    let w = rc.writer;
-    if w.content_produced {
-        return set_writer(rc, with_marks(w, true, w.trailing_newline));
-    }
-    set_writer(
-        rc,
-        with_marks(w, before.content_produced, before.indent_before_write),
-    )
+    let mut q = rc;
+    q.writer = settle_marks(q.writer, before);
+    q
 }
 
 pub fn front(rc: RenderContext) -> Scope
@@ -208,10 +220,11 @@ pub fn pop_block(rc: RenderContext, total: usize) -> RenderContext
 pub fn finish(rc: RenderContext, before: Writer) -> RenderContext
     ensures { λ r. ⌜ r ≡ finished before rc ⌝ }
 {
-    if rc.bad != 0 {
-        return rc;
+    let mut q = rc;
+    if q.bad == 0 {
+        q.writer = settle_marks(q.writer, before);
     }
-    settle(rc, before)
+    q
 }
 
 // The same, and the scope of the block is closed; total is the entries in use beneath it.
@@ -219,18 +232,23 @@ pub fn finish_within(rc: RenderContext, total: usize, before: Writer) -> RenderC
     requires { ⌜ (rc .bad ≡ 0 → 0 < rc .used) ⌝ }
     ensures { λ r. ⌜ r ≡ finished-within total before rc ⌝ }
 {
-    if rc.bad != 0 {
-        return rc;
+    let mut q = rc;
+    if q.bad == 0 {
+        q.used = q.used - 1;
+        q.total = total;
+        q.writer = settle_marks(q.writer, before);
     }
-    settle(pop_block(rc, total), before)
+    q
 }
 
 // The same, and the current template is again the one from before.
 pub fn finish_named(rc: RenderContext, name: usize, before: Writer) -> RenderContext
     ensures { λ r. ⌜ r ≡ finished-named name before rc ⌝ }
 {
-    if rc.bad != 0 {
-        return rc;
+    let mut q = rc;
+    if q.bad == 0 {
+        q.template = name;
+        q.writer = settle_marks(q.writer, before);
     }
-    settle(set_current_template_name(rc, name), before)
+    q
 }

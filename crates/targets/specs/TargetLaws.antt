@@ -49,7 +49,7 @@ use Rattle.drawing.specs.Continues.{unless-refused}
 use Rattle.drawing.specs.Expanding.{names-agree, includes-self, is-block, found-done, found-nothing, found-own}
 use Rattle.targets.specs.declared.Target.{Target}
 use Rattle.targets.specs.declared.Target.the-variants.{Bad, Text, Fallback, Body}
-use Rattle.targets.specs.Target.{fallback, by-peek, block-target, own-target, Leads, Decided}
+use Rattle.targets.specs.Target.{fallback, by-peek, block-target, own-target, nothing-at, Leads, Decided}
 use Rattle.drawing.specs.Renders.{body-rule}
 
 -- `@partial-block`: what is drawn for its target
@@ -141,7 +141,7 @@ module _ (s b : Bytes) (ent : List ℕ) (c : RenderContext) (d : ℕ) (name : Va
 
         by-own : (page texts indent : Bytes) (o : Options) (p : ℕ) (x : Expanded) (ind : Maybe) (named : x .name ≡ name) (r : Ready s b (world c page texts indent ent)) → text-of texts (peeked (c .scopes) (c .used) (c .writer .high)) ≡ none
             → (m : Maybe) → own ≡ m → MaybeHolds (body 16 d) (bits b) m → Leads s b o (world c page texts indent ent) d p x own ind (fallback m)
-        by-own page texts indent o p x ind named r n (At t) e hm = (hm, λ w₂ R. drawn-so page texts indent o p x ind named r _ (fallback-done s b o (world c page texts indent ent) d own r n t e w₂ R))
+        by-own page texts indent o p x ind named r n (At t) e hm = (hm, e, λ w₂ R. drawn-so page texts indent o p x ind named r _ (fallback-done s b o (world c page texts indent ent) d own r n t e w₂ R))
         by-own page texts indent o p x ind named r n Nothing e hm = (λ v. omega arith, drawn-so page texts indent o p x ind named r _ (without s b o (world c page texts indent ent) d own r n e))
 
         go : (page texts indent : Bytes) (o : Options) (p : ℕ) (x : Expanded) (ind : Maybe) (named : x .name ≡ name) (r : Ready s b (world c page texts indent ent)) (k : Peek) → peeked (c .scopes) (c .used) (c .writer .high) ≡ k → Leads s b o (world c page texts indent ent) d p x own ind (by-peek own k)
@@ -174,6 +174,7 @@ module _ (s b : Bytes) (ent : List ℕ) (c : RenderContext) (d : ℕ) (name : Va
                   h,
                   λ w₂ I. found-done s b o w₀ r d p x own ind (λ e k. not-self page texts indent o p x ind named r e k) (λ e k. not-block page texts indent o p x ind named r e k) v (λ e k. found-is page texts indent o p x ind named r e k)
                       q e 0 w₂ none refl (λ m. ap (drawn (bits b) (render-template (registry-of s b o (length page)) m)) i) I,
+                  λ t m. m,
                 );
           }
 
@@ -191,6 +192,7 @@ module _ (s b : Bytes) (ent : List ℕ) (c : RenderContext) (d : ℕ) (name : Va
                   h,
                   λ w₂ I. found-done s b o w₀ r d p x own ind (λ e k. not-self page texts indent o p x ind named r e k) (λ e k. not-block page texts indent o p x ind named r e k) v (λ e k. found-is page texts indent o p x ind named r e k)
                       q 16 (n + 1) w₂ (name-at b (suc n)) (ap (name-at b) (sym y)) (λ m. ap (drawn (bits b) (render-template (registry-of s b o (length page)) m)) i) I,
+                  λ t m. m,
                 );
           }
 
@@ -199,6 +201,6 @@ module _ (s b : Bytes) (ent : List ℕ) (c : RenderContext) (d : ℕ) (name : Va
         where
           go : (page texts indent : Bytes) (o : Options) (p : ℕ) (x : Expanded) (ind : Maybe) (named : x .name ≡ name) (r : Ready s b (world c page texts indent ent)) (m : Maybe) → own ≡ m → MaybeHolds (body 16 d) (bits b) m → Leads s b o (world c page texts indent ent) d p x own ind (own-target m d)
           go page texts indent o p x ind named r (At t) e hm =
-              (below, hm, (λ n. absurd (n refl)), tt, λ w₂ I. found-own s b o (world c page texts indent ent) r d p x own ind (λ e k. not-self page texts indent o p x ind named r e k) (λ e k. not-block page texts indent o p x ind named r e k) v (λ e k. found-is page texts indent o p x ind named r e k) i t e w₂ I)
+              (below, hm, (λ n. absurd (n refl)), tt, λ w₂ I. found-own s b o (world c page texts indent ent) r d p x own ind (λ e k. not-self page texts indent o p x ind named r e k) (λ e k. not-block page texts indent o p x ind named r e k) v (λ e k. found-is page texts indent o p x ind named r e k) i t e w₂ I, λ j m. nothing-at j m)
           go page texts indent o p x ind named r Nothing e hm =
               (λ n. omega arith, found-nothing s b o (world c page texts indent ent) r d p x own ind (λ e k. not-self page texts indent o p x ind named r e k) (λ e k. not-block page texts indent o p x ind named r e k) v (λ e k. found-is page texts indent o p x ind named r e k) i e)

@@ -62,7 +62,7 @@ returns c =
     let w : World = world (a .rc) (a .page .now) (a .texts .now) (a .indent .now) (a .ent .now) in
     let x = (c .before .before .before .before .try-from-template) .result in
     let k = (c .before .before .before .before .try-from-template) .ensures (registry-of (a .s .now) (a .b .now) (a .options) (length (a .page .now))) (abs (a .s .now) (a .b .now) w) (top w) (setting (a .s .now) (a .b .now) (a .options) w ((c .before .before .before .before .before .before .before .before .before .before .before .before .before .before .before .pre) .1) (length (a .page .now))) in
-    subst (λ (y : Begun). PartialBegun (a .s .now) (a .b .now) (a .options) w (over (y .rc) w) (a .d) (partial-rule (a .b .now) (a .d) (a .p) (a .own) (a .at) (a .before)) (a .at) (y .next)) (sym ((c .done) .ensures ∙ ap done ((c .before .failed) .ensures)))
+    subst (λ (y : Begun). PartialBegun (a .s .now) (a .b .now) (a .options) w (over (y .rc) w) (a .d) (partial-rule (a .b .now) (a .d) (a .p) (a .own) (a .at) (a .before)) (a .own) (a .at) (y .next)) (sym ((c .done) .ensures ∙ ap done ((c .before .failed) .ensures)))
     (begun-stop (a .s .now) (a .b .now) (a .options) w (a .d) (a .p) (a .own) (a .at) (a .before) ((c .before .before .before .before .before .before .before .before .before .before .before .before .before .before .before .pre) .1) x k ((c .before .before .if1) .taken))
 
 -- src/lib.rt:176:9
@@ -89,7 +89,7 @@ returns-2 c =
     let x = (c .before .before .before .before .before .before .before .try-from-template) .result in
     let k = (c .before .before .before .before .before .before .before .try-from-template) .ensures (registry-of (a .s .now) (a .b .now) (a .options) (length (a .page .now))) (abs (a .s .now) (a .b .now) w) (top w) (setting (a .s .now) (a .b .now) (a .options) w ((c .before .before .before .before .before .before .before .before .before .before .before .before .before .before .before .before .before .before .pre) .1) (length (a .page .now))) in
     let long = sym (fits-is (a .s .now) (a .b .now) (a .options) w (a .at) ((c .before .before .before .before .before .before .before .before .before .before .before .before .before .before .before .before .before .before .pre) .1) ((c .before .before .before .indent-fits) .result) ((c .before .before .before .indent-fits) .ensures)) ∙ not-true _ ((c .before .before .if2) .taken) in
-    subst (λ (y : Begun). PartialBegun (a .s .now) (a .b .now) (a .options) w (over (y .rc) w) (a .d) (partial-rule (a .b .now) (a .d) (a .p) (a .own) (a .at) (a .before)) (a .at) (y .next)) (sym ((c .done2) .ensures ∙ ap done ((c .before .failed2) .ensures)))
+    subst (λ (y : Begun). PartialBegun (a .s .now) (a .b .now) (a .options) w (over (y .rc) w) (a .d) (partial-rule (a .b .now) (a .d) (a .p) (a .own) (a .at) (a .before)) (a .own) (a .at) (y .next)) (sym ((c .done2) .ensures ∙ ap done ((c .before .failed2) .ensures)))
     (begun-long (a .s .now) (a .b .now) (a .options) w (a .d) (a .p) (a .own) (a .at) (a .before) ((c .before .before .before .before .before .before .before .before .before .before .before .before .before .before .before .before .before .before .pre) .1) x k ((c .before .before .before .before .before .if1) .left) long)
 
 -- src/lib.rt:180:36
@@ -194,7 +194,7 @@ returns-3 c =
     let q : (c .before .before .before .before .before .before .before .begin-aware) .result ≡ marked (a .rc) (before-partial (a .rc .writer) (a .at) (a .before)) = (c .before .before .before .before .before .before .before .begin-aware) .ensures ∙ ap (marked (a .rc)) ((c .before .before .before .before .before .before .before .before .before-partial) .ensures) in
     let w₁ : World = over (marked (a .rc) (before-partial (a .rc .writer) (a .at) (a .before))) w in
     let L = subst (Leads (a .s .now) (a .b .now) (a .options) w₁ (a .d) (a .p) x (a .own) (a .at)) ((c .before .before .before .n) .given .1) (subst (λ (v : RenderContext). Decided (a .s .now) (a .b .now) (a .ent .now) v (a .d) (x .name) (a .own) ((c .before .before .before .before .before .expand-partial) .result)) q ((c .before .before .before .before .before .expand-partial) .ensures) .at (a .page .now) (a .texts .now) (a .indent .now) (a .options) (a .p) x (a .at) refl (marks-ready (a .s .now) (a .b .now) (a .options) w (a .d) (a .p) (a .own) (a .at) (a .before) ((c .before .before .before .before .before .before .before .before .before .before .before .before .before .before .before .before .before .before .before .before .before .before .before .before .before .pre) .1) x k ((c .before .before .before .before .before .before .before .before .before .before .before .before .if1) .left))) in
-    subst (λ (y : Begun). PartialBegun (a .s .now) (a .b .now) (a .options) w (over (y .rc) w₁) (a .d) (partial-rule (a .b .now) (a .d) (a .p) (a .own) (a .at) (a .before)) (a .at) (y .next)) (sym ((c .done3) .ensures ∙ ap done ((c .before .failed3) .ensures ∙ ap (λ (v : RenderContext). failed v ((c .before .before .before .n) .given .0 .0)) q)))
+    subst (λ (y : Begun). PartialBegun (a .s .now) (a .b .now) (a .options) w (over (y .rc) w₁) (a .d) (partial-rule (a .b .now) (a .d) (a .p) (a .own) (a .at) (a .before)) (a .own) (a .at) (y .next)) (sym ((c .done3) .ensures ∙ ap done ((c .before .failed3) .ensures ∙ ap (λ (v : RenderContext). failed v ((c .before .before .before .n) .given .0 .0)) q)))
     (begun-bad (a .s .now) (a .b .now) (a .options) w (a .d) (a .p) (a .own) (a .at) (a .before) ((c .before .before .before .before .before .before .before .before .before .before .before .before .before .before .before .before .before .before .before .before .before .before .before .before .before .pre) .1) x k ((c .before .before .before .before .before .before .before .before .before .before .before .before .if1) .left) fits ((c .before .before .before .n) .given .0 .0) L)
 
 -- src/lib.rt:150:1
@@ -226,7 +226,7 @@ returns-4 c =
     let D : Draws (a .s .now) (a .b .now) w₁ w₂ (write (take n (drop f (a .texts .now))) (abs (a .s .now) (a .b .now) w₁)) =
     subst (λ (v : RenderContext). Draws (a .s .now) (a .b .now) (over v w) w₂ (write (take n (drop f (a .texts .now))) (abs (a .s .now) (a .b .now) (over v w)))) q
     ((c .before .before .before .before .before .before .partial-block-text) .ensures .1 (a .s .now) (a .b .now) (a .indent .now) (a .ent .now) (subst (λ (v : RenderContext). Ready (a .s .now) (a .b .now) (over v w)) (sym q) (marks-ready (a .s .now) (a .b .now) (a .options) w (a .d) (a .p) (a .own) (a .at) (a .before) ((c .before .before .before .before .before .before .before .before .before .before .before .before .before .before .before .before .before .before .before .before .before .before .before .before .before .before .before .before .before .before .before .before .pre) .1) x k ((c .before .before .before .before .before .before .before .before .before .before .before .before .before .before .before .before .before .before .before .if1) .left)))) in
-    subst (λ (y : Begun). PartialBegun (a .s .now) (a .b .now) (a .options) w (over (y .rc) w₂) (a .d) (partial-rule (a .b .now) (a .d) (a .p) (a .own) (a .at) (a .before)) (a .at) (y .next)) (sym ((c .done4) .ensures ∙ ap done ((c .before .finish) .ensures)))
+    subst (λ (y : Begun). PartialBegun (a .s .now) (a .b .now) (a .options) w (over (y .rc) w₂) (a .d) (partial-rule (a .b .now) (a .d) (a .p) (a .own) (a .at) (a .before)) (a .own) (a .at) (y .next)) (sym ((c .done4) .ensures ∙ ap done ((c .before .finish) .ensures)))
     (begun-text (a .s .now) (a .b .now) (a .options) w (a .d) (a .p) (a .own) (a .at) (a .before) ((c .before .before .before .before .before .before .before .before .before .before .before .before .before .before .before .before .before .before .before .before .before .before .before .before .before .before .before .before .before .before .before .before .pre) .1) x k ((c .before .before .before .before .before .before .before .before .before .before .before .before .before .before .before .before .before .before .before .if1) .left) fits f n L w₂ D)
 
 -- src/lib.rt:150:1
@@ -244,7 +244,7 @@ returns-5 c =
     let q : (c .before .before .before .before .before .before .begin-aware) .result ≡ marked (a .rc) (before-partial (a .rc .writer) (a .at) (a .before)) = (c .before .before .before .before .before .before .begin-aware) .ensures ∙ ap (marked (a .rc)) ((c .before .before .before .before .before .before .before .before-partial) .ensures) in
     let w₁ : World = over (marked (a .rc) (before-partial (a .rc .writer) (a .at) (a .before))) w in
     let L = subst (Leads (a .s .now) (a .b .now) (a .options) w₁ (a .d) (a .p) x (a .own) (a .at)) ((c .before .before .t) .given .1) (subst (λ (v : RenderContext). Decided (a .s .now) (a .b .now) (a .ent .now) v (a .d) (x .name) (a .own) ((c .before .before .before .before .expand-partial) .result)) q ((c .before .before .before .before .expand-partial) .ensures) .at (a .page .now) (a .texts .now) (a .indent .now) (a .options) (a .p) x (a .at) refl (marks-ready (a .s .now) (a .b .now) (a .options) w (a .d) (a .p) (a .own) (a .at) (a .before) ((c .before .before .before .before .before .before .before .before .before .before .before .before .before .before .before .before .before .before .before .before .before .before .before .before .pre) .1) x k ((c .before .before .before .before .before .before .before .before .before .before .before .if1) .left))) in
-    subst (λ (v : RenderContext). PartialBegun (a .s .now) (a .b .now) (a .options) w (over v w) (a .d) (partial-rule (a .b .now) (a .d) (a .p) (a .own) (a .at) (a .before)) (a .at) (Fallback ((c .before .before .t) .given .0 .0))) (sym ((c .set-current-template-name) .ensures ∙ ap (λ (v : RenderContext). with-template v 0) q))
+    subst (λ (v : RenderContext). PartialBegun (a .s .now) (a .b .now) (a .options) w (over v w) (a .d) (partial-rule (a .b .now) (a .d) (a .p) (a .own) (a .at) (a .before)) (a .own) (a .at) (Fallback ((c .before .before .t) .given .0 .0))) (sym ((c .set-current-template-name) .ensures ∙ ap (λ (v : RenderContext). with-template v 0) q))
     (begun-fallback (a .s .now) (a .b .now) (a .options) w (a .d) (a .p) (a .own) (a .at) (a .before) ((c .before .before .before .before .before .before .before .before .before .before .before .before .before .before .before .before .before .before .before .before .before .before .before .before .pre) .1) x k ((c .before .before .before .before .before .before .before .before .before .before .before .if1) .left) fits ((c .before .before .t) .given .0 .0) L)
 
 -- src/lib.rt:150:1

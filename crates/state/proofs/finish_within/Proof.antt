@@ -1,30 +1,30 @@
-use Rattle.state.specs.Setters.{settled}
+use borrow.Author.Tests.{eq-eqb, ne-eqb}
+use Rattle.state.specs.Setters as set
+use Rattle.output.specs.declared.Writer.{Writer}
 use Rattle.state.specs.declared.RenderContext.{RenderContext}
 use mathlib.Core.Path.{_∙_, ap}
-use borrow.Author.Tests.{eq-eqb, ne-eqb}
 use borrow.Author.Needs.{needs}
 use Rattle.state.proofs.finish_within.Statement.{statement}
 use Rattle.state.proofs.finish_within.Tie as tie
 use Rattle.state.proofs.finish_within.Reads as reads
 use Rattle.state.proofs.finish_within.Lts as lts
-use Rattle.state.proofs.pop_block.Reads as pop-block-reads
-use Rattle.state.proofs.settle.Reads as settle-reads
+use Rattle.state.proofs.settle_marks.Reads as settle-marks-reads
 
--- src/lib.rt:223:9
+-- src/lib.rt:237:18
+sub-q : tie.Need-sub-q
+sub-q c = (c .before .before .before .pre) ((c .before .if1) .taken)
+
+-- src/lib.rt:239:9
+settle-marks-requires : tie.Need-settle-marks-requires
+settle-marks-requires c κs = search needs
+
+-- src/lib.rt:231:1
 returns : tie.Need-returns
-returns c = rw (ne-eqb ((c .before .before .args) .rc .bad) 0 ((c .if1) .taken))
+returns c = ap (λ (w : Writer). set.with-writer (set.closed ((c .before .before .before .before .args) .rc) ((c .before .before .before .before .args) .total)) w) (c .settle-marks .ensures) ∙ rw (eq-eqb ((c .before .before .before .before .args) .rc .bad) 0 ((c .before .before .if1) .taken))
 
--- src/lib.rt:225:12
-pop-block-requires : tie.Need-pop-block-requires
-pop-block-requires c κs = (c .before .before .pre) ((c .if1) .left)
-
--- src/lib.rt:225:5
-settle-requires : tie.Need-settle-requires
-settle-requires c κs = search needs
-
--- src/lib.rt:218:1
+-- src/lib.rt:231:1
 returns-2 : tie.Need-returns-2
-returns-2 c = (c .settle) .ensures ∙ ap (λ (x : RenderContext). settled x ((c .before .before .before .before .args) .before)) ((c .before .pop-block) .ensures) ∙ rw (eq-eqb ((c .before .before .before .before .args) .rc .bad) 0 ((c .before .before .if1) .left))
+returns-2 c = rw (ne-eqb ((c .before .before .args) .rc .bad) 0 ((c .if1) .left))
 
 pub finish-within-spec : {M : Type 1} → statement M
-finish-within-spec = tie.close (tie.spec returns pop-block-requires settle-requires returns-2)
+finish-within-spec = tie.close (tie.spec sub-q settle-marks-requires returns returns-2)

@@ -1,43 +1,21 @@
-use mathlib.Core.Path.{_∙_}
+use Rattle.state.specs.Setters as set
+use Rattle.output.specs.declared.Writer.{Writer}
+use Rattle.state.specs.declared.RenderContext.{RenderContext}
+use mathlib.Core.Path.{_∙_, ap}
 use borrow.Author.Needs.{needs}
 use Rattle.state.proofs.settle.Statement.{statement}
 use Rattle.state.proofs.settle.Tie as tie
 use Rattle.state.proofs.settle.Reads as reads
 use Rattle.state.proofs.settle.Lts as lts
-use Rattle.state.proofs.set_writer.Reads as set-writer-reads
-use Rattle.state.proofs.with_marks.Reads as with-marks-reads
+use Rattle.state.proofs.settle_marks.Reads as settle-marks-reads
 
--- src/lib.rt:150:31
-with-marks-requires : tie.Need-with-marks-requires
-with-marks-requires c κs = search needs
+-- src/lib.rt:166:5
+settle-marks-requires : tie.Need-settle-marks-requires
+settle-marks-requires c κs = search needs
 
--- src/lib.rt:150:9
-set-writer-requires : tie.Need-set-writer-requires
-set-writer-requires c κs = search needs
-
--- src/lib.rt:150:9
+-- src/lib.rt:162:1
 returns : tie.Need-returns
-returns c = c .set-writer .ensures ∙ rw (c .before .with-marks .ensures, c .before .before .if1 .taken)
-
--- src/lib.rt:154:9
-with-marks-requires-2 : tie.Need-with-marks-requires-2
-with-marks-requires-2 c κs = search needs
-
--- src/lib.rt:152:5
-set-writer-requires-2 : tie.Need-set-writer-requires-2
-set-writer-requires-2 c κs = search needs
-
--- src/lib.rt:145:1
-returns-2 : tie.Need-returns-2
-returns-2 c = c .set-writer2 .ensures ∙ rw (c .before .with-marks2 .ensures, c .before .before .if1 .left)
+returns c = ap (λ (w : Writer). set.with-writer ((c .before .args) .rc) w) (c .settle-marks .ensures)
 
 pub settle-spec : {M : Type 1} → statement M
-settle-spec =
-    tie.close
-    (tie.spec
-    with-marks-requires
-    set-writer-requires
-    returns
-    with-marks-requires-2
-    set-writer-requires-2
-    returns-2)
+settle-spec = tie.close (tie.spec settle-marks-requires returns)

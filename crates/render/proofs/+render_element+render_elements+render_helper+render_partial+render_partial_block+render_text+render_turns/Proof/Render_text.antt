@@ -2,7 +2,7 @@
 use borrow.Author.Needs.{needs}
 use Rattle.render.proofs.render_text.Reads as render-text
 use Rattle.render.proofs.render_text.Kinds as render-text-kinds
-use Rattle.render.proofs.+render_element+render_elements+render_helper+render_partial+render_text+render_turns.Lts-render_text as render-text-lts
+use Rattle.render.proofs.+render_element+render_elements+render_helper+render_partial+render_partial_block+render_text+render_turns.Lts-render_text as render-text-lts
 use native.Mathlib.Omega.{arith}
 use Prim.Native.Nat.{ℕ, _+_, _-_, _*_, _≤_, _<_}
 use mathlib.Core.Path.{_≡_, refl, sym, ap, _∙_, subst}
@@ -22,7 +22,7 @@ use Rattle.rules.specs.Partial.{Rendering}
 use mathlib.Core.List.{List}
 use Rattle.render.specs.Texts.{TextDrawn}
 use Rattle.render.specs.Laws.{text-goes}
-use Rattle.render.proofs.+render_element+render_elements+render_helper+render_partial+render_text+render_turns.Proof.Common.{render-text-at, render-text-claims}
+use Rattle.render.proofs.+render_element+render_elements+render_helper+render_partial+render_partial_block+render_text+render_turns.Proof.Common.{render-text-at, render-text-claims}
 
 pub render-text-render-elements-requires : (t : ℕ) → render-text-lts.Need-render-elements-requires (render-text-claims t) (render-text-at t) render-text.Post
 render-text-render-elements-requires t c κs =

@@ -2,7 +2,7 @@
 use borrow.Author.Needs.{needs}
 use Rattle.render.proofs.render_elements.Reads as render-elements
 use Rattle.render.proofs.render_elements.Kinds as render-elements-kinds
-use Rattle.render.proofs.+render_element+render_elements+render_helper+render_partial+render_text+render_turns.Lts-render_elements as render-elements-lts
+use Rattle.render.proofs.+render_element+render_elements+render_helper+render_partial+render_partial_block+render_text+render_turns.Lts-render_elements as render-elements-lts
 use native.Mathlib.Omega.{arith}
 use Prim.Native.Nat.{ℕ, _+_, _-_, _*_, _≤_, _<_}
 use mathlib.Core.Path.{_≡_, refl, sym, ap, _∙_, subst}
@@ -21,7 +21,7 @@ use Rattle.drawing.specs.Loop.{Drawing, drawing-start, drawing-end, drawing-sto
 use Rattle.rules.specs.BundleLaws.{bits-size, bits-binary}
 use Rattle.rules.specs.LayoutLaws.{field-lt}
 use Rattle.rules.specs.Render as rule
-use Rattle.render.proofs.+render_element+render_elements+render_helper+render_partial+render_text+render_turns.Proof.Common.{render-elements-at, render-elements-claims}
+use Rattle.render.proofs.+render_element+render_elements+render_helper+render_partial+render_partial_block+render_text+render_turns.Proof.Common.{render-elements-at, render-elements-claims}
 
 abbrev pub render-elements-Inv-loop : render-elements-lts.InvT-loop
 render-elements-Inv-loop s tab b index ent₀ page₀ texts₀ indent₀ options p d name count q₀ cur₀ i₀ ent page texts indent q cur i = Drawing s b options (name-at b name) (template-at 16 d (bits b) p) (d - 1) count (end (body 16 d) (bits b) p) (world q₀ page₀ texts₀ indent₀ ent₀) (world q page texts indent ent) i cur

@@ -2,7 +2,7 @@
 use borrow.Author.Needs.{needs}
 use Rattle.render.proofs.render_turns.Reads as render-turns
 use Rattle.render.proofs.render_turns.Kinds as render-turns-kinds
-use Rattle.render.proofs.+render_element+render_elements+render_helper+render_partial+render_text+render_turns.Lts-render_turns as render-turns-lts
+use Rattle.render.proofs.+render_element+render_elements+render_helper+render_partial+render_partial_block+render_text+render_turns.Lts-render_turns as render-turns-lts
 use native.Mathlib.Omega.{arith}
 use Prim.Native.Nat.{ℕ, _+_, _-_, _*_, _≤_, _<_}
 use mathlib.Core.Path.{_≡_, refl, sym, ap, _∙_, subst}
@@ -31,7 +31,7 @@ use Rattle.drawing.specs.Renders.{Openable}
 use Rattle.drawing.specs.EachLoop.{each-rule, EachGoing, each-held, each-opens, each-begun, each-ended, each-used, each-sizes, each-item-fits, each-front, each-less, each-turn-ready, each-stopped, each-before, each-again}
 use Rattle.drawing.specs.Renders.{body-rule}
 use Rattle.turns.specs.Turning.{TurnBefore}
-use Rattle.render.proofs.+render_element+render_elements+render_helper+render_partial+render_text+render_turns.Proof.Common.{render-turns-at, render-turns-claims}
+use Rattle.render.proofs.+render_element+render_elements+render_helper+render_partial+render_partial_block+render_text+render_turns.Proof.Common.{render-turns-at, render-turns-claims}
 
 abbrev pub render-turns-Inv-loop : render-turns-lts.InvT-loop
 render-turns-Inv-loop s tab b index ent₀ page₀ texts₀ indent₀ options v at p d rc q₀ turn₀ k₀ ent page texts indent q turn k = (r : Ready s b (world rc page₀ texts₀ indent₀ ent₀)) × (z : Openable s b (world rc page₀ texts₀ indent₀ ent₀) v) × (ok : answer s ≡ 0) × (small : length b ≤ 65536) × (held : Holds block-names (bits b) at) × EachGoing s b options (world rc page₀ texts₀ indent₀ ent₀) d at p v r z ok small held (world q page texts indent ent) k turn

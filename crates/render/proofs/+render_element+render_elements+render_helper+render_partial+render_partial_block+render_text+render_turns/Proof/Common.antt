@@ -3,22 +3,25 @@ use borrow.Fn.Kinds.{In}
 use borrow.Fn.PlainCycle.{Measures, is, falls, and}
 use Rattle.render.proofs.render_element.Reads as render-element
 use Rattle.render.proofs.render_element.Kinds as render-element-kinds
-use Rattle.render.proofs.+render_element+render_elements+render_helper+render_partial+render_text+render_turns.Lts-render_element as render-element-lts
+use Rattle.render.proofs.+render_element+render_elements+render_helper+render_partial+render_partial_block+render_text+render_turns.Lts-render_element as render-element-lts
 use Rattle.render.proofs.render_elements.Reads as render-elements
 use Rattle.render.proofs.render_elements.Kinds as render-elements-kinds
-use Rattle.render.proofs.+render_element+render_elements+render_helper+render_partial+render_text+render_turns.Lts-render_elements as render-elements-lts
+use Rattle.render.proofs.+render_element+render_elements+render_helper+render_partial+render_partial_block+render_text+render_turns.Lts-render_elements as render-elements-lts
 use Rattle.render.proofs.render_helper.Reads as render-helper
 use Rattle.render.proofs.render_helper.Kinds as render-helper-kinds
-use Rattle.render.proofs.+render_element+render_elements+render_helper+render_partial+render_text+render_turns.Lts-render_helper as render-helper-lts
+use Rattle.render.proofs.+render_element+render_elements+render_helper+render_partial+render_partial_block+render_text+render_turns.Lts-render_helper as render-helper-lts
 use Rattle.render.proofs.render_partial.Reads as render-partial
 use Rattle.render.proofs.render_partial.Kinds as render-partial-kinds
-use Rattle.render.proofs.+render_element+render_elements+render_helper+render_partial+render_text+render_turns.Lts-render_partial as render-partial-lts
+use Rattle.render.proofs.+render_element+render_elements+render_helper+render_partial+render_partial_block+render_text+render_turns.Lts-render_partial as render-partial-lts
+use Rattle.render.proofs.render_partial_block.Reads as render-partial-block
+use Rattle.render.proofs.render_partial_block.Kinds as render-partial-block-kinds
+use Rattle.render.proofs.+render_element+render_elements+render_helper+render_partial+render_partial_block+render_text+render_turns.Lts-render_partial_block as render-partial-block-lts
 use Rattle.render.proofs.render_text.Reads as render-text
 use Rattle.render.proofs.render_text.Kinds as render-text-kinds
-use Rattle.render.proofs.+render_element+render_elements+render_helper+render_partial+render_text+render_turns.Lts-render_text as render-text-lts
+use Rattle.render.proofs.+render_element+render_elements+render_helper+render_partial+render_partial_block+render_text+render_turns.Lts-render_text as render-text-lts
 use Rattle.render.proofs.render_turns.Reads as render-turns
 use Rattle.render.proofs.render_turns.Kinds as render-turns-kinds
-use Rattle.render.proofs.+render_element+render_elements+render_helper+render_partial+render_text+render_turns.Lts-render_turns as render-turns-lts
+use Rattle.render.proofs.+render_element+render_elements+render_helper+render_partial+render_partial_block+render_text+render_turns.Lts-render_turns as render-turns-lts
 use Rattle.beginning.proofs.begin.Reads as begin-reads
 use Rattle.beginning.proofs.end_text.Reads as end-text-reads
 use Rattle.blocks.proofs.begin_turn.Reads as begin-turn-reads
@@ -50,7 +53,10 @@ abbrev pub μ-render-helper : Measures 8 render-helper-kinds.ps ℕ
 μ-render-helper κs a = ((32 - a .1 .1 .1 .1 .1 .1 .1 .1 .1 .1 .1 .1 .1 .1 .1 .0 .used) * 17 + a .1 .1 .1 .1 .1 .1 .1 .1 .1 .1 .1 .1 .1 .1 .0) * 4 + 2
 
 abbrev pub μ-render-partial : Measures 8 render-partial-kinds.ps ℕ
-μ-render-partial κs a = ((32 - a .1 .1 .1 .1 .1 .1 .1 .1 .1 .1 .1 .1 .1 .1 .0 .used) * 17 + a .1 .1 .1 .1 .1 .1 .1 .1 .1 .1 .1 .1 .1 .0) * 4 + 2
+μ-render-partial κs a = ((32 - a .1 .1 .1 .1 .1 .1 .1 .1 .1 .1 .1 .1 .1 .0 .used) * 17 + a .1 .1 .1 .1 .1 .1 .1 .1 .1 .1 .1 .1 .0) * 4 + 2
+
+abbrev pub μ-render-partial-block : Measures 8 render-partial-block-kinds.ps ℕ
+μ-render-partial-block κs a = ((32 - a .1 .1 .1 .1 .1 .1 .1 .1 .1 .1 .1 .1 .1 .1 .0 .used) * 17 + a .1 .1 .1 .1 .1 .1 .1 .1 .1 .1 .1 .1 .1 .0) * 4 + 2
 
 abbrev pub μ-render-text : Measures 8 render-text-kinds.ps ℕ
 μ-render-text κs a = ((32 - a .1 .1 .1 .1 .1 .1 .1 .1 .1 .1 .1 .1 .1 .1 .1 .0 .used) * 17 + 16) * 4 + 1
@@ -118,6 +124,22 @@ render-partial-below t =
     (falls 8 render-partial-kinds.ps _<_ μ-render-partial t)
     render-partial.Pre
 
+abbrev pub render-partial-block-at : ℕ → In 8 render-partial-block-kinds.ps
+render-partial-block-at t =
+    and
+    8
+    render-partial-block-kinds.ps
+    (is 8 render-partial-block-kinds.ps μ-render-partial-block t)
+    render-partial-block.Pre
+
+abbrev pub render-partial-block-below : ℕ → In 8 render-partial-block-kinds.ps
+render-partial-block-below t =
+    and
+    8
+    render-partial-block-kinds.ps
+    (falls 8 render-partial-block-kinds.ps _<_ μ-render-partial-block t)
+    render-partial-block.Pre
+
 abbrev pub render-text-at : ℕ → In 8 render-text-kinds.ps
 render-text-at t =
     and 8 render-text-kinds.ps (is 8 render-text-kinds.ps μ-render-text t) render-text.Pre
@@ -139,7 +161,7 @@ render-turns-below t =
     render-turns.Pre
 
 abbrev pub render-element-claims : ℕ → render-element-lts.Claims
-render-element-claims t = (raw-string-reads.Asked, raw-string-reads.Learnt, render-html-expression-reads.Asked, render-html-expression-reads.Learnt, render-expression-reads.Asked, render-expression-reads.Learnt, render-helper-below t, render-helper.Post, eval-decorator-reads.Asked, eval-decorator-reads.Learnt, render-partial-below t, render-partial.Post)
+render-element-claims t = (raw-string-reads.Asked, raw-string-reads.Learnt, render-html-expression-reads.Asked, render-html-expression-reads.Learnt, render-expression-reads.Asked, render-expression-reads.Learnt, render-helper-below t, render-helper.Post, eval-decorator-reads.Asked, eval-decorator-reads.Learnt, render-partial-block-below t, render-partial-block.Post, render-partial-below t, render-partial.Post)
 
 abbrev pub render-elements-claims : ℕ → render-elements-lts.Claims
 render-elements-claims t = (body-at-reads.Asked, body-at-reads.Learnt, element-at-reads.Asked, element-at-reads.Learnt, render-element-below t, render-element.Post, located-reads.Asked, located-reads.Learnt)
@@ -148,7 +170,10 @@ abbrev pub render-helper-claims : ℕ → render-helper-lts.Claims
 render-helper-claims t = (begin-reads′.Asked, begin-reads′.Learnt, render-elements-below t, render-elements.Post, finish-reads.Asked, finish-reads.Learnt, finish-within-reads.Asked, finish-within-reads.Learnt, render-turns-below t, render-turns.Post)
 
 abbrev pub render-partial-claims : ℕ → render-partial-lts.Claims
-render-partial-claims t = (begin-reads.Asked, begin-reads.Learnt, render-elements-below t, render-elements.Post, finish-named-reads.Asked, finish-named-reads.Learnt, finish-partial-reads.Asked, finish-partial-reads.Learnt, render-text-below t, render-text.Post)
+render-partial-claims t = (begin-reads.Asked, begin-reads.Learnt, render-elements-below t, render-elements.Post, finish-partial-reads.Asked, finish-partial-reads.Learnt)
+
+abbrev pub render-partial-block-claims : ℕ → render-partial-block-lts.Claims
+render-partial-block-claims t = (begin-reads.Asked, begin-reads.Learnt, render-elements-below t, render-elements.Post, finish-named-reads.Asked, finish-named-reads.Learnt, finish-partial-reads.Asked, finish-partial-reads.Learnt, render-text-below t, render-text.Post)
 
 abbrev pub render-text-claims : ℕ → render-text-lts.Claims
 render-text-claims t = (render-elements-below t, render-elements.Post, end-text-reads.Asked, end-text-reads.Learnt, finish-partial-reads.Asked, finish-partial-reads.Learnt)

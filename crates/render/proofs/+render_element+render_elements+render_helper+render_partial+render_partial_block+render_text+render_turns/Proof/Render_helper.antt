@@ -2,7 +2,7 @@
 use borrow.Author.Needs.{needs}
 use Rattle.render.proofs.render_helper.Reads as render-helper
 use Rattle.render.proofs.render_helper.Kinds as render-helper-kinds
-use Rattle.render.proofs.+render_element+render_elements+render_helper+render_partial+render_text+render_turns.Lts-render_helper as render-helper-lts
+use Rattle.render.proofs.+render_element+render_elements+render_helper+render_partial+render_partial_block+render_text+render_turns.Lts-render_helper as render-helper-lts
 use native.Mathlib.Omega.{arith}
 use Prim.Native.Nat.{ℕ, _+_, _-_, _*_, _≤_, _<_}
 use mathlib.Core.Path.{_≡_, refl, sym, ap, _∙_, subst}
@@ -17,10 +17,10 @@ use Rattle.drawing.specs.EachLoop.{each-rule}
 use Rattle.helping.specs.Decided.{helper-rule}
 use Rattle.parts.specs.Says.{names-at}
 use Rattle.state.specs.Setters.{finished, finished-within}
-use Rattle.render.proofs.+render_element+render_elements+render_helper+render_partial+render_text+render_turns.Proof.Common.{render-helper-at, render-helper-claims}
+use Rattle.render.proofs.+render_element+render_elements+render_helper+render_partial+render_partial_block+render_text+render_turns.Proof.Common.{render-helper-at, render-helper-claims}
 
 pub render-helper-begin-requires : (t : ℕ) → render-helper-lts.Need-begin-requires (render-helper-claims t) (render-helper-at t) render-helper.Post
-render-helper-begin-requires t c κs = let h = (c .before .before .before .before .before .before .before .before .before .before .before .before .pre) .1 in (h .0 .plan, h .0 .small, h .1, h .3, h .4, h .5, h .6)
+render-helper-begin-requires t c κs = let h = (c .before .before .before .before .before .before .before .before .before .before .before .before .before .pre) .1 in (h .0 .plan, h .0 .small, h .1, h .3, h .4, h .5, h .6)
 
 pub render-helper-enum-told : (t : ℕ) → render-helper-lts.Need-enum-told (render-helper-claims t) (render-helper-at t) render-helper.Post
 render-helper-enum-told t c = search needs
@@ -30,14 +30,14 @@ render-helper-enum-known-next t c = search needs
 
 pub render-helper-render-elements-requires : (t : ℕ) → render-helper-lts.Need-render-elements-requires (render-helper-claims t) (render-helper-at t) render-helper.Post
 render-helper-render-elements-requires t c κs =
-    let a = (c .before .before .before .before .before .before .before .before .before .before .before .before .before .before .before .before .before .before .before .before .before .before .before .before .before .args) in
-    let h = (c .before .before .before .before .before .before .before .before .before .before .before .before .before .before .before .before .before .before .before .before .before .before .before .before .before .pre) .1 in
+    let a = (c .before .before .before .before .before .before .before .before .before .before .before .before .before .before .before .before .before .before .before .before .before .before .before .before .before .before .args) in
+    let h = (c .before .before .before .before .before .before .before .before .before .before .before .before .before .before .before .before .before .before .before .before .before .before .before .before .before .before .pre) .1 in
     let w : World = world (a .rc) (a .page .now) (a .texts .now) (a .indent .now) (a .ent .now) in
     let w₁ : World = world ((c .before .before .before .before .before .before .before .before .before .before .before .before .begin) .result .rc) ((c .before .before .before .before .before .before .before .before .before .before .before .before .begin) .last .1 .1 .1 .1 .0) ((c .before .before .before .before .before .before .before .before .before .before .before .before .begin) .last .1 .1 .1 .1 .1 .0) (a .indent .now) (a .ent .now) in
     let B = subst (HelperBegun (a .s .now) (a .b .now) (a .options) w w₁ (a .d) (a .p) (a .at) (a .template) (a .inverse) (a .before)) ((c .before .before .before .before .before .next) .given .1) ((c .before .before .before .before .before .before .before .before .before .before .before .before .begin) .ensures) in
     let y = B .1 .deeper in
     let m = B .1 .ready .most in
-    (omega (arith, y, m, (c .before .before .before .before .before .before .before .before .before .before .before .before .before .before .before .before .before .before .before .before .before .before .before .before .before .pre) .0), (h .0, B .1 .ready, omega (arith, h .2), B .0, λ z. absurd (z refl)))
+    (omega (arith, y, m, (c .before .before .before .before .before .before .before .before .before .before .before .before .before .before .before .before .before .before .before .before .before .before .before .before .before .before .pre) .0), (h .0, B .1 .ready, omega (arith, h .2), B .0, λ z. absurd (z refl)))
 
 pub render-helper-finish-requires : (t : ℕ) → render-helper-lts.Need-finish-requires (render-helper-claims t) (render-helper-at t) render-helper.Post
 render-helper-finish-requires t c κs = search needs
@@ -47,19 +47,19 @@ render-helper-enum-known-next-2 t c = search needs
 
 pub render-helper-render-elements-requires-2 : (t : ℕ) → render-helper-lts.Need-render-elements-requires-2 (render-helper-claims t) (render-helper-at t) render-helper.Post
 render-helper-render-elements-requires-2 t c κs =
-    let a = (c .before .before .before .before .before .before .before .before .before .before .before .before .before .before .before .before .before .before .before .before .before .before .before .before .before .args) in
-    let h = (c .before .before .before .before .before .before .before .before .before .before .before .before .before .before .before .before .before .before .before .before .before .before .before .before .before .pre) .1 in
+    let a = (c .before .before .before .before .before .before .before .before .before .before .before .before .before .before .before .before .before .before .before .before .before .before .before .before .before .before .args) in
+    let h = (c .before .before .before .before .before .before .before .before .before .before .before .before .before .before .before .before .before .before .before .before .before .before .before .before .before .before .pre) .1 in
     let w : World = world (a .rc) (a .page .now) (a .texts .now) (a .indent .now) (a .ent .now) in
     let w₁ : World = world ((c .before .before .before .before .before .before .before .before .before .before .before .before .begin) .result .rc) ((c .before .before .before .before .before .before .before .before .before .before .before .before .begin) .last .1 .1 .1 .1 .0) ((c .before .before .before .before .before .before .before .before .before .before .before .before .begin) .last .1 .1 .1 .1 .1 .0) (a .indent .now) (a .ent .now) in
     let B = subst (HelperBegun (a .s .now) (a .b .now) (a .options) w w₁ (a .d) (a .p) (a .at) (a .template) (a .inverse) (a .before)) ((c .before .before .before .before .before .next2) .given .1) ((c .before .before .before .before .before .before .before .before .before .before .before .before .begin) .ensures) in
     let y = B .1 .deeper in
     let m = B .1 .ready .most in
-    (omega (arith, y, m, (c .before .before .before .before .before .before .before .before .before .before .before .before .before .before .before .before .before .before .before .before .before .before .before .before .before .pre) .0), (h .0, B .1 .ready, omega (arith, h .2), B .0, λ z. absurd (z refl)))
+    (omega (arith, y, m, (c .before .before .before .before .before .before .before .before .before .before .before .before .before .before .before .before .before .before .before .before .before .before .before .before .before .before .pre) .0), (h .0, B .1 .ready, omega (arith, h .2), B .0, λ z. absurd (z refl)))
 
 pub render-helper-finish-within-requires : (t : ℕ) → render-helper-lts.Need-finish-within-requires (render-helper-claims t) (render-helper-at t) render-helper.Post
 render-helper-finish-within-requires t c κs =
-    let a = (c .before .before .before .before .before .before .before .before .before .before .before .before .before .before .before .before .before .before .before .before .before .before .before .before .before .before .before .before .before .before .before .before .before .before .args) in
-    let h = (c .before .before .before .before .before .before .before .before .before .before .before .before .before .before .before .before .before .before .before .before .before .before .before .before .before .before .before .before .before .before .before .before .before .before .pre) .1 in
+    let a = (c .before .before .before .before .before .before .before .before .before .before .before .before .before .before .before .before .before .before .before .before .before .before .before .before .before .before .before .before .before .before .before .before .before .before .before .args) in
+    let h = (c .before .before .before .before .before .before .before .before .before .before .before .before .before .before .before .before .before .before .before .before .before .before .before .before .before .before .before .before .before .before .before .before .before .before .before .pre) .1 in
     let w : World = world (a .rc) (a .page .now) (a .texts .now) (a .indent .now) (a .ent .now) in
     let w₁ : World = world ((c .before .before .before .before .before .before .before .before .before .before .before .before .before .before .before .before .before .before .before .before .before .begin) .result .rc) ((c .before .before .before .before .before .before .before .before .before .before .before .before .before .before .before .before .before .before .before .before .before .begin) .last .1 .1 .1 .1 .0) ((c .before .before .before .before .before .before .before .before .before .before .before .before .before .before .before .before .before .before .before .before .before .begin) .last .1 .1 .1 .1 .1 .0) (a .indent .now) (a .ent .now) in
     let B = subst (HelperBegun (a .s .now) (a .b .now) (a .options) w w₁ (a .d) (a .p) (a .at) (a .template) (a .inverse) (a .before)) ((c .before .before .before .before .before .before .before .before .before .before .before .before .before .before .next2) .given .1) ((c .before .before .before .before .before .before .before .before .before .before .before .before .before .before .before .before .before .before .before .before .before .begin) .ensures) in
@@ -71,14 +71,14 @@ render-helper-enum-known-next-3 t c = search needs
 
 pub render-helper-render-turns-requires : (t : ℕ) → render-helper-lts.Need-render-turns-requires (render-helper-claims t) (render-helper-at t) render-helper.Post
 render-helper-render-turns-requires t c κs =
-    let a = (c .before .before .before .before .before .before .before .before .before .before .before .before .before .before .before .before .before .before .before .before .before .before .before .before .before .args) in
-    let h = (c .before .before .before .before .before .before .before .before .before .before .before .before .before .before .before .before .before .before .before .before .before .before .before .before .before .pre) .1 in
+    let a = (c .before .before .before .before .before .before .before .before .before .before .before .before .before .before .before .before .before .before .before .before .before .before .before .before .before .before .args) in
+    let h = (c .before .before .before .before .before .before .before .before .before .before .before .before .before .before .before .before .before .before .before .before .before .before .before .before .before .before .pre) .1 in
     let w : World = world (a .rc) (a .page .now) (a .texts .now) (a .indent .now) (a .ent .now) in
     let w₁ : World = world ((c .before .before .before .before .before .before .before .before .before .before .before .before .begin) .result .rc) ((c .before .before .before .before .before .before .before .before .before .before .before .before .begin) .last .1 .1 .1 .1 .0) ((c .before .before .before .before .before .before .before .before .before .before .before .before .begin) .last .1 .1 .1 .1 .1 .0) (a .indent .now) (a .ent .now) in
     let B = subst (HelperBegun (a .s .now) (a .b .now) (a .options) w w₁ (a .d) (a .p) (a .at) (a .template) (a .inverse) (a .before)) ((c .before .before .before .before .before .next3) .given .1) ((c .before .before .before .before .before .before .before .before .before .before .before .before .begin) .ensures) in
     let y = B .2 .deeper in
     let m = B .2 .ready .most in
-    (omega (arith, y, m, (c .before .before .before .before .before .before .before .before .before .before .before .before .before .before .before .before .before .before .before .before .before .before .before .before .before .pre) .0), (h .0, B .2 .ready, h .2, h .4, B .0, B .1))
+    (omega (arith, y, m, (c .before .before .before .before .before .before .before .before .before .before .before .before .before .before .before .before .before .before .before .before .before .before .before .before .before .before .pre) .0), (h .0, B .2 .ready, h .2, h .4, B .0, B .1))
 
 pub render-helper-finish-requires-2 : (t : ℕ) → render-helper-lts.Need-finish-requires-2 (render-helper-claims t) (render-helper-at t) render-helper.Post
 render-helper-finish-requires-2 t c κs = search needs
@@ -97,8 +97,8 @@ render-helper-same-length-4 t c = search needs
 
 pub render-helper-returns : (t : ℕ) → render-helper-lts.Need-returns (render-helper-claims t) (render-helper-at t) render-helper.Post
 render-helper-returns t c =
-    let a = (c .before .before .before .before .before .before .before .before .before .before .before .before .before .before .before .before .before .before .before .before .args) in
-    let h = (c .before .before .before .before .before .before .before .before .before .before .before .before .before .before .before .before .before .before .before .before .pre) .1 in
+    let a = (c .before .before .before .before .before .before .before .before .before .before .before .before .before .before .before .before .before .before .before .before .before .args) in
+    let h = (c .before .before .before .before .before .before .before .before .before .before .before .before .before .before .before .before .before .before .before .before .before .pre) .1 in
     let w : World = world (a .rc) (a .page .now) (a .texts .now) (a .indent .now) (a .ent .now) in
     let w₁ : World = world ((c .before .before .before .before .before .before .before .begin) .result .rc) ((c .before .before .before .before .before .before .before .begin) .last .1 .1 .1 .1 .0) ((c .before .before .before .before .before .before .before .begin) .last .1 .1 .1 .1 .1 .0) (a .indent .now) (a .ent .now) in
     let B = subst (HelperBegun (a .s .now) (a .b .now) (a .options) w w₁ (a .d) (a .p) (a .at) (a .template) (a .inverse) (a .before)) ((c .enum-told) .given .1) ((c .before .before .before .before .before .before .before .begin) .ensures) in
@@ -118,8 +118,8 @@ render-helper-same-length-8 t c = search needs
 
 pub render-helper-returns-2 : (t : ℕ) → render-helper-lts.Need-returns-2 (render-helper-claims t) (render-helper-at t) render-helper.Post
 render-helper-returns-2 t c =
-    let a = (c .before .before .before .before .before .before .before .before .before .before .before .before .before .before .before .before .before .before .before .before .before .before .before .before .before .before .before .before .before .before .before .before .before .before .before .args) in
-    let h = (c .before .before .before .before .before .before .before .before .before .before .before .before .before .before .before .before .before .before .before .before .before .before .before .before .before .before .before .before .before .before .before .before .before .before .before .pre) .1 in
+    let a = (c .before .before .before .before .before .before .before .before .before .before .before .before .before .before .before .before .before .before .before .before .before .before .before .before .before .before .before .before .before .before .before .before .before .before .before .before .args) in
+    let h = (c .before .before .before .before .before .before .before .before .before .before .before .before .before .before .before .before .before .before .before .before .before .before .before .before .before .before .before .before .before .before .before .before .before .before .before .before .pre) .1 in
     let w : World = world (a .rc) (a .page .now) (a .texts .now) (a .indent .now) (a .ent .now) in
     let w₁ : World = world ((c .before .before .before .before .before .before .before .before .before .before .before .before .before .before .before .before .before .before .before .before .before .before .begin) .result .rc) ((c .before .before .before .before .before .before .before .before .before .before .before .before .before .before .before .before .before .before .before .before .before .before .begin) .last .1 .1 .1 .1 .0) ((c .before .before .before .before .before .before .before .before .before .before .before .before .before .before .before .before .before .before .before .before .before .before .begin) .last .1 .1 .1 .1 .1 .0) (a .indent .now) (a .ent .now) in
     let B = subst (HelperBegun (a .s .now) (a .b .now) (a .options) w w₁ (a .d) (a .p) (a .at) (a .template) (a .inverse) (a .before)) ((c .before .before .before .before .before .before .before .before .before .before .before .before .before .before .before .next) .given .1) ((c .before .before .before .before .before .before .before .before .before .before .before .before .before .before .before .before .before .before .before .before .before .before .begin) .ensures) in
@@ -140,8 +140,8 @@ render-helper-same-length-12 t c = search needs
 
 pub render-helper-returns-3 : (t : ℕ) → render-helper-lts.Need-returns-3 (render-helper-claims t) (render-helper-at t) render-helper.Post
 render-helper-returns-3 t c =
-    let a = (c .before .before .before .before .before .before .before .before .before .before .before .before .before .before .before .before .before .before .before .before .before .before .before .before .before .before .before .before .before .before .before .before .before .before .before .args) in
-    let h = (c .before .before .before .before .before .before .before .before .before .before .before .before .before .before .before .before .before .before .before .before .before .before .before .before .before .before .before .before .before .before .before .before .before .before .before .pre) .1 in
+    let a = (c .before .before .before .before .before .before .before .before .before .before .before .before .before .before .before .before .before .before .before .before .before .before .before .before .before .before .before .before .before .before .before .before .before .before .before .before .args) in
+    let h = (c .before .before .before .before .before .before .before .before .before .before .before .before .before .before .before .before .before .before .before .before .before .before .before .before .before .before .before .before .before .before .before .before .before .before .before .before .pre) .1 in
     let w : World = world (a .rc) (a .page .now) (a .texts .now) (a .indent .now) (a .ent .now) in
     let w₁ : World = world ((c .before .before .before .before .before .before .before .before .before .before .before .before .before .before .before .before .before .before .before .before .before .before .begin) .result .rc) ((c .before .before .before .before .before .before .before .before .before .before .before .before .before .before .before .before .before .before .before .before .before .before .begin) .last .1 .1 .1 .1 .0) ((c .before .before .before .before .before .before .before .before .before .before .before .before .before .before .before .before .before .before .before .before .before .before .begin) .last .1 .1 .1 .1 .1 .0) (a .indent .now) (a .ent .now) in
     let B = subst (HelperBegun (a .s .now) (a .b .now) (a .options) w w₁ (a .d) (a .p) (a .at) (a .template) (a .inverse) (a .before)) ((c .before .before .before .before .before .before .before .before .before .before .before .before .before .before .before .next2) .given .1) ((c .before .before .before .before .before .before .before .before .before .before .before .before .before .before .before .before .before .before .before .before .before .before .begin) .ensures) in
@@ -162,8 +162,8 @@ render-helper-same-length-16 t c = search needs
 
 pub render-helper-returns-4 : (t : ℕ) → render-helper-lts.Need-returns-4 (render-helper-claims t) (render-helper-at t) render-helper.Post
 render-helper-returns-4 t c =
-    let a = (c .before .before .before .before .before .before .before .before .before .before .before .before .before .before .before .before .before .before .before .before .before .before .before .before .before .before .before .before .before .before .before .before .before .before .before .args) in
-    let h = (c .before .before .before .before .before .before .before .before .before .before .before .before .before .before .before .before .before .before .before .before .before .before .before .before .before .before .before .before .before .before .before .before .before .before .before .pre) .1 in
+    let a = (c .before .before .before .before .before .before .before .before .before .before .before .before .before .before .before .before .before .before .before .before .before .before .before .before .before .before .before .before .before .before .before .before .before .before .before .before .args) in
+    let h = (c .before .before .before .before .before .before .before .before .before .before .before .before .before .before .before .before .before .before .before .before .before .before .before .before .before .before .before .before .before .before .before .before .before .before .before .before .pre) .1 in
     let w : World = world (a .rc) (a .page .now) (a .texts .now) (a .indent .now) (a .ent .now) in
     let w₁ : World = world ((c .before .before .before .before .before .before .before .before .before .before .before .before .before .before .before .before .before .before .before .before .before .before .begin) .result .rc) ((c .before .before .before .before .before .before .before .before .before .before .before .before .before .before .before .before .before .before .before .before .before .before .begin) .last .1 .1 .1 .1 .0) ((c .before .before .before .before .before .before .before .before .before .before .before .before .before .before .before .before .before .before .before .before .before .before .begin) .last .1 .1 .1 .1 .1 .0) (a .indent .now) (a .ent .now) in
     let B = subst (HelperBegun (a .s .now) (a .b .now) (a .options) w w₁ (a .d) (a .p) (a .at) (a .template) (a .inverse) (a .before)) ((c .before .before .before .before .before .before .before .before .before .before .before .before .before .before .before .next3) .given .1) ((c .before .before .before .before .before .before .before .before .before .before .before .before .before .before .before .before .before .before .before .before .before .before .begin) .ensures) in

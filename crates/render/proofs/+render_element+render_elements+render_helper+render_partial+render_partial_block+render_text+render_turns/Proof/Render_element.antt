@@ -2,7 +2,7 @@
 use borrow.Author.Needs.{needs}
 use Rattle.render.proofs.render_element.Reads as render-element
 use Rattle.render.proofs.render_element.Kinds as render-element-kinds
-use Rattle.render.proofs.+render_element+render_elements+render_helper+render_partial+render_text+render_turns.Lts-render_element as render-element-lts
+use Rattle.render.proofs.+render_element+render_elements+render_helper+render_partial+render_partial_block+render_text+render_turns.Lts-render_element as render-element-lts
 use native.Mathlib.Omega.{arith}
 use Prim.Native.Nat.{ℕ, _+_, _-_, _*_, _≤_, _<_}
 use mathlib.Core.Path.{_≡_, refl, sym, ap, _∙_, subst}
@@ -17,7 +17,7 @@ use Rattle.parts.specs.declared.Maybe.the-variants.{At, Nothing}
 use Rattle.inlining.specs.Decorated.{SomeReady, Given}
 use Rattle.drawing.specs.Renders.{registry-of}
 use Rattle.drawing.specs.Elements.{element-raw, element-html, element-expression, element-helper, element-decorator, element-decorated, element-partial, element-partial-block, element-comment}
-use Rattle.render.proofs.+render_element+render_elements+render_helper+render_partial+render_text+render_turns.Proof.Common.{render-element-at, render-element-claims}
+use Rattle.render.proofs.+render_element+render_elements+render_helper+render_partial+render_partial_block+render_text+render_turns.Proof.Common.{render-element-at, render-element-claims}
 
 pub render-element-enum-known-e : (t : ℕ) → render-element-lts.Need-enum-known-e (render-element-claims t) (render-element-at t) render-element.Post
 render-element-enum-known-e t c = search needs
@@ -88,24 +88,24 @@ render-element-eval-decorator-requires-2 t c κs =
 pub render-element-enum-known-e-7 : (t : ℕ) → render-element-lts.Need-enum-known-e-7 (render-element-claims t) (render-element-at t) render-element.Post
 render-element-enum-known-e-7 t c = search needs
 
+pub render-element-render-partial-block-requires : (t : ℕ) → render-element-lts.Need-render-partial-block-requires (render-element-claims t) (render-element-at t) render-element.Post
+render-element-render-partial-block-requires t c κs =
+    let a = (c .before .before .before .before .before .before .before .before .before .before .before .before .before .before .before .args) in
+    let h = (c .before .before .before .before .before .before .before .before .before .before .before .before .before .before .before .pre) .1 in
+    let w : World = world (a .rc) (a .page .now) (a .texts .now) (a .indent .now) (a .ent .now) in
+    let k = subst (ElementHolds 16 (a .d) (bits (a .b .now))) ((c .before .before .before .before .before .e7) .given .1) (h .3) in
+    (omega arith, (h .0, h .1, h .2, k .0, k .1, k .2))
+
+pub render-element-enum-known-e-8 : (t : ℕ) → render-element-lts.Need-enum-known-e-8 (render-element-claims t) (render-element-at t) render-element.Post
+render-element-enum-known-e-8 t c = search needs
+
 pub render-element-render-partial-requires : (t : ℕ) → render-element-lts.Need-render-partial-requires (render-element-claims t) (render-element-at t) render-element.Post
 render-element-render-partial-requires t c κs =
     let a = (c .before .before .before .before .before .before .before .before .before .before .before .before .before .before .before .args) in
     let h = (c .before .before .before .before .before .before .before .before .before .before .before .before .before .before .before .pre) .1 in
     let w : World = world (a .rc) (a .page .now) (a .texts .now) (a .indent .now) (a .ent .now) in
-    let k = subst (ElementHolds 16 (a .d) (bits (a .b .now))) ((c .before .before .before .before .before .e7) .given .1) (h .3) in
-    (omega arith, (h .0, h .1, h .2, k .0, tt, k .1))
-
-pub render-element-enum-known-e-8 : (t : ℕ) → render-element-lts.Need-enum-known-e-8 (render-element-claims t) (render-element-at t) render-element.Post
-render-element-enum-known-e-8 t c = search needs
-
-pub render-element-render-partial-requires-2 : (t : ℕ) → render-element-lts.Need-render-partial-requires-2 (render-element-claims t) (render-element-at t) render-element.Post
-render-element-render-partial-requires-2 t c κs =
-    let a = (c .before .before .before .before .before .before .before .before .before .before .before .before .before .before .before .args) in
-    let h = (c .before .before .before .before .before .before .before .before .before .before .before .before .before .before .before .pre) .1 in
-    let w : World = world (a .rc) (a .page .now) (a .texts .now) (a .indent .now) (a .ent .now) in
     let k = subst (ElementHolds 16 (a .d) (bits (a .b .now))) ((c .before .before .before .before .before .e8) .given .1) (h .3) in
-    (omega arith, (h .0, h .1, h .2, k .0, k .1, k .2))
+    (omega arith, (h .0, h .1, h .2, k .0, k .1))
 
 pub render-element-enum-told : (t : ℕ) → render-element-lts.Need-enum-told (render-element-claims t) (render-element-at t) render-element.Post
 render-element-enum-told t c = search needs
@@ -226,8 +226,8 @@ render-element-returns-7 t c =
     let a = (c .before .before .before .before .before .before .before .before .before .before .before .before .before .before .before .before .before .before .before .before .before .before .before .before .args) in
     let h = (c .before .before .before .before .before .before .before .before .before .before .before .before .before .before .before .before .before .before .before .before .before .before .before .before .pre) .1 in
     let w : World = world (a .rc) (a .page .now) (a .texts .now) (a .indent .now) (a .ent .now) in
-    let w₂ : World = world ((c .before .before .before .before .before .before .before .before .render-partial) .result) ((c .before .before .before .before .before .before .before .before .render-partial) .last .1 .1 .1 .1 .1 .0) ((c .before .before .before .before .before .before .before .before .render-partial) .last .1 .1 .1 .1 .1 .1 .0) ((c .before .before .before .before .before .before .before .before .render-partial) .last .1 .1 .1 .1 .1 .1 .1 .0) ((c .before .before .before .before .before .before .before .before .render-partial) .last .1 .1 .1 .1 .0) in
-    element-partial (a .s .now) (a .b .now) (a .options) w w₂ (a .d) (a .e) ((c .before .before .before .before .before .before .before .before .before .before .before .before .before .before .e7) .given .0 .0) ((c .before .before .before .before .before .before .before .before .before .before .before .before .before .before .e7) .given .0 .1 .0) ((c .before .before .before .before .before .before .before .before .before .before .before .before .before .before .e7) .given .0 .1 .1 .0) ((c .before .before .before .before .before .before .before .before .before .before .before .before .before .before .e7) .given .1) (record { at = (c .before .before .before .before .before .before .before .before .render-partial) .ensures .at })
+    let w₂ : World = world ((c .before .before .before .before .before .before .before .before .render-partial-block) .result) ((c .before .before .before .before .before .before .before .before .render-partial-block) .last .1 .1 .1 .1 .1 .0) ((c .before .before .before .before .before .before .before .before .render-partial-block) .last .1 .1 .1 .1 .1 .1 .0) ((c .before .before .before .before .before .before .before .before .render-partial-block) .last .1 .1 .1 .1 .1 .1 .1 .0) ((c .before .before .before .before .before .before .before .before .render-partial-block) .last .1 .1 .1 .1 .0) in
+    element-partial-block (a .s .now) (a .b .now) (a .options) w w₂ (a .d) (a .e) ((c .before .before .before .before .before .before .before .before .before .before .before .before .before .before .e7) .given .0 .0) ((c .before .before .before .before .before .before .before .before .before .before .before .before .before .before .e7) .given .0 .1 .0) ((c .before .before .before .before .before .before .before .before .before .before .before .before .before .before .e7) .given .0 .1 .1 .0) ((c .before .before .before .before .before .before .before .before .before .before .before .before .before .before .e7) .given .0 .1 .1 .1 .0) ((c .before .before .before .before .before .before .before .before .before .before .before .before .before .before .e7) .given .1) (record { at = (c .before .before .before .before .before .before .before .before .render-partial-block) .ensures .at })
 
 pub render-element-same-length-22 : (t : ℕ) → render-element-lts.Need-same-length-22 (render-element-claims t) (render-element-at t) render-element.Post
 render-element-same-length-22 t c = search needs
@@ -246,8 +246,8 @@ render-element-returns-8 t c =
     let a = (c .before .before .before .before .before .before .before .before .before .before .before .before .before .before .before .before .before .before .before .before .before .before .before .before .args) in
     let h = (c .before .before .before .before .before .before .before .before .before .before .before .before .before .before .before .before .before .before .before .before .before .before .before .before .pre) .1 in
     let w : World = world (a .rc) (a .page .now) (a .texts .now) (a .indent .now) (a .ent .now) in
-    let w₂ : World = world ((c .before .before .before .before .before .before .before .before .render-partial2) .result) ((c .before .before .before .before .before .before .before .before .render-partial2) .last .1 .1 .1 .1 .1 .0) ((c .before .before .before .before .before .before .before .before .render-partial2) .last .1 .1 .1 .1 .1 .1 .0) ((c .before .before .before .before .before .before .before .before .render-partial2) .last .1 .1 .1 .1 .1 .1 .1 .0) ((c .before .before .before .before .before .before .before .before .render-partial2) .last .1 .1 .1 .1 .0) in
-    element-partial-block (a .s .now) (a .b .now) (a .options) w w₂ (a .d) (a .e) ((c .before .before .before .before .before .before .before .before .before .before .before .before .before .before .e8) .given .0 .0) ((c .before .before .before .before .before .before .before .before .before .before .before .before .before .before .e8) .given .0 .1 .0) ((c .before .before .before .before .before .before .before .before .before .before .before .before .before .before .e8) .given .0 .1 .1 .0) ((c .before .before .before .before .before .before .before .before .before .before .before .before .before .before .e8) .given .0 .1 .1 .1 .0) ((c .before .before .before .before .before .before .before .before .before .before .before .before .before .before .e8) .given .1) (record { at = (c .before .before .before .before .before .before .before .before .render-partial2) .ensures .at })
+    let w₂ : World = world ((c .before .before .before .before .before .before .before .before .render-partial) .result) ((c .before .before .before .before .before .before .before .before .render-partial) .last .1 .1 .1 .1 .1 .0) ((c .before .before .before .before .before .before .before .before .render-partial) .last .1 .1 .1 .1 .1 .1 .0) ((c .before .before .before .before .before .before .before .before .render-partial) .last .1 .1 .1 .1 .1 .1 .1 .0) ((c .before .before .before .before .before .before .before .before .render-partial) .last .1 .1 .1 .1 .0) in
+    element-partial (a .s .now) (a .b .now) (a .options) w w₂ (a .d) (a .e) ((c .before .before .before .before .before .before .before .before .before .before .before .before .before .before .e8) .given .0 .0) ((c .before .before .before .before .before .before .before .before .before .before .before .before .before .before .e8) .given .0 .1 .0) ((c .before .before .before .before .before .before .before .before .before .before .before .before .before .before .e8) .given .0 .1 .1 .0) ((c .before .before .before .before .before .before .before .before .before .before .before .before .before .before .e8) .given .1) (record { at = (c .before .before .before .before .before .before .before .before .render-partial) .ensures .at })
 
 pub render-element-returns-9 : (t : ℕ) → render-element-lts.Need-returns-9 (render-element-claims t) (render-element-at t) render-element.Post
 render-element-returns-9 t c =
