@@ -3,7 +3,7 @@ use Prim.Native.Nat.{ℕ, _-_, _/_, _%_, _≤_}
 use mathlib.Core.Bool.{Bool}
 use mathlib.Core.List.{List, [], _∷_, _++_}
 use mathlib.Core.Option.{Option, none}
-use mathlib.Core.Path.{_≡_, refl, sym, ap, ap₂, _∙_}
+use mathlib.Core.Path.{_≡_, refl, sym, ap, ap₂, _∙_, subst}
 use native.Mathlib.Omega.{arith}
 use lib.Dec.{eqb}
 use lib.ListN.{length, take, replicate, length-append, length-replicate}
@@ -13,9 +13,8 @@ use Rattle.rules.specs.Bytes.{Bytes, pick}
 use Rattle.rules.specs.Json.{Json}
 use Rattle.rules.specs.Plan.{plan, answer, meant, text}
 use Rattle.rules.specs.Registry.{paper-limits}
-use Rattle.rules.specs.Call.{Inputs, refused, checked, page-of, long-enough, scratch-lengths, render-bytes}
-use Rattle.clear.specs.Cleared.{cleared, cleared-whole}
-use Rattle.json.specs.Table.{table, filled}
+use Rattle.rules.specs.Call.{Inputs, refused, checked, page-of, render-bytes}
+use Rattle.clear.specs.Cleared.{cleared}
 use Rattle.places.specs.Places.{json-at}
 use Rattle.places.specs.Paths.{plan-at}
 use Rattle.expand.specs.declared.Options.{Options}
@@ -62,13 +61,6 @@ predicted x = settled (x .limits .page) (x .scratch) (render-bytes x)
 
 -- What the functions below promise of all that is lent: page, places, entries, texts, indent
 
-pub record Zero (p : Bytes) (a e : List ℕ) (t i : Bytes) : Type 0 where
-  pub page : p ≡ replicate (length p) 0
-  pub places : a ≡ replicate (length a) 0
-  pub entries : e ≡ replicate (length e) 0
-  pub texts : t ≡ replicate (length t) 0
-  pub indent : i ≡ replicate (length i) 0
-
 -- cleared: the page from the place k on
 pub record Emptied (k : ℕ) (p : Bytes) (a e : List ℕ) (t i p′ : Bytes) (a′ e′ : List ℕ) (t′ i′ : Bytes) : Type 0 where
   pub page : p′ ≡ cleared k p
@@ -77,59 +69,13 @@ pub record Emptied (k : ℕ) (p : Bytes) (a e : List ℕ) (t i p′ : Bytes) (a�
   pub texts : t′ ≡ replicate (length t) 0
   pub indent : i′ ≡ replicate (length i) 0
 
-again-zero : (n : ℕ) (l : List ℕ) → l ≡ replicate n 0 → l ≡ replicate (length l) 0
-again-zero n l e = e ∙ ap (λ (k : ℕ). replicate k 0) (sym (ap length e ∙ length-replicate n 0))
-
 scratch-zero : (a e : ℕ) (t i : ℕ) (a′ e′ : List ℕ) (t′ i′ : Bytes) → a′ ≡ replicate a 0 → e′ ≡ replicate e 0 → t′ ≡ replicate t 0 → i′ ≡ replicate i 0 → _≡_ {A = List (List ℕ)} (a′ ∷ e′ ∷ t′ ∷ i′ ∷ []) (zeros (a ∷ e ∷ t ∷ i ∷ []))
 scratch-zero a e t i a′ e′ t′ i′ x y z w = cc
 
 -- a refusal by one of the first ten checks
-pub refused-left : (b : Bytes) (m k : ℕ) (p : Bytes) (a e t i : ℕ) (a′ e′ : List ℕ) (t′ i′ : Bytes) → p ≡ replicate k 0 → a′ ≡ replicate a 0 → e′ ≡ replicate e 0 → t′ ≡ replicate t 0 → i′ ≡ replicate i 0
-    → left b (refusal m) p (a′ ∷ e′ ∷ t′ ∷ i′ ∷ []) ≡ settled k (a ∷ e ∷ t ∷ i ∷ []) (refused m)
-refused-left b m k p a e t i a′ e′ t′ i′ h x y z w =
-    let n : k - 0 ≡ k = omega arith in
-    ap₂ (λ (p : Bytes) (l : List (List ℕ)). record { answer = refused m; length = 0; page = p; scratch = l }) (h ∙ ap (λ (j : ℕ). replicate j 0) (sym n)) (scratch-zero a e t i a′ e′ t′ i′ x y z w)
-
--- where all was cleared
-module _ (p : Bytes) (a e : List ℕ) (t i p′ : Bytes) (a′ e′ : List ℕ) (t′ i′ : Bytes) (h : Emptied 0 p a e t i p′ a′ e′ t′ i′) where
-  page-zero : p′ ≡ replicate (length p) 0
-  page-zero = h .page ∙ cleared-whole p
-
-  pub emptied-zero : Zero p′ a′ e′ t′ i′
-  emptied-zero = record {
-    page = again-zero (length p) p′ page-zero;
-    places = again-zero (length a) a′ (h .places);
-    entries = again-zero (length e) e′ (h .entries);
-    texts = again-zero (length t) t′ (h .texts);
-    indent = again-zero (length i) i′ (h .indent);
-  }
-
-  pub emptied-refused : (b : Bytes) (m : ℕ) (r : Answer) (o : rules.Answer) → r ≡ refusal m → o ≡ refused m → left b r p′ (a′ ∷ e′ ∷ t′ ∷ i′ ∷ []) ≡ settled (length p) (length a ∷ length e ∷ length t ∷ length i ∷ []) o
-  emptied-refused b m r o x y =
-      ap (λ (r : Answer). left b r p′ (a′ ∷ e′ ∷ t′ ∷ i′ ∷ [])) x
-      ∙ refused-left b m (length p) p′ (length a) (length e) (length t) (length i) a′ e′ t′ i′ page-zero (h .places) (h .entries) (h .texts) (h .indent)
-      ∙ ap (λ (o : rules.Answer). settled (length p) (length a ∷ length e ∷ length t ∷ length i ∷ []) o) (sym y)
-
-  same-length : (n : ℕ) (l : List ℕ) → l ≡ replicate n 0 → length l ≡ n
-  same-length n l e = ap length e ∙ length-replicate n 0
-
-  pub emptied-lengths : _≡_ {A = List ℕ} (length a′ ∷ length e′ ∷ length t′ ∷ length i′ ∷ []) (length a ∷ length e ∷ length t ∷ length i ∷ [])
-  emptied-lengths =
-      let x : length a′ ≡ length a = same-length (length a) a′ (h .places) in
-      let y : length e′ ≡ length e = same-length (length e) e′ (h .entries) in
-      let z : length t′ ≡ length t = same-length (length t) t′ (h .texts) in
-      let w : length i′ ≡ length i = same-length (length i) i′ (h .indent) in
-      cc
-
-  -- check 1 of the cleared buffers is that of the lent ones
-  pub emptied-enough : (y z : Bool) → y ≡ long-enough scratch-lengths (length a′ ∷ length e′ ∷ length t′ ∷ length i′ ∷ []) → y ≡ z → long-enough scratch-lengths (length a ∷ length e ∷ length t ∷ length i ∷ []) ≡ z
-  emptied-enough y z e q = ap (long-enough scratch-lengths) (sym emptied-lengths) ∙ sym e ∙ q
-
-  -- the rest of a call that was handed them
-  pub emptied-settled : (y : Outcome) (f : ℕ → rules.Answer) (o : rules.Answer) → y ≡ settled (length p′) (length a′ ∷ length e′ ∷ length t′ ∷ length i′ ∷ []) (f (length p′)) → o ≡ f (length p) → y ≡ settled (length p) (length a ∷ length e ∷ length t ∷ length i ∷ []) o
-  emptied-settled y f o x q =
-      x ∙ ap₂ (λ (k : ℕ) (c : List ℕ). settled k c (f k)) (same-length (length p) p′ page-zero) emptied-lengths
-      ∙ ap (λ (o : rules.Answer). settled (length p) (length a ∷ length e ∷ length t ∷ length i ∷ []) o) (sym q)
+pub refused-shown : (b p : Bytes) (m : ℕ) (r : Answer) (o : rules.Answer) → r ≡ refusal m → o ≡ refused m → Shown b r p o
+refused-shown b p m r o x y =
+    subst (λ (r : Answer). Shown b r p o) (sym x) (subst (Shown b (refusal m) p) (sym y) (record { number = refl; template = refl; line = refl; column = refl; length = refl; text = refl }))
 
 same-answer : (a : rules.Answer) (n : ℕ) (t : Option Bytes) (l c : ℕ) (x : Bytes) → n ≡ a .number → t ≡ a .template-name → l ≡ a .line → c ≡ a .column → x ≡ a .text
     → _≡_ {A = rules.Answer} (record { number = n; template-name = t; line = l; column = c; text = x }) a
@@ -159,20 +105,15 @@ plan-refused s f h = ap (λ (t : Bool). checked (answer s) (pick t (meant s (tex
 pub plan-passed : (s : Bytes) (f : Json → rules.Answer) → answer s ≡ 0 → checked (answer s) (plan s) f ≡ f (json-at s 0)
 plan-passed s f h = ap (λ (o : Option Json). checked (answer s) o f) (plan-at s h)
 
-pub no-table : (n : ℕ) (s : Bytes) → (answer s ≡ 0 → ⊥) → table n s ≡ replicate n 0
-unfolding table
-no-table n s h = ap (λ (t : Bool). pick t (filled n (text s)) (replicate n 0)) (ne-eqb _ _ h)
-
 -- The answers of the functions
 
 -- the plan is refused
-pub plan-refused-left : (b s p : Bytes) (a e : List ℕ) (t i : Bytes) (a′ : List ℕ) (f : Json → rules.Answer) (r : Answer) (n : ℕ) → Zero p a e t i → n ≡ answer s → (n ≡ 0 → ⊥) → a′ ≡ table (length a) s → r ≡ refusal n
-    → left b r p (a′ ∷ e ∷ t ∷ i ∷ []) ≡ settled (length p) (length a ∷ length e ∷ length t ∷ length i ∷ []) (checked (answer s) (plan s) f)
-plan-refused-left b s p a e t i a′ f r n z q ne h g =
-    let no : answer s ≡ 0 → ⊥ = λ y. ne (q ∙ y) in
-    ap (λ (r : Answer). left b r p (a′ ∷ e ∷ t ∷ i ∷ [])) g
-    ∙ refused-left b n (length p) p (length a) (length e) (length t) (length i) a′ e t i (z .page) (h ∙ no-table (length a) s no) (z .entries) (z .texts) (z .indent)
-    ∙ ap (λ (o : rules.Answer). settled (length p) (length a ∷ length e ∷ length t ∷ length i ∷ []) o) (ap refused q ∙ sym (plan-refused s f no))
+pub plan-refused-shown : (b s p : Bytes) (f : Json → rules.Answer) (r : Answer) (n : ℕ) → n ≡ answer s → (n ≡ 0 → ⊥) → r ≡ refusal n → Shown b r p (checked (answer s) (plan s) f)
+plan-refused-shown b s p f r n q ne g = refused-shown b p n r _ g (plan-refused s f (λ y. ne (q ∙ y)) ∙ ap refused (sym q))
+
+-- it is read, and the template is drawn
+pub drawn-shown : (b s p : Bytes) (f : Json → rules.Answer) (r : Answer) → answer s ≡ 0 → Shown b r p (f (json-at s 0)) → Shown b r p (checked (answer s) (plan s) f)
+drawn-shown b s p f r q = subst (Shown b r p) (sym (plan-passed s f q))
 
 -- the lengths that a call leaves as they were
 pub record Sized (p : Bytes) (a e : List ℕ) (t i p₁ : Bytes) (a₁ e₁ : List ℕ) (t₁ i₁ : Bytes) : Type 0 where
@@ -182,13 +123,12 @@ pub record Sized (p : Bytes) (a e : List ℕ) (t i p₁ : Bytes) (a₁ e₁ : Li
   pub texts : length t₁ ≡ length t
   pub indent : length i₁ ≡ length i
 
--- the template is drawn, and what it used is cleared
-pub drawn-left : (b s p : Bytes) (a e : List ℕ) (t i p₁ : Bytes) (a₁ e₁ : List ℕ) (t₁ i₁ p′ : Bytes) (a′ e′ : List ℕ) (t′ i′ : Bytes) (f : Json → rules.Answer) (r : Answer) → Sized p a e t i p₁ a₁ e₁ t₁ i₁ → answer s ≡ 0 → Shown b r p₁ (f (json-at s 0)) → Emptied (r .length) p₁ a₁ e₁ t₁ i₁ p′ a′ e′ t′ i′
-    → left b r p′ (a′ ∷ e′ ∷ t′ ∷ i′ ∷ []) ≡ settled (length p) (length a ∷ length e ∷ length t ∷ length i ∷ []) (checked (answer s) (plan s) f)
-drawn-left b s p a e t i p₁ a₁ e₁ t₁ i₁ p′ a′ e′ t′ i′ f r z q d h =
-    shown-left b r (length p) (f (json-at s 0)) p₁ p′ (length a) (length e) (length t) (length i) a′ e′ t′ i′ d (z .page) (h .page)
+-- all is cleared behind what was shown
+pub shown-emptied : (b p : Bytes) (a e : List ℕ) (t i p₁ : Bytes) (a₁ e₁ : List ℕ) (t₁ i₁ p′ : Bytes) (a′ e′ : List ℕ) (t′ i′ : Bytes) (r : Answer) (o : rules.Answer) → Sized p a e t i p₁ a₁ e₁ t₁ i₁ → Shown b r p₁ o → Emptied (r .length) p₁ a₁ e₁ t₁ i₁ p′ a′ e′ t′ i′
+    → left b r p′ (a′ ∷ e′ ∷ t′ ∷ i′ ∷ []) ≡ settled (length p) (length a ∷ length e ∷ length t ∷ length i ∷ []) o
+shown-emptied b p a e t i p₁ a₁ e₁ t₁ i₁ p′ a′ e′ t′ i′ r o z d h =
+    shown-left b r (length p) o p₁ p′ (length a) (length e) (length t) (length i) a′ e′ t′ i′ d (z .page) (h .page)
     (h .places ∙ ap (λ (n : ℕ). replicate n 0) (z .places)) (h .entries ∙ ap (λ (n : ℕ). replicate n 0) (z .entries)) (h .texts ∙ ap (λ (n : ℕ). replicate n 0) (z .texts)) (h .indent ∙ ap (λ (n : ℕ). replicate n 0) (z .indent))
-    ∙ ap (λ (o : rules.Answer). settled (length p) (length a ∷ length e ∷ length t ∷ length i ∷ []) o) (sym (plan-passed s f q))
 
 -- the same call with its options said otherwise
 pub same-options : (y : Outcome) (b s n : Bytes) (o o′ : Options) (k : ℕ) (c : List ℕ) → y ≡ predicted (inputs b s n o k c) → o ≡ o′ → y ≡ predicted (inputs b s n o′ k c)

@@ -1,13 +1,14 @@
-// registry.rs: `render`, with the checks before it. All that is lent is cleared first, and at the end zero but for the text.
+// registry.rs: `render`, with the checks before it. All that is lent is zero at the end, but for the text.
 ghost use mathlib.Core.List.{[], _∷_};
 ghost use mathlib.Core.Path.{_≡_};
 ghost use lib.ListN.{length};
 ghost use Rattle.rules.specs.Registry.{paper-limits};
+ghost use Rattle.rules.specs.Call.{render-bytes};
 ghost use Rattle.drawing.specs.Renders.{options-of};
 ghost use Rattle.handlebars.specs.declared.start.Start.the-variants.{At};
-ghost use Rattle.handlebars.specs.Answers.{refusal};
+ghost use Rattle.handlebars.specs.Answers.{refusal, Shown};
 ghost use Rattle.handlebars.specs.Begins.{Roomy, StartHolds, goes-on};
-ghost use Rattle.handlebars.specs.Calls.{inputs, left, settled, predicted, Zero, Emptied};
+ghost use Rattle.handlebars.specs.Calls.{inputs, left, predicted, Emptied};
 use crate::Answer;
 use crate::draw::draw;
 use crate::start::Start;
@@ -59,14 +60,14 @@ fn go_on(
     texts: &mut [u8],
     indent: &mut [u8],
 ) -> Answer
-    requires { ⌜ StartHolds (now bundle) (At name p) × Roomy (now places) (now entries) (now texts) (now indent) × Zero (now page) (now places) (now entries) (now texts) (now indent) ⌝ }
-    ensures { λ r. ⌜ left (now (bundle .entry)) r (now (page .exit)) (now (places .exit) ∷ now (entries .exit) ∷ now (texts .exit) ∷ now (indent .exit) ∷ []) ≡ settled (length (now (page .entry))) (length (now (places .entry)) ∷ length (now (entries .entry)) ∷ length (now (texts .entry)) ∷ length (now (indent .entry)) ∷ []) (goes-on (now (bundle .entry)) (now (plan .entry)) (options-of options) (paper-limits (length (now (page .entry)))) (At name p)) ⌝ }
+    requires { ⌜ StartHolds (now bundle) (At name p) × Roomy (now places) (now entries) (now texts) (now indent) ⌝ }
+    ensures { λ r. ⌜ Shown (now (bundle .entry)) r (now (page .exit)) (goes-on (now (bundle .entry)) (now (plan .entry)) (options-of options) (paper-limits (length (now (page .entry)))) (At name p)) ⌝ }
 {
     let n = json::read_plan(plan, places);
     if n != 0 {
         return refused(n as u32);
     }
-    let r = draw(
+    draw(
         bundle,
         plan,
         places,
@@ -77,13 +78,11 @@ fn go_on(
         entries,
         texts,
         indent,
-    );
-    clear_lent(page, r.length, places, entries, texts, indent);
-    r
+    )
 }
 
-// The whole call: the text on the page and its length, or the first refusal in the paper's order. It asks nothing of its arguments.
-pub fn render(
+// The checks in their order, and the drawing: the text is at the front of the page. What is lent keeps whatever was written into it.
+fn answer(
     bundle: &[u8],
     plan: &[u8],
     start: &[u8],
@@ -94,9 +93,8 @@ pub fn render(
     texts: &mut [u8],
     indent: &mut [u8],
 ) -> Answer
-    ensures { λ r. ⌜ left (now (bundle .entry)) r (now (page .exit)) (now (places .exit) ∷ now (entries .exit) ∷ now (texts .exit) ∷ now (indent .exit) ∷ []) ≡ predicted (inputs (now (bundle .entry)) (now (plan .entry)) (now (start .entry)) options (length (now (page .entry))) (length (now (places .entry)) ∷ length (now (entries .entry)) ∷ length (now (texts .entry)) ∷ length (now (indent .entry)) ∷ [])) ⌝ }
+    ensures { λ r. ⌜ Shown (now (bundle .entry)) r (now (page .exit)) (render-bytes (inputs (now (bundle .entry)) (now (plan .entry)) (now (start .entry)) options (length (now (page .entry))) (length (now (places .entry)) ∷ length (now (entries .entry)) ∷ length (now (texts .entry)) ∷ length (now (indent .entry)) ∷ []))) ⌝ }
 {
-    clear_lent(page, 0, places, entries, texts, indent);
     if !long_enough(places.len(), entries.len(), texts.len(), indent.len()) {
         return refused(1);
     }
@@ -116,4 +114,34 @@ pub fn render(
             indent,
         ),
     }
+}
+
+// The whole call: the text on the page and its length, or the first refusal in the paper's order. It asks nothing of its arguments.
+// All that is lent is cleared once, at the end: the page behind the text, and the scratch buffers.
+pub fn render(
+    bundle: &[u8],
+    plan: &[u8],
+    start: &[u8],
+    options: Options,
+    page: &mut [u8],
+    places: &mut [u64],
+    entries: &mut [u64],
+    texts: &mut [u8],
+    indent: &mut [u8],
+) -> Answer
+    ensures { λ r. ⌜ left (now (bundle .entry)) r (now (page .exit)) (now (places .exit) ∷ now (entries .exit) ∷ now (texts .exit) ∷ now (indent .exit) ∷ []) ≡ predicted (inputs (now (bundle .entry)) (now (plan .entry)) (now (start .entry)) options (length (now (page .entry))) (length (now (places .entry)) ∷ length (now (entries .entry)) ∷ length (now (texts .entry)) ∷ length (now (indent .entry)) ∷ [])) ⌝ }
+{
+    let r = answer(
+        bundle,
+        plan,
+        start,
+        options,
+        page,
+        places,
+        entries,
+        texts,
+        indent,
+    );
+    clear_lent(page, r.length, places, entries, texts, indent);
+    r
 }

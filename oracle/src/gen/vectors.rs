@@ -4,7 +4,7 @@
 use std::collections::{BTreeMap, HashSet};
 
 use super::rng::Rng;
-use super::{cases, limits, Case, Order};
+use super::{cases, deep, limits, Case, Order};
 use crate::call::{with_big_stack, Answer};
 
 /// One case of the list.
@@ -74,7 +74,7 @@ const fn part(
     Part { profile, seed, count, max_bytes, cabinets: 0, most_of_one }
 }
 
-pub const PARTS: [Part; 9] = [
+pub const PARTS: [Part; 10] = [
     part("rich", 1, 900, 1_800, 560),
     part("marks", 8, 260, 2_000, 250),
     part("nest", 9, 300, 2_000, 240),
@@ -84,7 +84,11 @@ pub const PARTS: [Part; 9] = [
     Part { profile: "sheets", seed: 5, count: 24, max_bytes: 9_000, cabinets: 4, most_of_one: 24 },
     Part { profile: "sheets", seed: 6, count: 4, max_bytes: 40_000, cabinets: 40, most_of_one: 6 },
     Part { profile: "sheets", seed: 7, count: 1, max_bytes: 65_536, cabinets: 120, most_of_one: 3 },
+    // As they are, whatever the seed.
+    part(DEEP, 0, 11, 65_536, 11),
 ];
+
+const DEEP: &str = "deep";
 
 /// The list of calls, which stands on its own.
 pub const CALLS: [Part; 2] = [part("calls", 1, 900, 330, 560), part("calls", 2, 300, 420, 110)];
@@ -101,11 +105,17 @@ impl Part {
         }
     }
 
+    fn cases(&self) -> Vec<Case> {
+        match self.profile {
+            DEEP => deep::all().into_iter().map(|(_, case)| case).collect(),
+            _ => cases(&self.order()).collect(),
+        }
+    }
+
     fn make(&self, seen: &mut HashSet<Vec<u8>>) -> Result<Vec<Vector>, String> {
         let mut made = Vec::new();
         let mut often: BTreeMap<u8, usize> = BTreeMap::new();
-        let order = self.order();
-        for case in cases(&order) {
+        for case in self.cases() {
             if made.len() == self.count {
                 break;
             }
