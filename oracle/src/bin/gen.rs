@@ -4,7 +4,7 @@ use std::collections::BTreeMap;
 use std::fs;
 use std::process::ExitCode;
 
-use oracle_core::gen::vectors::{self, Part, Vector};
+use oracle_core::gen::vectors::{self, Vector};
 use oracle_core::gen::{cases, sheets, Order, PROFILES, SMALL};
 
 const USAGE: &str = "\
@@ -12,9 +12,8 @@ usage: gen PROFILE --seed S --count N [--max-bytes B] [--small] [--cabinets C] -
            writes a batch; PROFILE is rich, marks, nest, limits, damaged, json, sheets or calls
        gen plan --seed S [--indented] -o FILE
            writes a plan of rooms and cabinets, 65,536 bytes long, for measuring
-       gen vectors [--calls] -o DIR
-           writes the fixed list of cases with the oracle's answers, as DIR/cases-00.bin and so on;
-           with --calls the list of calls, as DIR/calls-00.bin and so on
+       gen vectors -o DIR
+           writes the fixed list of cases with the oracle's answers, as DIR/cases-00.bin and so on
        gen replay FILE...
            answers the cases of these files again and tells what differs
        gen bounds [--seed S] [--count N]
@@ -33,7 +32,7 @@ fn main() -> ExitCode {
         Some("plan") => {
             Flags::read(&args[1..], &["--seed", "--indented", "-o"]).and_then(|f| large_plan(&f))
         }
-        Some("vectors") => Flags::read(&args[1..], &["--calls", "-o"]).and_then(|f| make_vectors(&f)),
+        Some("vectors") => Flags::read(&args[1..], &["-o"]).and_then(|f| make_vectors(&f)),
         Some("replay") if args.len() >= 2 => args[1..].iter().try_for_each(|file| replay(file)),
         Some("bounds") => Flags::read(&args[1..], &["--seed", "--count"]).and_then(|f| bounds(&f)),
         Some(profile) if PROFILES.contains(&profile) => batch(profile, &args[1..]),
@@ -48,7 +47,7 @@ fn main() -> ExitCode {
     }
 }
 
-/// The flags of a command with their values; `--small`, `--indented` and `--calls` have none.
+/// The flags of a command with their values; `--small` and `--indented` have none.
 struct Flags(BTreeMap<String, String>);
 
 impl Flags {
@@ -59,7 +58,7 @@ impl Flags {
             if !known.contains(&flag.as_str()) {
                 return Err(format!("{flag}: unknown here\n{}", USAGE.trim_end()));
             }
-            let alone = ["--small", "--indented", "--calls"].contains(&flag.as_str());
+            let alone = ["--small", "--indented"].contains(&flag.as_str());
             let value = if alone { Some(String::new()) } else { args.next().cloned() };
             let value = value.ok_or_else(|| format!("{flag}: its value is missing"))?;
             if found.insert(flag.clone(), value).is_some() {
@@ -129,14 +128,10 @@ fn large_plan(flags: &Flags) -> Outcome {
 
 fn make_vectors(flags: &Flags) -> Outcome {
     let folder = flags.needed("-o")?;
-    let (list, called): (&'static [Part], &str) = match flags.0.contains_key("--calls") {
-        true => (&vectors::CALLS, "calls"),
-        false => (&vectors::PARTS, "cases"),
-    };
-    let parts = vectors::make(list)?;
+    let parts = vectors::make(&vectors::PARTS)?;
     let all: Vec<&Vector> = parts.iter().flat_map(|(_, v)| v).collect();
     for (k, file) in vectors::write(&all).iter().enumerate() {
-        write(&format!("{folder}/{called}-{k:02}.bin"), file)?;
+        write(&format!("{folder}/cases-{k:02}.bin"), file)?;
     }
     print_longest(&all);
     println!("\n| profile | seed | first case | cases |\n|---|---|---|---|");

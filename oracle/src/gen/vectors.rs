@@ -74,7 +74,7 @@ const fn part(
     Part { profile, seed, count, max_bytes, cabinets: 0, most_of_one }
 }
 
-pub const PARTS: [Part; 10] = [
+pub const PARTS: [Part; 12] = [
     part("rich", 1, 900, 1_800, 560),
     part("marks", 8, 260, 2_000, 250),
     part("nest", 9, 300, 2_000, 240),
@@ -86,12 +86,11 @@ pub const PARTS: [Part; 10] = [
     Part { profile: "sheets", seed: 7, count: 1, max_bytes: 65_536, cabinets: 120, most_of_one: 3 },
     // As they are, whatever the seed.
     part(DEEP, 0, 11, 65_536, 11),
+    part("calls", 1, 900, 330, 560),
+    part("calls", 2, 300, 420, 110),
 ];
 
 const DEEP: &str = "deep";
-
-/// The list of calls, which stands on its own.
-pub const CALLS: [Part; 2] = [part("calls", 1, 900, 330, 560), part("calls", 2, 300, 420, 110)];
 
 impl Part {
     fn order(&self) -> Order {
