@@ -11,7 +11,7 @@ use borrow.Author.Tests.{ne-eqb}
 use types.Run.{OneOf, miss}
 use denote.Enum.Declared.{tagOf}
 use Rattle.value.proofs.Value.{the-type as value-type}
-use Rattle.rules.specs.Bytes.{Bytes, pick, maybe, same, ascii}
+use Rattle.rules.specs.Bytes.{Bytes, pick, maybe}
 use Rattle.rules.specs.Json.{Json, jnull, jstr}
 use Rattle.rules.specs.Error as rule
 use Rattle.rules.specs.Error.{RenderErrorReason, got, bad, missing-variable, helper-not-found, param-not-found-for-index, scopes-limit}
@@ -312,23 +312,3 @@ pub chosen : (g : Registry) (st : RenderContext) (e : block-util.Expanded) (n : 
 chosen g st e n h k p q r =
     ap (λ (x : Option registry.HelperDef). maybe x (bad helper-not-found) (λ d. rules.call-helper-for-value g st d e))
     (ap get-helper p ∙ sym (back (get-helper n)) ∙ ap helper-back (sym q ∙ r))
-
-pub get-each : (n : Bytes) → same n (ascii "each") ≡ true → Each ≡ helper-of (get-helper n)
-get-each n h = rw h
-
-pub get-with : (n : Bytes) → same n (ascii "each") ≡ false → same n (ascii "with") ≡ true → With ≡ helper-of (get-helper n)
-get-with n a h = rw (a, h)
-
-pub get-if : (n : Bytes) → same n (ascii "each") ≡ false → same n (ascii "with") ≡ false → same n (ascii "if") ≡ true → If ≡ helper-of (get-helper n)
-get-if n a b h = rw (a, b, h)
-
-pub get-unless : (n : Bytes) → same n (ascii "each") ≡ false → same n (ascii "with") ≡ false → same n (ascii "if") ≡ false → same n (ascii "unless") ≡ true → Unless ≡ helper-of (get-helper n)
-get-unless n a b c h = rw (a, b, c, h)
-
-pub get-lookup : (n : Bytes) → same n (ascii "each") ≡ false → same n (ascii "with") ≡ false → same n (ascii "if") ≡ false → same n (ascii "unless") ≡ false → same n (ascii "lookup") ≡ true
-    → Lookup ≡ helper-of (get-helper n)
-get-lookup n a b c d h = rw (a, b, c, d, h)
-
-pub get-none : (n : Bytes) → same n (ascii "each") ≡ false → same n (ascii "with") ≡ false → same n (ascii "if") ≡ false → same n (ascii "unless") ≡ false → same n (ascii "lookup") ≡ false
-    → Unknown ≡ helper-of (get-helper n)
-get-none n a b c d h = rw (a, b, c, d, h)

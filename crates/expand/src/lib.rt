@@ -5,6 +5,7 @@ ghost use mathlib.Core.Path.{_≡_};
 ghost use mathlib.Core.List.{List};
 ghost use Prim.Native.Nat.{ℕ, _≤_, _<_};
 ghost use lib.ListN.{length};
+ghost use Rattle.rules.specs.Bytes.{pick, same};
 ghost use Rattle.rules.specs.Bits.{bits};
 ghost use Rattle.rules.specs.Layout.{_then_};
 ghost use Rattle.rules.specs.Bundle.{string, path, param, call-of};
@@ -17,6 +18,7 @@ ghost use Rattle.parts.specs.Holds.{Holds, row};
 ghost use Rattle.parts.specs.Says.{path-at};
 ghost use Rattle.calls.specs.Calls.{param-at, call-at, params-at, hash-at};
 ghost use Rattle.places.specs.Accepted.{Accepted};
+ghost use Rattle.text.specs.Rest.{rest, Stands};
 ghost use Rattle.meaning.specs.Forms.{Known};
 ghost use Rattle.meaning.specs.Means.{Means};
 ghost use Rattle.scope.specs.Standing.{ScopesStand};
@@ -25,7 +27,10 @@ ghost use Rattle.expand.specs.Answers.{Setting, Expands, Names, ExpandsA
 use calls::Parameter;
 use context::Evaluated;
 use lookup::Found;
+use meaning::Form;
 use scope::Scope;
+use text::Step;
+use text::Text;
 use value::Value;
 
 pub struct Options {
@@ -77,27 +82,52 @@ pub enum HelperDef {
     Unknown,
 }
 
-// The helper whose name a value prints.
+// A helper, where a text is its name.
+fn if_named(s: &[u8], b: &[u8], t: Text, name: &[u8], helper: HelperDef) -> HelperDef
+    requires { ⌜ (length (now s) ≤ 65536) × Stands (now s) (now b) t ⌝ }
+    ensures { λ r. ⌜ r ≡ pick (same (rest (now (s .entry)) (now (b .entry)) t) (now (name .entry))) helper HelperDef.Unknown ⌝ }
+{
+    if text::is(s, b, t, name) {
+        return helper;
+    }
+    HelperDef::Unknown
+}
+
+// The helper whose name a text is. No two names start with the same byte.
+fn named_helper(s: &[u8], b: &[u8], t: Text) -> HelperDef
+    requires { ⌜ (length (now s) ≤ 65536) × Stands (now s) (now b) t ⌝ }
+    ensures { λ r. ⌜ r ≡ helper-of (get-helper (rest (now (s .entry)) (now (b .entry)) t)) ⌝ }
+{
+    let Step::Byte(c, u) = text::next(s, b, t) else {
+        return HelperDef::Unknown;
+    };
+    if c == 101 {
+        return if_named(s, b, t, b"each", HelperDef::Each);
+    }
+    if c == 119 {
+        return if_named(s, b, t, b"with", HelperDef::With);
+    }
+    if c == 105 {
+        return if_named(s, b, t, b"if", HelperDef::If);
+    }
+    if c == 117 {
+        return if_named(s, b, t, b"unless", HelperDef::Unless);
+    }
+    if c == 108 {
+        return if_named(s, b, t, b"lookup", HelperDef::Lookup);
+    }
+    HelperDef::Unknown
+}
+
+// The helper whose name a value prints. Only a string prints one.
 pub fn get_helper(s: &[u8], tab: &[u64], b: &[u8], v: Value) -> HelperDef
     requires { ⌜ Accepted (now s) (now tab) × (length (now b) ≤ 65536) × Known (now s) (now b) v ⌝ }
     ensures { λ r. ⌜ Means (now (s .entry)) (now (b .entry)) v (λ j. r ≡ helper-of (get-helper (render j))) ⌝ }
 {
-    if print::text_is(s, tab, b, v, b"each") {
-        return HelperDef::Each;
-    }
-    if print::text_is(s, tab, b, v, b"with") {
-        return HelperDef::With;
-    }
-    if print::text_is(s, tab, b, v, b"if") {
-        return HelperDef::If;
-    }
-    if print::text_is(s, tab, b, v, b"unless") {
-        return HelperDef::Unless;
-    }
-    if print::text_is(s, tab, b, v, b"lookup") {
-        return HelperDef::Lookup;
-    }
-    HelperDef::Unknown
+    let Form::String(t) = meaning::form_of(s, tab, b, v) else {
+        return HelperDef::Unknown;
+    };
+    named_helper(s, b, t)
 }
 
 // each, if and unless write nothing, for they have no bodies here.

@@ -1,50 +1,27 @@
--- Texts that were compared, and the machine that parses one.
-use Prim.Native.Nat.{ℕ, _≤_, Ordering·lt, Ordering·eq, Ordering·gt}
+-- The machine that parses a text.
+use Prim.Native.Nat.{ℕ, _≤_}
 use mathlib.Core.Bool.{Bool, true, false}
 use mathlib.Core.List.{_∷_}
 use mathlib.Core.Option.{Option, none, some}
 use mathlib.Core.Path.{_≡_, refl, sym, ap, _∙_}
 use native.Mathlib.Omega.{arith}
 use lib.ListN.{length}
-use Rattle.rules.specs.Bytes.{Bytes, pick, same, before, digits}
+use Rattle.rules.specs.Bytes.{Bytes, pick, same, digits}
 use Rattle.rules.specs.Bits.{bits}
 use Rattle.rules.specs.Bundle.{string}
 use Rattle.rules.specs.BundleLaws.{bits-size}
 use Rattle.rules.specs.Scan.{saying}
 use Rattle.rules.specs.Plan.{name-of}
-use Rattle.rules.specs.Order.{cmp}
 use Rattle.rules.specs.Context.{parse-usize}
 use Rattle.merging.specs.Lookup.{canonical, canonical-none, canonical-parsed}
 use Rattle.parts.specs.Holds.{Holds}
 use Rattle.parts.specs.HoldsLaws.{string-in}
 use Rattle.places.specs.Places.{tree-at, name-at}
-use Rattle.saying.specs.Compared.{ordering}
-use Rattle.saying.specs.declared.Ordering.{Ordering}
-use Rattle.saying.specs.declared.Ordering.the-variants.{Less, Equal, Greater}
 use Rattle.decimal.specs.Parsing.{fed, coming, parsed}
 use Rattle.decimal.specs.declared.Parse.{Parse}
 use Rattle.decimal.specs.declared.Parsed.{Parsed}
 use Rattle.decimal.specs.declared.Parsed.the-variants.{Is as Number, Refused as None}
 use Rattle.decimal.proofs.Parsing.{coming-fed}
-
-abbrev pub is-equal : Ordering → Bool
-is-equal Less = false
-is-equal Equal = true
-is-equal Greater = false
-
-pub equal-same : (a b : Bytes) (r : Ordering) → ordering r ≡ cmp a b → is-equal r ≡ same a b
-equal-same a b r e = go (same a b) (before a b) r e
-  where
-    go : (p q : Bool) (r : Ordering) → ordering r ≡ pick p Ordering·eq (pick q Ordering·lt Ordering·gt) → is-equal r ≡ p
-    go true q Less e = cc
-    go true q Equal e = refl
-    go true q Greater e = cc
-    go false true Less e = refl
-    go false true Equal e = cc
-    go false true Greater e = refl
-    go false false Less e = refl
-    go false false Equal e = cc
-    go false false Greater e = refl
 
 -- one byte more of the text
 pub coming-step : (p : Parse) (c : ℕ) (t u : Bytes) (o : Option ℕ) → coming p t ≡ o → t ≡ c ∷ u → coming (fed p c) u ≡ o

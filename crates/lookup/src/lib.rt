@@ -32,7 +32,7 @@ use decimal::Parsed;
 use meaning::Form;
 use parts::Literal;
 use places::Kind;
-use saying::Ordering;
+use saying::Name;
 use text::Step;
 use text::Text;
 use value::Value;
@@ -76,11 +76,7 @@ pub fn is_same(s: &[u8], b: &[u8], t: Text, u: Text) -> bool
     requires { ⌜ (length (now s) ≤ 65536) × Stands (now s) (now b) t × Stands (now s) (now b) u ⌝ }
     ensures { λ r. ⌜ r ≡ same (rest (now (s .entry)) (now (b .entry)) t) (rest (now (s .entry)) (now (b .entry)) u) ⌝ }
 {
-    match text::compare(s, b, t, u) {
-        Ordering::Less => false,
-        Ordering::Equal => true,
-        Ordering::Greater => false,
-    }
+    text::same(s, b, t, u)
 }
 
 // The number whose digits a text is.
@@ -120,8 +116,8 @@ fn latest(s: &[u8], tab: &[u64], b: &[u8], t: Text, c: usize, best: places::Foun
     best
 }
 
-// The member of that name of the object at i: of equal names the last one.
-fn object_member(s: &[u8], tab: &[u64], b: &[u8], i: usize, t: Text) -> places::Found
+// The member of that name of the object at i, whatever text the name is: of equal names the last one.
+fn any_member(s: &[u8], tab: &[u64], b: &[u8], i: usize, t: Text) -> places::Found
     requires { ⌜ Accepted (now s) (now tab) × (i < places (now s)) × Stands (now s) (now b) t ⌝ }
     ensures { λ r. ⌜ found r ≡ member (now (s .entry)) i (rest (now (s .entry)) (now (b .entry)) t) ⌝ }
 {
@@ -133,6 +129,17 @@ fn object_member(s: &[u8], tab: &[u64], b: &[u8], i: usize, t: Text) -> places::
         };
         best = latest(s, tab, b, t, c, best);
         at = places::next(s, tab, i, c);
+    }
+}
+
+// The member of that name of the object at i.
+fn object_member(s: &[u8], tab: &[u64], b: &[u8], i: usize, t: Text) -> places::Found
+    requires { ⌜ Accepted (now s) (now tab) × (i < places (now s)) × Stands (now s) (now b) t ⌝ }
+    ensures { λ r. ⌜ found r ≡ member (now (s .entry)) i (rest (now (s .entry)) (now (b .entry)) t) ⌝ }
+{
+    match t {
+        Text::Packed(p, n) => places::member(s, tab, i, b, Name::Packed(p, n)),
+        u => any_member(s, tab, b, i, u),
     }
 }
 

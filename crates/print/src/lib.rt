@@ -349,7 +349,10 @@ pub fn text_is(s: &[u8], tab: &[u64], b: &[u8], v: Value, w: &[u8]) -> bool
     requires { ⌜ Accepted (now s) (now tab) × (length (now b) ≤ 65536) × Known (now s) (now b) v ⌝ }
     ensures { λ r. ⌜ Means (now (s .entry)) (now (b .entry)) v (λ j. r ≡ same (render j) (now (w .entry))) ⌝ }
 {
-    all_met(s, b, w, strip_value(s, tab, b, w, Target::Lent(0), v))
+    let Form::String(t) = meaning::form_of(s, tab, b, v) else {
+        return all_met(s, b, w, strip_value(s, tab, b, w, Target::Lent(0), v));
+    };
+    text::is(s, b, t, w)
 }
 
 // Whether it prints just the text t. (No lent bytes are looked at.)
@@ -357,5 +360,8 @@ pub fn text_same(s: &[u8], tab: &[u64], b: &[u8], v: Value, t: Text) -> bool
     requires { ⌜ Accepted (now s) (now tab) × (length (now b) ≤ 65536) × Known (now s) (now b) v × Stands (now s) (now b) t ⌝ }
     ensures { λ r. ⌜ Means (now (s .entry)) (now (b .entry)) v (λ j. r ≡ same (render j) (rest (now (s .entry)) (now (b .entry)) t)) ⌝ }
 {
-    all_met(s, b, b, strip_value(s, tab, b, b, Target::Text(t), v))
+    let Form::String(u) = meaning::form_of(s, tab, b, v) else {
+        return all_met(s, b, b, strip_value(s, tab, b, b, Target::Text(t), v));
+    };
+    text::same(s, b, u, t)
 }

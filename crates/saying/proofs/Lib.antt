@@ -2,4 +2,5 @@ mod Lists
 mod Pairs
 pub mod Remaining
 pub mod Comparing
+mod Plain
 mod Chars

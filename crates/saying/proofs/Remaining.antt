@@ -176,8 +176,11 @@ own-by true true c h = differ (sym h)
 own-by false b c h = differ (sym h)
 
 module _ (s : Bytes) where
+  pub own-in : (i : ℕ) → is-own (byte-at s i) ≡ true → i < length s
+  own-in i h = in-text s i (λ z. differ (sym h ∙ ap is-own z))
+
   -- one
-  own-step : (i k : ℕ) → is-own (byte-at s i) ≡ true → Inside s i k → remaining s i k ≡ byte-at s i ∷ remaining s (i + 1) 0
+  pub own-step : (i k : ℕ) → is-own (byte-at s i) ≡ true → Inside s i k → remaining s i k ≡ byte-at s i ∷ remaining s (i + 1) 0
   own-step i k h q =
       let o = own-by (leb 32 (byte-at s i)) (eqb (byte-at s i) 34) (eqb (byte-at s i) 92) h in
       left-plain-at s i (leb-true 32 (byte-at s i) (o .0)) (eqb-false (byte-at s i) 34 (o .1)) (eqb-false (byte-at s i) 92 (o .2)) k (q .here)

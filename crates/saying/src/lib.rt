@@ -295,13 +295,13 @@ pub fn compare(s: &[u8], i: usize, j: usize) -> Ordering
     }
 }
 
-// Whether the string at i says the n bytes that are packed into w from the bit place p on.
-pub fn says_packed(s: &[u8], i: usize, w: &[u8], p: usize, n: usize) -> bool
-    requires { ⌜ (length (now s) ≤ 65536) × (i ≤ 65536) × (p + 8 * n < 18446744073709551616) ⌝ }
-    ensures { λ r. ⌜ r ≡ same (saying (now (s .entry)) i) (bytes-at (bits (now (w .entry))) p n) ⌝ }
+// Whether a string says from a place on the n bytes that are packed into w from the bit place p on, byte by byte.
+fn packed_steps(s: &[u8], i: usize, j: usize, w: &[u8], p: usize, n: usize) -> bool
+    requires { ⌜ (length (now s) ≤ 65536) × Inside (now s) i j × (p + 8 * n < 18446744073709551616) ⌝ }
+    ensures { λ r. ⌜ r ≡ same (remaining (now (s .entry)) i j) (bytes-at (bits (now (w .entry))) p n) ⌝ }
 {
-    let mut at = i + 1;
-    let mut k: usize = 0;
+    let mut at = i;
+    let mut k = j;
     let mut q = p;
     let mut left = n;
     loop {
@@ -319,6 +319,57 @@ pub fn says_packed(s: &[u8], i: usize, w: &[u8], p: usize, n: usize) -> bool
         at = c.at;
         k = c.k;
     }
+}
+
+// The same from where a character starts. Bytes that stand for themselves are compared as they stand.
+fn packed_from(s: &[u8], i: usize, w: &[u8], p: usize, n: usize) -> bool
+    requires { ⌜ (length (now s) ≤ 65536) × (i ≤ 65548) × (p + 8 * n < 18446744073709551616) ⌝ }
+    ensures { λ r. ⌜ r ≡ same (remaining (now (s .entry)) i 0) (bytes-at (bits (now (w .entry))) p n) ⌝ }
+{
+    let mut at = i;
+    let mut q = p;
+    let mut left = n;
+    loop {
+        let c = byte(s, at);
+        if c == 34 {
+            return left == 0;
+        }
+        if !is_own(c) {
+            return packed_steps(s, at, 0, w, q, left);
+        }
+        if left == 0 {
+            return false;
+        }
+        if bits::byte(w, q) != c {
+            return false;
+        }
+        at += 1;
+        q += 8;
+        left -= 1;
+    }
+}
+
+// The same from any place on.
+pub fn remaining_packed(s: &[u8], i: usize, j: usize, w: &[u8], p: usize, n: usize) -> bool
+    requires { ⌜ (length (now s) ≤ 65536) × Inside (now s) i j × (p + 8 * n < 18446744073709551616) ⌝ }
+    ensures { λ r. ⌜ r ≡ same (remaining (now (s .entry)) i j) (bytes-at (bits (now (w .entry))) p n) ⌝ }
+{
+    if j == 0 {
+        return packed_from(s, i, w, p, n);
+    }
+    packed_steps(s, i, j, w, p, n)
+}
+
+// Whether the string at i says the n bytes that are packed into w from the bit place p on. Most names differ in their first byte.
+pub fn says_packed(s: &[u8], i: usize, w: &[u8], p: usize, n: usize) -> bool
+    requires { ⌜ (length (now s) ≤ 65536) × (i ≤ 65536) × (p + 8 * n < 18446744073709551616) ⌝ }
+    ensures { λ r. ⌜ r ≡ same (saying (now (s .entry)) i) (bytes-at (bits (now (w .entry))) p n) ⌝ }
+{
+    let c = byte(s, i + 1);
+    if is_own(c) & (bits::byte(w, p) != c) {
+        return false;
+    }
+    packed_from(s, i + 1, w, p, n)
 }
 
 // Whether the strings at i and j say the same.

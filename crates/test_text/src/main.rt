@@ -1,5 +1,6 @@
 // Texts by fixed cases. A text has three lines: its bytes; with each word, whether it is that word and what is left where the word stands
-// in front; with each text, their order and what is left where that text stands in front. A comma ends what is left, a dash says that another thing stands there.
+// in front; with each text, their order, whether they are the same, and what is left where that text stands in front.
+// A comma ends what is left, a dash says that another thing stands there.
 ghost use Prim.Native.Nat.{_+_, _≤_, _<_};
 ghost use lib.ListN.{length};
 ghost use Rattle.text.specs.Rest.{Stands};
@@ -125,6 +126,7 @@ fn with_text(s: &[u8], b: &[u8], t: Text, x: Text)
     requires { ⌜ (length (now s) ≤ 65536) × Stands (now s) (now b) t × Stands (now s) (now b) x ⌝ }
 {
     print_order(text::compare(s, b, t, x));
+    print_flag(text::same(s, b, t, x));
     let Left::Is(u) = text::strip(s, b, t, x) else {
         print(b"- ");
         return;

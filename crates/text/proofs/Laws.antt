@@ -1,5 +1,6 @@
--- A text without its first byte, kind by kind, and the loop that strips lent bytes.
-use Prim.Native.Nat.{ℕ, zero, suc, _+_, _-_, _≤_, _<_}
+-- A text without its first byte, kind by kind; the loop that strips lent bytes; and texts that were compared.
+use Prim.Native.Nat.{ℕ, zero, suc, _+_, _-_, _≤_, _<_, Ordering·lt, Ordering·eq, Ordering·gt}
+use mathlib.Core.Bool.{Bool, true, false}
 use mathlib.Core.List.{[], _∷_}
 use mathlib.Core.Option.{none, some}
 use mathlib.Core.Path.{_≡_, refl, sym}
@@ -7,10 +8,14 @@ use native.Mathlib.Numerals.{add-one}
 use native.Mathlib.Omega.{arith}
 use lib.ListN.{length, getD, take, drop, drop-of-length-le}
 use lib.Seq.{drop-cons, take-nil}
-use Rattle.rules.specs.Bytes.{Bytes}
+use Rattle.rules.specs.Bytes.{Bytes, pick, same, before}
+use Rattle.rules.specs.Order.{cmp}
 use Rattle.rules.specs.Bits.{Bits}
 use Rattle.rules.specs.Layout.{field}
 use Rattle.bits.specs.Packed.{bytes-at}
+use Rattle.saying.specs.Compared.{ordering}
+use Rattle.saying.specs.declared.Ordering.{Ordering}
+use Rattle.saying.specs.declared.Ordering.the-variants.{Less, Equal, Greater}
 use Rattle.text.specs.Strip.{stripped}
 use Rattle.text.specs.Laws.{strip-none, strip-short, strip-other, strip-on}
 
@@ -61,3 +66,24 @@ module _ (w l : Bytes) (i : ℕ) where
 
     pub bytes-on : getD w i 0 ≡ c → stripped (drop i w) l ≡ stripped (drop (i + 1) w) m
     bytes-on q = rw (drop-cons w i 0 h, e, add-one i) (strip-on (getD w i 0) c (drop (suc i) w) m (sym q))
+
+-- Texts that were compared
+
+abbrev pub is-equal : Ordering → Bool
+is-equal Less = false
+is-equal Equal = true
+is-equal Greater = false
+
+pub equal-same : (a b : Bytes) (r : Ordering) → ordering r ≡ cmp a b → is-equal r ≡ same a b
+equal-same a b r e = go (same a b) (before a b) r e
+  where
+    go : (p q : Bool) (r : Ordering) → ordering r ≡ pick p Ordering·eq (pick q Ordering·lt Ordering·gt) → is-equal r ≡ p
+    go true q Less e = cc
+    go true q Equal e = refl
+    go true q Greater e = cc
+    go false true Less e = refl
+    go false true Equal e = cc
+    go false true Greater e = refl
+    go false false Less e = refl
+    go false false Equal e = cc
+    go false false Greater e = refl

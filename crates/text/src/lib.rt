@@ -92,8 +92,8 @@ pub fn next(s: &[u8], b: &[u8], t: Text) -> Step
     }
 }
 
-// Whether a text has just the bytes w.
-pub fn is(s: &[u8], b: &[u8], t: Text, w: &[u8]) -> bool
+// Whether a text has just the bytes w, byte by byte.
+fn is_steps(s: &[u8], b: &[u8], t: Text, w: &[u8]) -> bool
     requires { ⌜ (length (now s) ≤ 65536) × Stands (now s) (now b) t ⌝ }
     ensures { λ r. ⌜ r ≡ same (rest (now (s .entry)) (now (b .entry)) t) (now (w .entry)) ⌝ }
 {
@@ -111,6 +111,17 @@ pub fn is(s: &[u8], b: &[u8], t: Text, w: &[u8]) -> bool
         }
         u = v;
         i += 1;
+    }
+}
+
+// Whether a text has just the bytes w.
+pub fn is(s: &[u8], b: &[u8], t: Text, w: &[u8]) -> bool
+    requires { ⌜ (length (now s) ≤ 65536) × Stands (now s) (now b) t ⌝ }
+    ensures { λ r. ⌜ r ≡ same (rest (now (s .entry)) (now (b .entry)) t) (now (w .entry)) ⌝ }
+{
+    match t {
+        Text::Packed(p, n) => bits::same_bytes(b, p, n, w),
+        u => is_steps(s, b, u, w),
     }
 }
 
@@ -140,6 +151,33 @@ pub fn compare(s: &[u8], b: &[u8], t: Text, u: Text) -> Ordering
         }
         x = v;
         y = w;
+    }
+}
+
+// Whether two texts have the same bytes, whatever they are.
+fn same_steps(s: &[u8], b: &[u8], t: Text, u: Text) -> bool
+    requires { ⌜ (length (now s) ≤ 65536) × Stands (now s) (now b) t × Stands (now s) (now b) u ⌝ }
+    ensures { λ r. ⌜ r ≡ same (rest (now (s .entry)) (now (b .entry)) t) (rest (now (s .entry)) (now (b .entry)) u) ⌝ }
+{
+    match compare(s, b, t, u) {
+        Ordering::Less => false,
+        Ordering::Equal => true,
+        Ordering::Greater => false,
+    }
+}
+
+// Whether two texts have the same bytes.
+pub fn same(s: &[u8], b: &[u8], t: Text, u: Text) -> bool
+    requires { ⌜ (length (now s) ≤ 65536) × Stands (now s) (now b) t × Stands (now s) (now b) u ⌝ }
+    ensures { λ r. ⌜ r ≡ same (rest (now (s .entry)) (now (b .entry)) t) (rest (now (s .entry)) (now (b .entry)) u) ⌝ }
+{
+    let Text::Packed(q, m) = u else {
+        return same_steps(s, b, t, u);
+    };
+    match t {
+        Text::Said(at, k) => saying::remaining_packed(s, at, k, b, q, m),
+        Text::Packed(p, n) => bits::same_at(b, p, n, q, m),
+        x => same_steps(s, b, x, u),
     }
 }
 

@@ -1,22 +1,53 @@
-use Rattle.meaning.specs.Means.{means-so}
-use Rattle.places.specs.Nodes.{short}
-use Rattle.rules.specs.Value.{render}
-use mathlib.Core.Path.{_∙_, ap}
+use mathlib.Core.Path.{_∙_, ap, subst}
 use native.Mathlib.Omega.{arith}
+use Rattle.rules.specs.Value.{render}
+use Rattle.places.specs.Nodes.{short}
+use Rattle.meaning.specs.declared.Form.the-variants.{String}
+use Rattle.meaning.specs.Forms.{Formed}
+use Rattle.meaning.specs.Means.{means, means-so}
 use Rattle.print.specs.Target as target
+use borrow.Author.Needs.{needs}
 use Rattle.print.proofs.text_is.Statement.{statement}
 use Rattle.print.proofs.text_is.Tie as tie
 
+form-of-requires : tie.Need-form-of-requires
+form-of-requires c κs = search needs
+
+enum-known-t : tie.Need-enum-known-t
+enum-known-t c = search needs
+
 strip-value-requires : tie.Need-strip-value-requires
-strip-value-requires c κs = let z = c .before .before .before .before in (z .pre .0, z .pre .1, omega arith, z .pre .2)
+strip-value-requires c κs = let z = c .before .before .before .before .before .before in (z .pre .0, z .pre .1, omega arith, z .pre .2)
 
 all-met-requires : tie.Need-all-met-requires
-all-met-requires c κs = let z = c .before .before .before .before .before in (short (z .args .s .now) (z .pre .0 .answers), c .strip-value .ensures .stands)
+all-met-requires c κs = let z = c .before .before .before .before .before .before .before in (short (z .args .s .now) (z .pre .0 .answers), c .strip-value .ensures .stands)
 
 returns : tie.Need-returns
 returns c =
-    let a = c .before .before .before .before .before .before .args in
+    let a = c .before .before .before .before .before .before .before .before .args in
     means-so (a .s .now) (a .b .now) (a .v) _ _ (λ j e. c .all-met .ensures ∙ ap target.met e ∙ target.met-same (render j) (a .w .now)) (c .before .strip-value .ensures .means)
 
+is-requires : tie.Need-is-requires
+is-requires c κs =
+    let z = c .before .before .before .before .before .before .before .before in
+    let h = subst (Formed (z .args .s .now) (z .args .b .now) (z .args .v)) (c .before .t .given .1) (c .before .before .before .form-of .ensures) in
+    (short (z .args .s .now) (z .pre .0 .answers), h .is .stands)
+
+returns-2 : tie.Need-returns-2
+returns-2 c =
+    let a = c .before .before .before .before .before .before .before .before .before .args in
+    let g = c .before .before .t .given in
+    let h = subst (Formed (a .s .now) (a .b .now) (a .v)) (g .1) (c .before .before .before .before .form-of .ensures) in
+    means (a .s .now) (a .b .now) _ (a .v) (String (g .0 .0)) h (λ _. c .is .ensures)
+
 pub text-is-spec : {M : Type 1} → statement M
-text-is-spec = tie.close (tie.spec strip-value-requires all-met-requires returns)
+text-is-spec =
+    tie.close
+    (tie.spec
+    form-of-requires
+    enum-known-t
+    strip-value-requires
+    all-met-requires
+    returns
+    is-requires
+    returns-2)

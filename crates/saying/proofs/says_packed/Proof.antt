@@ -1,105 +1,52 @@
-use Prim.Native.Nat.{_*_, _+_}
-use Rattle.bits.specs.Packed.{bytes-at}
+use Prim.Native.Nat.{_+_}
 use Rattle.rules.specs.Bits.{bits}
-use Rattle.rules.specs.Bytes.{Bytes, same}
-use Rattle.rules.specs.Scan.{saying}
-use Rattle.saying.proofs.Comparing.{packed-end, packed-on, packed-other, packed-past}
-use Rattle.saying.proofs.Remaining.{inside-start}
-use Rattle.saying.specs.Said.{Inside, Stepped, remaining}
+use Rattle.rules.specs.Order.{and-left, and-right}
+use Rattle.saying.proofs.Plain.{plain-other}
 use borrow.Author.Needs.{needs}
-use mathlib.Core.Path.{_∙_, _≡_, ap, refl, subst, sym}
+use borrow.Author.Tests.{eqb-false, not-true}
+use mathlib.Core.Path.{_∙_, sym}
 use native.Mathlib.Omega.{arith}
 use Rattle.saying.proofs.says_packed.Statement.{statement}
 use Rattle.saying.proofs.says_packed.Tie as tie
 
-abbrev Inv-loop : tie.InvT-loop
-Inv-loop s i w p n at₀ k₀ q₀ left₀ at k q left = Inside s at k × (q + 8 * left ≡ p + 8 * n) × (same (saying s i) (bytes-at (bits w) p n) ≡ same (remaining s at k) (bytes-at (bits w) q left))
+add-byte : tie.Need-add-byte
+add-byte c = search needs
 
-abbrev μ-loop : tie.MeasureT-loop
-μ-loop s i w p n at₀ k₀ q₀ left₀ at k q left = left
-
-add-at : tie.Need-add-at Inv-loop μ-loop
-add-at c = search needs
-
-loop-holds : tie.Need-loop-holds Inv-loop μ-loop
-loop-holds c = (inside-start (c .before .before .args .s .now) (c .before .before .args .i + 1) (omega arith), refl, refl)
-
-next-byte-requires : tie.Need-next-byte-requires Inv-loop μ-loop
-next-byte-requires c κs = (c .before .before .before .pre .0, c .loop .inv .0)
-
-enum-known-b : tie.Need-enum-known-b Inv-loop μ-loop
-enum-known-b c = search needs
-
-enum-told : tie.Need-enum-told Inv-loop μ-loop
-enum-told c = search needs
-
-returns : tie.Need-returns Inv-loop μ-loop
-returns c =
-    let a = c .before .before .before .before .before .before .args in
-    let l = c .before .before .before .loop in
-    let e = subst (λ x. Stepped (a .s .now) (remaining (a .s .now) (l .at) (l .k)) x) (c .enum-told .given .1) (c .before .before .next-byte .ensures) in
-    packed-end (bits (a .w .now)) (l .q) (l .left) ∙ ap (λ (y : Bytes). same y (bytes-at (bits (a .w .now)) (l .q) (l .left))) (sym e) ∙ sym (l .inv .2)
-
-returns-2 : tie.Need-returns-2 Inv-loop μ-loop
-returns-2 c =
-    let a = c .before .before .before .before .before .before .before .before .args in
-    let l = c .before .before .before .before .before .loop in
-    let g = c .before .before .b .given in
-    let e = subst (λ x. Stepped (a .s .now) (remaining (a .s .now) (l .at) (l .k)) x) (g .1) (c .before .before .before .before .next-byte .ensures) in
-    packed-past (bits (a .w .now)) (l .q) (g .0 .0) (remaining (a .s .now) (g .0 .1 .0 .at) (g .0 .1 .0 .k)) (l .left) (c .if1 .taken)
-    ∙ ap (λ (y : Bytes). same y (bytes-at (bits (a .w .now)) (l .q) (l .left))) (sym (e .0)) ∙ sym (l .inv .2)
-
-byte-requires : tie.Need-byte-requires Inv-loop μ-loop
+byte-requires : tie.Need-byte-requires
 byte-requires c κs = search needs
 
-returns-3 : tie.Need-returns-3 Inv-loop μ-loop
-returns-3 c =
-    let a = c .before .before .before .before .before .before .before .before .before .before .args in
-    let l = c .before .before .before .before .before .before .before .loop in
-    let g = c .before .before .before .before .b .given in
-    let e = subst (λ x. Stepped (a .s .now) (remaining (a .s .now) (l .at) (l .k)) x) (g .1) (c .before .before .before .before .before .before .next-byte .ensures) in
-    packed-other (bits (a .w .now)) (l .q) (g .0 .0) (remaining (a .s .now) (g .0 .1 .0 .at) (g .0 .1 .0 .k)) (l .left) (c .before .before .if1 .left)
-    (λ z. c .if2 .taken (c .before .byte .ensures ∙ z))
-    ∙ ap (λ (y : Bytes). same y (bytes-at (bits (a .w .now)) (l .q) (l .left))) (sym (e .0)) ∙ sym (l .inv .2)
+is-own-requires : tie.Need-is-own-requires
+is-own-requires c κs = search needs
 
-add-q : tie.Need-add-q Inv-loop μ-loop
-add-q c = omega (arith, c .before .before .before .before .before .before .before .loop .inv .1, c .before .before .if1 .left, c .before .before .before .before .before .before .before .before .before .before .pre)
+byte-requires-2 : tie.Need-byte-requires-2
+byte-requires-2 c κs = search needs
 
-sub-left : tie.Need-sub-left Inv-loop μ-loop
-sub-left c = search needs
+returns : tie.Need-returns
+returns c =
+    let z = c .before .before .before .before .before .before in
+    let a = z .args in
+    let o = sym (c .before .before .is-own .ensures) ∙ and-left _ _ (c .if1 .taken) in
+    plain-other (a .s .now) (bits (a .w .now)) (a .i + 1) (a .p) (a .n) _ (c .before .before .before .byte .ensures) o (omega (arith, z .pre .1)) _ (c .before .byte2 .ensures)
+    (eqb-false _ _ (not-true _ (and-right (c .before .before .is-own .result) _ (c .if1 .taken))))
 
-loop-less : tie.Need-loop-less Inv-loop μ-loop
-loop-less c = search needs
+add-packed-from : tie.Need-add-packed-from
+add-packed-from c = search needs
 
-loop-again : tie.Need-loop-again Inv-loop μ-loop
-loop-again c =
-    let a = c .before .before .before .before .before .before .before .before .before .before .args in
-    let l = c .before .before .before .before .before .before .before .loop in
-    let g = c .before .before .before .before .b .given in
-    let e = subst (λ x. Stepped (a .s .now) (remaining (a .s .now) (l .at) (l .k)) x) (g .1) (c .before .before .before .before .before .before .next-byte .ensures) in (
-      e .1,
-      omega (arith, l .inv .1, c .before .before .if1 .left),
-      l .inv .2 ∙ ap (λ (y : Bytes). same y (bytes-at (bits (a .w .now)) (l .q) (l .left))) (e .0)
-          ∙ packed-on (bits (a .w .now)) (l .q) (g .0 .0) (remaining (a .s .now) (g .0 .1 .0 .at) (g .0 .1 .0 .k)) (l .left) (c .before .before .if1 .left)
-          (sym (c .before .byte .ensures) ∙ c .if2 .left),
-    )
+packed-from-requires : tie.Need-packed-from-requires
+packed-from-requires c κs = search needs
+
+returns-2 : tie.Need-returns-2
+returns-2 c = search needs
 
 pub says-packed-spec : {M : Type 1} → statement M
 says-packed-spec =
     tie.close
     (tie.spec
-    Inv-loop
-    μ-loop
-    add-at
-    loop-holds
-    next-byte-requires
-    enum-known-b
-    enum-told
-    returns
-    returns-2
+    add-byte
     byte-requires
-    returns-3
-    add-q
-    sub-left
-    loop-less
-    loop-again)
+    is-own-requires
+    byte-requires-2
+    returns
+    add-packed-from
+    packed-from-requires
+    returns-2)

@@ -11,6 +11,12 @@ compare-requires c κs = search needs
 print-order-requires : tie.Need-print-order-requires
 print-order-requires c κs = search needs
 
+same-requires : tie.Need-same-requires
+same-requires c κs = search needs
+
+print-flag-requires : tie.Need-print-flag-requires
+print-flag-requires c κs = search needs
+
 strip-requires : tie.Need-strip-requires
 strip-requires c κs = search needs
 
@@ -31,9 +37,9 @@ returns c = search needs
 
 print-text-requires : tie.Need-print-text-requires
 print-text-requires c κs =
-    let a = c .before .before .before .before .before .before .before .before .args in
+    let a = c .before .before .before .before .before .before .before .before .before .before .args in
     let o = stripped (rest (a .s .now) (a .b .now) (a .x)) (rest (a .s .now) (a .b .now) (a .t)) in
-    (c .before .before .before .before .before .before .before .before .pre .0, subst (λ z. Stripped (a .s .now) (a .b .now) o z) (c .before .u .given .1) (c .before .before .before .strip .ensures) .1)
+    (c .before .before .before .before .before .before .before .before .before .before .pre .0, subst (λ z. Stripped (a .s .now) (a .b .now) o z) (c .before .u .given .1) (c .before .before .before .strip .ensures) .1)
 
 slice-aggregate-print-2 : tie.Need-slice-aggregate-print-2
 slice-aggregate-print-2 c = search needs
@@ -50,6 +56,8 @@ with-text-spec =
     (tie.spec
     compare-requires
     print-order-requires
+    same-requires
+    print-flag-requires
     strip-requires
     enum-known-u
     enum-told

@@ -1,0 +1,111 @@
+-- The helper whose name a text is, by its first byte, and what prints no such name.
+use Prim.Native.Nat.{ℕ, zero, suc, _+_, _/_, _%_, _<_}
+use native.Mathlib.Omega.{arith}
+use mathlib.Core.Bool.{Bool, true, false}
+use mathlib.Core.List.{List, [], _∷_}
+use mathlib.Core.Option.{none, some}
+use mathlib.Core.Path.{_≡_, refl, ap, _∙_}
+use lib.Dec.{ltb}
+use borrow.Author.Tests.{ne-eqb, ltb-true}
+use types.Run.{OneOf, miss}
+use denote.Enum.Declared.{tagOf}
+use Rattle.rules.specs.Bytes.{Bytes, pick, same, ascii, digits, digits-onto}
+use Rattle.rules.specs.Json.{jbool}
+use Rattle.rules.specs.Value.{render}
+use Rattle.rules.specs.Registry as registry
+use Rattle.rules.specs.Registry.{get-helper}
+use Rattle.value.specs.declared.Value.{Value}
+use Rattle.meaning.proofs.Form.{the-type as form-type}
+use Rattle.meaning.specs.declared.Form.{Form}
+use Rattle.meaning.specs.declared.Form.the-variants.{Null, Boolean, Unsigned, Negative, String, List as Row, Object, Merged}
+use Rattle.meaning.specs.Forms.{Formed}
+use Rattle.meaning.specs.Means.{Means, means}
+use Rattle.expand.specs.declared.HelperDef.{HelperDef}
+use Rattle.expand.specs.declared.HelperDef.the-variants.{Each, With, If, Unless, Lookup, Unknown}
+use Rattle.expand.specs.Answers.{helper-of}
+
+pub get-empty : (n : Bytes) → n ≡ [] → Unknown ≡ helper-of (get-helper n)
+get-empty n e = rw e
+
+-- n has the first byte c
+module _ (n l : Bytes) (c : ℕ) (e : n ≡ c ∷ l) where
+  module _ (r : HelperDef) where
+    pub get-each : c ≡ 101 → r ≡ pick (same n (ascii "each")) Each Unknown → r ≡ helper-of (get-helper n)
+    get-each h q = q ∙ rw (e, h) (go (same (101 ∷ l) (ascii "each")))
+      where
+        go : (x : Bool) → pick x Each Unknown ≡ helper-of (pick x (some registry.HelperDef.each) none)
+        go true = refl
+        go false = refl
+
+    pub get-with : c ≡ 119 → r ≡ pick (same n (ascii "with")) With Unknown → r ≡ helper-of (get-helper n)
+    get-with h q = q ∙ rw (e, h) (go (same (119 ∷ l) (ascii "with")))
+      where
+        go : (x : Bool) → pick x With Unknown ≡ helper-of (pick x (some registry.HelperDef.with) none)
+        go true = refl
+        go false = refl
+
+    pub get-if : c ≡ 105 → r ≡ pick (same n (ascii "if")) If Unknown → r ≡ helper-of (get-helper n)
+    get-if h q = q ∙ rw (e, h) (go (same (105 ∷ l) (ascii "if")))
+      where
+        go : (x : Bool) → pick x If Unknown ≡ helper-of (pick x (some registry.HelperDef.if) none)
+        go true = refl
+        go false = refl
+
+    pub get-unless : c ≡ 117 → r ≡ pick (same n (ascii "unless")) Unless Unknown → r ≡ helper-of (get-helper n)
+    get-unless h q = q ∙ rw (e, h) (go (same (117 ∷ l) (ascii "unless")))
+      where
+        go : (x : Bool) → pick x Unless Unknown ≡ helper-of (pick x (some registry.HelperDef.unless) none)
+        go true = refl
+        go false = refl
+
+    pub get-lookup : c ≡ 108 → r ≡ pick (same n (ascii "lookup")) Lookup Unknown → r ≡ helper-of (get-helper n)
+    get-lookup h q = q ∙ rw (e, h) (go (same (108 ∷ l) (ascii "lookup")))
+      where
+        go : (x : Bool) → pick x Lookup Unknown ≡ helper-of (pick x (some registry.HelperDef.lookup) none)
+        go true = refl
+        go false = refl
+
+  pub get-none : (c ≡ 101 → ⊥) → (c ≡ 119 → ⊥) → (c ≡ 105 → ⊥) → (c ≡ 117 → ⊥) → (c ≡ 108 → ⊥) → Unknown ≡ helper-of (get-helper n)
+  get-none f g h i j = rw (e, ne-eqb c 101 f, ne-eqb c 119 g, ne-eqb c 105 h, ne-eqb c 117 i, ne-eqb c 108 j)
+
+-- Digits
+
+record Digital (l : Bytes) : Type 0 where
+  pub first : ℕ
+  pub more : Bytes
+  pub is : l ≡ first ∷ more
+  pub low : first < 58
+
+digit : (n : ℕ) (acc : Bytes) → Digital ((48 + n % 10) ∷ acc)
+digit n acc = record { first = 48 + n % 10; more = acc; is = refl; low = omega arith }
+
+digital-step : (f n : ℕ) (acc : Bytes) → Digital (digits-onto f (n / 10) ((48 + n % 10) ∷ acc)) → Digital (digits-onto (suc f) n acc)
+digital-step f n acc r = go (ltb n 10) refl
+  where
+    go : (t : Bool) → ltb n 10 ≡ t → Digital (pick t ((48 + n) ∷ acc) (digits-onto f (n / 10) ((48 + n % 10) ∷ acc)))
+    go true e = record { first = 48 + n; more = acc; is = refl; low = omega (arith, ltb-true n 10 e) }
+    go false e = r
+
+digital-onto : (f n : ℕ) (acc : Bytes) → Digital acc → Digital (digits-onto f n acc)
+digital-onto zero n acc h = h
+digital-onto (suc f) n acc h = digital-step f n acc (digital-onto f (n / 10) ((48 + n % 10) ∷ acc) (digit n acc))
+
+get-digits : (n : ℕ) → Unknown ≡ helper-of (get-helper (digits n))
+get-digits n =
+    let d = digital-step 19 n [] (digital-onto 19 (n / 10) ((48 + n % 10) ∷ []) (digit n [])) in
+    get-none (digits n) (d .more) (d .first) (d .is) (λ z. omega (arith, d .low)) (λ z. omega (arith, d .low)) (λ z. omega (arith, d .low)) (λ z. omega (arith, d .low)) (λ z. omega (arith, d .low))
+
+-- only a string prints the name of a helper
+pub get-other : (s b : Bytes) (v : Value) (f : Form) → OneOf (0 ∷ 1 ∷ 2 ∷ 3 ∷ 5 ∷ 6 ∷ 7 ∷ []) (tagOf form-type f) → Formed s b v f → Means s b v (λ j. Unknown ≡ helper-of (get-helper (render j)))
+get-other s b v Null k h = means s b _ v Null h refl
+get-other s b v (Boolean t) k h = means s b _ v (Boolean t) h (go t)
+  where
+    go : (t : Bool) → Unknown ≡ helper-of (get-helper (render (jbool t)))
+    go true = refl
+    go false = refl
+get-other s b v (Unsigned n) k h = means s b _ v (Unsigned n) h (get-digits n)
+get-other s b v (Negative n) k h = means s b _ v (Negative n) h refl
+get-other s b v (String t) k h = absurd (miss (0 ∷ 1 ∷ 2 ∷ 3 ∷ 5 ∷ 6 ∷ 7 ∷ []) 4 tt k)
+get-other s b v (Row i) k h = means s b _ v (Row i) h (λ l _ _. refl)
+get-other s b v (Object i) k h = means s b _ v (Object i) h (λ m _ _. refl)
+get-other s b v (Merged i n) k h = means s b _ v (Merged i n) h (λ m _. refl)
