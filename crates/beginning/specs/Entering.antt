@@ -23,7 +23,7 @@ use Rattle.places.specs.Accepted.{Accepted}
 use Rattle.template.specs.Views.{template-at}
 use Rattle.expand.specs.declared.Options.{Options}
 use Rattle.expand.specs.declared.Expanded.{Expanded}
-use Rattle.state.specs.declared.RenderContext.{RenderContext}
+use Rattle.state.specs.Context.{RenderContext}
 use Rattle.state.specs.Setters.{with-template, unless-bad}
 use Rattle.state.specs.World.{World, world, over, front, name-at, abs, Ready, Goes}
 use Rattle.state.specs.Steps.{Within, goes-template}

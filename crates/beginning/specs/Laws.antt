@@ -30,7 +30,7 @@ use Rattle.expand.specs.declared.Options.{Options}
 use Rattle.expand.specs.declared.Expanded.{Expanded}
 use Rattle.expand.specs.Answers.{IsTemplate}
 use Rattle.output.specs.declared.Writer.{Writer}
-use Rattle.state.specs.declared.RenderContext.{RenderContext}
+use Rattle.state.specs.Context.{RenderContext}
 use Rattle.state.specs.Setters.{failed, marked, settled, with-template, unless-bad, finished, finished-named}
 use Rattle.state.specs.World.{World, world, over, top, abs, Ready, Draws}
 use Rattle.state.specs.Steps.{goes-marks, goes-template}

@@ -20,7 +20,7 @@ use Rattle.calls.specs.Calls.{call-at}
 use Rattle.template.specs.Views.{body-says}
 use Rattle.decorators.specs.Indents.{bytes-of}
 use Rattle.expand.specs.declared.Options.{Options}
-use Rattle.state.specs.declared.RenderContext.{RenderContext}
+use Rattle.state.specs.Context.{RenderContext}
 use Rattle.state.specs.Setters.{with-template, finished-named}
 use Rattle.state.specs.World.{World, world, Ready}
 use Rattle.texts.specs.Setters.{text-closed, text-place, indented, concluded}

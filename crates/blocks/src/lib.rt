@@ -9,6 +9,7 @@ ghost use lib.ListN.{length};
 ghost use Rattle.rules.specs.Bundle.{block-names};
 ghost use Rattle.parts.specs.Holds.{Holds};
 ghost use Rattle.parts.specs.Views.{names-view};
+ghost use Rattle.state.specs.Context.{whole};
 ghost use Rattle.state.specs.Setters.{with-template, pushed};
 ghost use Rattle.state.specs.Setters as set;
 ghost use Rattle.blocks.specs.Opened.{NamesNear, named, with-scope, each-scope, newest, Opens};
@@ -75,25 +76,28 @@ pub fn turn_scope(c: Scope, item: Value, key: Value, k: usize, object: bool, las
 }
 
 // The scope of `with` is opened; its names stand at the place `at` of the bundle b.
-pub fn open_with(b: &[u8], at: usize, v: Value, rc: RenderContext) -> RenderContext
-    requires { ⌜ (length (now b) ≤ 65536) × Holds block-names (bits (now b)) at × Opens rc v ⌝ }
-    ensures { λ r. ⌜ r ≡ pushed rc (with-scope v (names-view (bits (now (b .entry))) at) (newest rc)) ⌝ }
+pub fn open_with(b: &[u8], sc: &mut [u64], at: usize, v: Value, rc: RenderContext) -> RenderContext
+    requires { ⌜ (length (now b) ≤ 65536) × Holds block-names (bits (now b)) at × Opens (whole rc (now sc)) v × (length (now sc) ≡ 96) ⌝ }
+    ensures { λ r. ⌜ whole r (now (sc .exit)) ≡ pushed (whole rc (now (sc .entry))) (with-scope v (names-view (bits (now (b .entry))) at) (newest (whole rc (now (sc .entry))))) ⌝ }
 {
     let names = parts::block_names_at(b, at);
-    state::push_block(rc, with_scope(v, names, state::front(rc)))
+    let c = with_scope(v, names, state::front(sc, rc));
+    state::push_block(sc, rc, c)
 }
 
 // The scope of `each` is opened.
-pub fn open_each(b: &[u8], at: usize, v: Value, rc: RenderContext) -> RenderContext
-    requires { ⌜ (length (now b) ≤ 65536) × Holds block-names (bits (now b)) at × Opens rc v ⌝ }
-    ensures { λ r. ⌜ r ≡ pushed rc (each-scope v (names-view (bits (now (b .entry))) at) (newest rc)) ⌝ }
+pub fn open_each(b: &[u8], sc: &mut [u64], at: usize, v: Value, rc: RenderContext) -> RenderContext
+    requires { ⌜ (length (now b) ≤ 65536) × Holds block-names (bits (now b)) at × Opens (whole rc (now sc)) v × (length (now sc) ≡ 96) ⌝ }
+    ensures { λ r. ⌜ whole r (now (sc .exit)) ≡ pushed (whole rc (now (sc .entry))) (each-scope v (names-view (bits (now (b .entry))) at) (newest (whole rc (now (sc .entry))))) ⌝ }
 {
     let names = parts::block_names_at(b, at);
-    state::push_block(rc, each_scope(v, names, state::front(rc)))
+    let c = each_scope(v, names, state::front(sc, rc));
+    state::push_block(sc, rc, c)
 }
 
 // The scope of `each` at the start of a turn. Its body has no name.
 pub fn begin_turn(
+    sc: &mut [u64],
     rc: RenderContext,
     item: Value,
     key: Value,
@@ -101,9 +105,9 @@ pub fn begin_turn(
     object: bool,
     last: bool,
 ) -> RenderContext
-    requires { ⌜ Fits item × Fits key × (k < 65536) × (0 < rc .used) × (rc .used ≤ 32) × (length (rc .scopes) ≡ 32) ⌝ }
-    ensures { λ r. ⌜ r ≡ with-template (set.turned rc (turned (newest rc) (encoded item) (encoded key) k (eqb k 0) last object)) 0 ⌝ }
+    requires { ⌜ Fits item × Fits key × (k < 65536) × (0 < rc .used) × (rc .used ≤ 32) × (length (now sc) ≡ 96) ⌝ }
+    ensures { λ r. ⌜ whole r (now (sc .exit)) ≡ with-template (set.turned (whole rc (now (sc .entry))) (turned (newest (whole rc (now (sc .entry)))) (encoded item) (encoded key) k (eqb k 0) last object)) 0 ⌝ }
 {
-    let c = turn_scope(state::front(rc), item, key, k, object, last);
-    state::set_current_template_name(state::set_block(rc, c), 0)
+    let c = turn_scope(state::front(sc, rc), item, key, k, object, last);
+    state::set_current_template_name(state::set_block(sc, rc, c), 0)
 }

@@ -21,6 +21,7 @@ ghost use Rattle.places.specs.Places.{places, json-at, live-at, path-at as plac
 ghost use Rattle.meaning.specs.Meaning.{is-missing, json-of, scoped-of};
 ghost use Rattle.meaning.specs.Standing.{Stands};
 ghost use Rattle.scope.specs.Scopes.{blocks-of};
+ghost use Rattle.scope.specs.Words.{scopes-of};
 ghost use Rattle.scope.specs.Standing.{ScopesStand};
 ghost use Rattle.scope.specs.Names.{AllReadable, resolved, local-at};
 ghost use Rattle.lookup.specs.Answers.{Held};
@@ -32,7 +33,6 @@ use lookup::Got;
 use parts::Path;
 use parts::Segment;
 use scope::Param;
-use scope::Scope;
 use value::Value;
 
 // What a path leads to: `Missing` where it leads nowhere.
@@ -144,23 +144,23 @@ struct Start {
 }
 
 // Without a block name: from the root, or from the scope that the ups lead to.
-fn without_block_param(list: [Scope; 32], used: usize, ups: usize, root: bool) -> Value
-    requires { ⌜ (0 < used) × (used ≤ 32) ⌝ }
-    ensures { λ r. ⌜ Based list used ups root r ⌝ }
+fn without_block_param(sc: &[u64], used: usize, ups: usize, root: bool) -> Value
+    requires { ⌜ (0 < used) × (used ≤ 32) × (length (now sc) ≡ 96) ⌝ }
+    ensures { λ r. ⌜ Based (scopes-of (now (sc .entry))) used ups root r ⌝ }
 {
     if (ups == 0) & root {
         return Value::Context(0);
     }
-    let c = scope::get_or_front(list, used, ups);
+    let c = scope::get_or_front(sc, used, ups);
     value::decode(c.base)
 }
 
 // With all n segments at p to follow.
-fn based(list: [Scope; 32], used: usize, p: usize, n: usize, ups: usize, root: bool) -> Start
-    requires { ⌜ (0 < used) × (used ≤ 32) ⌝ }
-    ensures { λ r. ⌜ (r .place ≡ p) × (r .left ≡ n) × Based list used ups root (r .value) ⌝ }
+fn based(sc: &[u64], used: usize, p: usize, n: usize, ups: usize, root: bool) -> Start
+    requires { ⌜ (0 < used) × (used ≤ 32) × (length (now sc) ≡ 96) ⌝ }
+    ensures { λ r. ⌜ (r .place ≡ p) × (r .left ≡ n) × Based (scopes-of (now (sc .entry))) used ups root (r .value) ⌝ }
 {
-    let base = without_block_param(list, used, ups, root);
+    let base = without_block_param(sc, used, ups, root);
     Start {
         value: base,
         place: p,
@@ -172,7 +172,7 @@ fn based(list: [Scope; 32], used: usize, p: usize, n: usize, ups: usize, root: b
 fn named_start(
     b: &[u8],
     ent: &[u64],
-    list: [Scope; 32],
+    sc: &[u64],
     used: usize,
     p: usize,
     n: usize,
@@ -180,12 +180,12 @@ fn named_start(
     q: usize,
     next: usize,
 ) -> Start
-    requires { ⌜ (length (now b) ≤ 65536) × (0 < used) × (used ≤ 32) × AllReadable (now b) (now ent) list used × Holds string (bits (now b)) q × Behind (bits (now b)) p n ups q next ⌝ }
-    ensures { λ r. ⌜ Starts (now (b .entry)) (now (ent .entry)) list used p n r ⌝ }
+    requires { ⌜ (length (now b) ≤ 65536) × (0 < used) × (used ≤ 32) × AllReadable (now b) (now ent) (scopes-of (now sc)) used × Holds string (bits (now b)) q × Behind (bits (now b)) p n ups q next × (length (now sc) ≡ 96) ⌝ }
+    ensures { λ r. ⌜ Starts (now (b .entry)) (now (ent .entry)) (scopes-of (now (sc .entry))) used p n r ⌝ }
 {
-    let found = scope::get_in_block_params(b, ent, list, used, q);
+    let found = scope::get_in_block_params(b, ent, sc, used, q);
     let Param::Is(w) = found else {
-        return based(list, used, p, n, ups, false);
+        return based(sc, used, p, n, ups, false);
     };
     Start {
         value: w,
@@ -194,20 +194,20 @@ fn named_start(
     }
 }
 
-fn begin(b: &[u8], ent: &[u64], list: [Scope; 32], used: usize, p: usize, n: usize) -> Start
-    requires { ⌜ (length (now b) ≤ 65536) × (0 < used) × (used ≤ 32) × AllReadable (now b) (now ent) list used × Holds (row seg n) (bits (now b)) p ⌝ }
-    ensures { λ r. ⌜ Starts (now (b .entry)) (now (ent .entry)) list used p n r ⌝ }
+fn begin(b: &[u8], ent: &[u64], sc: &[u64], used: usize, p: usize, n: usize) -> Start
+    requires { ⌜ (length (now b) ≤ 65536) × (0 < used) × (used ≤ 32) × AllReadable (now b) (now ent) (scopes-of (now sc)) used × Holds (row seg n) (bits (now b)) p × (length (now sc) ≡ 96) ⌝ }
+    ensures { λ r. ⌜ Starts (now (b .entry)) (now (ent .entry)) (scopes-of (now (sc .entry))) used p n r ⌝ }
 {
     let front = peek(b, p, n);
     let ups = front.ups;
     if ups == n {
-        return based(list, used, p, n, ups, false);
+        return based(sc, used, p, n, ups, false);
     }
     let segment = parts::segment_at(b, front.place);
     match segment {
-        Segment::Named(q, next) => named_start(b, ent, list, used, p, n, ups, q, next),
-        Segment::Root(_) => based(list, used, p, n, ups, true),
-        Segment::Up(_) => based(list, used, p, n, ups, false),
+        Segment::Named(q, next) => named_start(b, ent, sc, used, p, n, ups, q, next),
+        Segment::Root(_) => based(sc, used, p, n, ups, true),
+        Segment::Up(_) => based(sc, used, p, n, ups, false),
     }
 }
 
@@ -289,16 +289,16 @@ fn navigate(
     tab: &[u64],
     b: &[u8],
     ent: &[u64],
-    list: [Scope; 32],
+    sc: &[u64],
     used: usize,
     p: usize,
     n: usize,
     recursive: bool,
 ) -> Evaluated
-    requires { ⌜ Accepted (now s) (now tab) × (length (now b) ≤ 65536) × (0 < used) × (used ≤ 32) × ((t : ℕ) × ScopesStand (now s) (now b) (now ent) list used t) × Holds (row seg n) (bits (now b)) p ⌝ }
-    ensures { λ r. ⌜ ((t : ℕ) → ScopesStand (now (s .entry)) (now (b .entry)) (now (ent .entry)) list used t → Evaluates (now (s .entry)) (now (b .entry)) (now (ent .entry)) t (navigate (json-at (now (s .entry)) 0) (segments-at n (bits (now (b .entry))) p) (blocks-of (now (s .entry)) (now (b .entry)) (now (ent .entry)) list used) recursive) r) ⌝ }
+    requires { ⌜ Accepted (now s) (now tab) × (length (now b) ≤ 65536) × (0 < used) × (used ≤ 32) × ((t : ℕ) × ScopesStand (now s) (now b) (now ent) (scopes-of (now sc)) used t) × Holds (row seg n) (bits (now b)) p × (length (now sc) ≡ 96) ⌝ }
+    ensures { λ r. ⌜ ((t : ℕ) → ScopesStand (now (s .entry)) (now (b .entry)) (now (ent .entry)) (scopes-of (now (sc .entry))) used t → Evaluates (now (s .entry)) (now (b .entry)) (now (ent .entry)) t (navigate (json-at (now (s .entry)) 0) (segments-at n (bits (now (b .entry))) p) (blocks-of (now (s .entry)) (now (b .entry)) (now (ent .entry)) (scopes-of (now (sc .entry))) used) recursive) r) ⌝ }
 {
-    let from = begin(b, ent, list, used, p, n);
+    let from = begin(b, ent, sc, used, p, n);
     let v = from.value;
     let lone = is_lone_name(b, p, n);
     if recursive & lone {
@@ -307,11 +307,11 @@ fn navigate(
     walk(s, tab, b, ent, v, from.place, from.left)
 }
 
-fn local_value(b: &[u8], list: [Scope; 32], used: usize, level: usize, p: usize) -> Evaluated
-    requires { ⌜ (length (now b) ≤ 65536) × (used ≤ 32) × Holds string (bits (now b)) p ⌝ }
-    ensures { λ r. ⌜ ((s : Bytes) (ent : List ℕ) (t : ℕ) → ScopesStand s (now (b .entry)) ent list used t → Evaluates s (now (b .entry)) ent t (got (or-missing (local-at s (now (b .entry)) ent list used level (text-at (bits (now (b .entry))) p)))) r) ⌝ }
+fn local_value(b: &[u8], sc: &[u64], used: usize, level: usize, p: usize) -> Evaluated
+    requires { ⌜ (length (now b) ≤ 65536) × (used ≤ 32) × Holds string (bits (now b)) p × (length (now sc) ≡ 96) ⌝ }
+    ensures { λ r. ⌜ ((s : Bytes) (ent : List ℕ) (t : ℕ) → ScopesStand s (now (b .entry)) ent (scopes-of (now (sc .entry))) used t → Evaluates s (now (b .entry)) ent t (got (or-missing (local-at s (now (b .entry)) ent (scopes-of (now (sc .entry))) used level (text-at (bits (now (b .entry))) p)))) r) ⌝ }
 {
-    let found = scope::local_value(b, list, used, level, p);
+    let found = scope::local_value(b, sc, used, level, p);
     match found {
         Param::Is(w) => Evaluated::Is(w),
         Param::Nothing => Evaluated::Is(Value::Missing),
@@ -324,17 +324,17 @@ pub fn evaluate2(
     tab: &[u64],
     b: &[u8],
     ent: &[u64],
-    list: [Scope; 32],
+    sc: &[u64],
     used: usize,
     recursive: bool,
     p: usize,
 ) -> Evaluated
-    requires { ⌜ Accepted (now s) (now tab) × (length (now b) ≤ 65536) × (0 < used) × (used ≤ 32) × ((t : ℕ) × ScopesStand (now s) (now b) (now ent) list used t) × Holds path (bits (now b)) p ⌝ }
-    ensures { λ r. ⌜ ((g : Registry) (st : RenderContext) (t : ℕ) → g .plan ≡ json-at (now (s .entry)) 0 → g .options .recursive-lookup ≡ recursive → blocks st ≡ blocks-of (now (s .entry)) (now (b .entry)) (now (ent .entry)) list used → ScopesStand (now (s .entry)) (now (b .entry)) (now (ent .entry)) list used t → Evaluates (now (s .entry)) (now (b .entry)) (now (ent .entry)) t (evaluate2 g st (path-at (bits (now (b .entry))) p)) r) ⌝ }
+    requires { ⌜ Accepted (now s) (now tab) × (length (now b) ≤ 65536) × (0 < used) × (used ≤ 32) × ((t : ℕ) × ScopesStand (now s) (now b) (now ent) (scopes-of (now sc)) used t) × Holds path (bits (now b)) p × (length (now sc) ≡ 96) ⌝ }
+    ensures { λ r. ⌜ ((g : Registry) (st : RenderContext) (t : ℕ) → g .plan ≡ json-at (now (s .entry)) 0 → g .options .recursive-lookup ≡ recursive → blocks st ≡ blocks-of (now (s .entry)) (now (b .entry)) (now (ent .entry)) (scopes-of (now (sc .entry))) used → ScopesStand (now (s .entry)) (now (b .entry)) (now (ent .entry)) (scopes-of (now (sc .entry))) used t → Evaluates (now (s .entry)) (now (b .entry)) (now (ent .entry)) t (evaluate2 g st (path-at (bits (now (b .entry))) p)) r) ⌝ }
 {
     let path = parts::path_at(b, p);
     match path {
-        Path::Relative(n, q) => navigate(s, tab, b, ent, list, used, q, n as usize, recursive),
-        Path::Local(level, q) => local_value(b, list, used, level as usize, q),
+        Path::Relative(n, q) => navigate(s, tab, b, ent, sc, used, q, n as usize, recursive),
+        Path::Local(level, q) => local_value(b, sc, used, level as usize, q),
     }
 }

@@ -21,6 +21,7 @@ ghost use Rattle.places.specs.Accepted.{Accepted};
 ghost use Rattle.text.specs.Rest.{rest, Stands};
 ghost use Rattle.meaning.specs.Forms.{Known};
 ghost use Rattle.meaning.specs.Means.{Means};
+ghost use Rattle.scope.specs.Words.{scopes-of};
 ghost use Rattle.scope.specs.Standing.{ScopesStand};
 ghost use Rattle.context.specs.Evaluated.{present};
 ghost use Rattle.expand.specs.Answers.{Setting, Expands, Names, ExpandsAll, ExpandsHash, IsTemplate, ExpandedHeld, helper-of, written, in-scope, unless-strict, Calls, Finishes, joined, first-of, gathered, zero-or, GotKnown, Paired};
@@ -28,7 +29,6 @@ use calls::Parameter;
 use context::Evaluated;
 use lookup::Found;
 use meaning::Form;
-use scope::Scope;
 use text::Step;
 use text::Text;
 use value::Value;
@@ -258,15 +258,15 @@ fn path_value(
     tab: &[u64],
     b: &[u8],
     ent: &[u64],
-    list: [Scope; 32],
+    sc: &[u64],
     used: usize,
     options: Options,
     p: usize,
 ) -> Got
-    requires { ⌜ Accepted (now s) (now tab) × (length (now b) ≤ 65536) × (0 < used) × (used ≤ 32) × ((t : ℕ) × ScopesStand (now s) (now b) (now ent) list used t) × Holds path (bits (now b)) p ⌝ }
-    ensures { λ r. ⌜ ((g : Registry) (st : RenderContext) (t : ℕ) → Setting (now (s .entry)) (now (b .entry)) (now (ent .entry)) list used options g st t → Expands (now (s .entry)) (now (b .entry)) (now (ent .entry)) t (rules.evaluate2 g st (path-at (bits (now (b .entry))) p)) r) ⌝ }
+    requires { ⌜ Accepted (now s) (now tab) × (length (now b) ≤ 65536) × (0 < used) × (used ≤ 32) × ((t : ℕ) × ScopesStand (now s) (now b) (now ent) (scopes-of (now sc)) used t) × Holds path (bits (now b)) p × (length (now sc) ≡ 96) ⌝ }
+    ensures { λ r. ⌜ ((g : Registry) (st : RenderContext) (t : ℕ) → Setting (now (s .entry)) (now (b .entry)) (now (ent .entry)) (scopes-of (now (sc .entry))) used options g st t → Expands (now (s .entry)) (now (b .entry)) (now (ent .entry)) t (rules.evaluate2 g st (path-at (bits (now (b .entry))) p)) r) ⌝ }
 {
-    let found = context::evaluate2(s, tab, b, ent, list, used, options.recursive_lookup, p);
+    let found = context::evaluate2(s, tab, b, ent, sc, used, options.recursive_lookup, p);
     match found {
         Evaluated::Is(v) => Got::Is(v),
         Evaluated::BadIndex => Got::Bad(20),
@@ -366,15 +366,15 @@ fn expand_all(
     tab: &[u64],
     b: &[u8],
     ent: &[u64],
-    list: [Scope; 32],
+    sc: &[u64],
     used: usize,
     options: Options,
     p: usize,
     n: u64,
     d: usize,
 ) -> Params
-    requires { ⌜ Accepted (now s) (now tab) × (length (now b) ≤ 65536) × (0 < used) × (used ≤ 32) × ((t : ℕ) × ScopesStand (now s) (now b) (now ent) list used t) × (n < 16) × Holds (row (param d) n) (bits (now b)) p ⌝ }
-    ensures { λ r. ⌜ ((g : Registry) (st : RenderContext) (t : ℕ) → Setting (now (s .entry)) (now (b .entry)) (now (ent .entry)) list used options g st t → ExpandsAll (now (s .entry)) (now (b .entry)) (now (ent .entry)) t n (rules.expand-all g st (params-at d n (bits (now (b .entry))) p)) r) ⌝ }
+    requires { ⌜ Accepted (now s) (now tab) × (length (now b) ≤ 65536) × (0 < used) × (used ≤ 32) × ((t : ℕ) × ScopesStand (now s) (now b) (now ent) (scopes-of (now sc)) used t) × (n < 16) × Holds (row (param d) n) (bits (now b)) p × (length (now sc) ≡ 96) ⌝ }
+    ensures { λ r. ⌜ ((g : Registry) (st : RenderContext) (t : ℕ) → Setting (now (s .entry)) (now (b .entry)) (now (ent .entry)) (scopes-of (now (sc .entry))) used options g st t → ExpandsAll (now (s .entry)) (now (b .entry)) (now (ent .entry)) t n (rules.expand-all g st (params-at d n (bits (now (b .entry))) p)) r) ⌝ }
 {
     if n == 0 {
         return Params {
@@ -383,9 +383,9 @@ fn expand_all(
             bad: 0,
         };
     }
-    let r = expand(s, tab, b, ent, list, used, options, p, d);
+    let r = expand(s, tab, b, ent, sc, used, options, p, d);
     let next = calls::skip_param(b, p, d);
-    let rest = expand_all(s, tab, b, ent, list, used, options, next, n - 1, d);
+    let rest = expand_all(s, tab, b, ent, sc, used, options, next, n - 1, d);
     joined(r, rest)
 }
 
@@ -394,15 +394,15 @@ fn expand_hash(
     tab: &[u64],
     b: &[u8],
     ent: &[u64],
-    list: [Scope; 32],
+    sc: &[u64],
     used: usize,
     options: Options,
     p: usize,
     n: u64,
     d: usize,
 ) -> Hash
-    requires { ⌜ Accepted (now s) (now tab) × (length (now b) ≤ 65536) × (0 < used) × (used ≤ 32) × ((t : ℕ) × ScopesStand (now s) (now b) (now ent) list used t) × (n < 16) × Holds (row (string then param d) n) (bits (now b)) p ⌝ }
-    ensures { λ r. ⌜ ((g : Registry) (st : RenderContext) (t : ℕ) → Setting (now (s .entry)) (now (b .entry)) (now (ent .entry)) list used options g st t → ExpandsHash (rules.expand-hash g st (hash-at d n (bits (now (b .entry))) p)) r) ⌝ }
+    requires { ⌜ Accepted (now s) (now tab) × (length (now b) ≤ 65536) × (0 < used) × (used ≤ 32) × ((t : ℕ) × ScopesStand (now s) (now b) (now ent) (scopes-of (now sc)) used t) × (n < 16) × Holds (row (string then param d) n) (bits (now b)) p × (length (now sc) ≡ 96) ⌝ }
+    ensures { λ r. ⌜ ((g : Registry) (st : RenderContext) (t : ℕ) → Setting (now (s .entry)) (now (b .entry)) (now (ent .entry)) (scopes-of (now (sc .entry))) used options g st t → ExpandsHash (rules.expand-hash g st (hash-at d n (bits (now (b .entry))) p)) r) ⌝ }
 {
     if n == 0 {
         return Hash {
@@ -411,9 +411,9 @@ fn expand_hash(
         };
     }
     let q = parts::skip_string(b, p);
-    let r = expand(s, tab, b, ent, list, used, options, q, d);
+    let r = expand(s, tab, b, ent, sc, used, options, q, d);
     let next = calls::skip_param(b, q, d);
-    let rest = expand_hash(s, tab, b, ent, list, used, options, next, n - 1, d);
+    let rest = expand_hash(s, tab, b, ent, sc, used, options, next, n - 1, d);
     paired(s, tab, b, p, r, rest)
 }
 
@@ -423,19 +423,19 @@ pub fn try_from_template(
     tab: &[u64],
     b: &[u8],
     ent: &[u64],
-    list: [Scope; 32],
+    sc: &[u64],
     used: usize,
     options: Options,
     p: usize,
     d: usize,
 ) -> Expanded
-    requires { ⌜ Accepted (now s) (now tab) × (length (now b) ≤ 65536) × (0 < used) × (used ≤ 32) × ((t : ℕ) × ScopesStand (now s) (now b) (now ent) list used t) × Holds (call-of (param d)) (bits (now b)) p ⌝ }
-    ensures { λ r. ⌜ ((g : Registry) (st : RenderContext) (t : ℕ) → Setting (now (s .entry)) (now (b .entry)) (now (ent .entry)) list used options g st t → IsTemplate (now (s .entry)) (now (b .entry)) (now (ent .entry)) t (rules.try-from-template g st (call-at d (bits (now (b .entry))) p)) r) ⌝ }
+    requires { ⌜ Accepted (now s) (now tab) × (length (now b) ≤ 65536) × (0 < used) × (used ≤ 32) × ((t : ℕ) × ScopesStand (now s) (now b) (now ent) (scopes-of (now sc)) used t) × Holds (call-of (param d)) (bits (now b)) p × (length (now sc) ≡ 96) ⌝ }
+    ensures { λ r. ⌜ ((g : Registry) (st : RenderContext) (t : ℕ) → Setting (now (s .entry)) (now (b .entry)) (now (ent .entry)) (scopes-of (now (sc .entry))) used options g st t → IsTemplate (now (s .entry)) (now (b .entry)) (now (ent .entry)) t (rules.try-from-template g st (call-at d (bits (now (b .entry))) p)) r) ⌝ }
 {
     let c = calls::call_at(b, p, d);
-    let name = expand_as_name(s, tab, b, ent, list, used, options, p, d);
-    let ps = expand_all(s, tab, b, ent, list, used, options, c.param, c.params, d);
-    let hs = expand_hash(s, tab, b, ent, list, used, options, c.pair, c.pairs, d);
+    let name = expand_as_name(s, tab, b, ent, sc, used, options, p, d);
+    let ps = expand_all(s, tab, b, ent, sc, used, options, c.param, c.params, d);
+    let hs = expand_hash(s, tab, b, ent, sc, used, options, c.pair, c.pairs, d);
     gathered(name, c.params, ps, hs)
 }
 
@@ -445,22 +445,22 @@ pub fn expand(
     tab: &[u64],
     b: &[u8],
     ent: &[u64],
-    list: [Scope; 32],
+    sc: &[u64],
     used: usize,
     options: Options,
     p: usize,
     d: usize,
 ) -> Got
-    requires { ⌜ Accepted (now s) (now tab) × (length (now b) ≤ 65536) × (0 < used) × (used ≤ 32) × ((t : ℕ) × ScopesStand (now s) (now b) (now ent) list used t) × Holds (param d) (bits (now b)) p ⌝ }
-    ensures { λ r. ⌜ ((g : Registry) (st : RenderContext) (t : ℕ) → Setting (now (s .entry)) (now (b .entry)) (now (ent .entry)) list used options g st t → Expands (now (s .entry)) (now (b .entry)) (now (ent .entry)) t (rules.expand g st (param-at d (bits (now (b .entry))) p)) r) ⌝ }
+    requires { ⌜ Accepted (now s) (now tab) × (length (now b) ≤ 65536) × (0 < used) × (used ≤ 32) × ((t : ℕ) × ScopesStand (now s) (now b) (now ent) (scopes-of (now sc)) used t) × Holds (param d) (bits (now b)) p × (length (now sc) ≡ 96) ⌝ }
+    ensures { λ r. ⌜ ((g : Registry) (st : RenderContext) (t : ℕ) → Setting (now (s .entry)) (now (b .entry)) (now (ent .entry)) (scopes-of (now (sc .entry))) used options g st t → Expands (now (s .entry)) (now (b .entry)) (now (ent .entry)) t (rules.expand g st (param-at d (bits (now (b .entry))) p)) r) ⌝ }
 {
     let x = calls::param_at(b, p);
     match x {
         Parameter::Name(_) => Got::Is(Value::Missing),
-        Parameter::Path(q) => path_value(s, tab, b, ent, list, used, options, q),
+        Parameter::Path(q) => path_value(s, tab, b, ent, sc, used, options, q),
         Parameter::Literal(q) => Got::Is(Value::Literal(q)),
         Parameter::Subexpression(q) => {
-            let w = try_from_template(s, tab, b, ent, list, used, options, q, d - 1);
+            let w = try_from_template(s, tab, b, ent, sc, used, options, q, d - 1);
             finished(s, tab, b, ent, used, options, w)
         }
     }
@@ -472,14 +472,14 @@ pub fn expand_as_name(
     tab: &[u64],
     b: &[u8],
     ent: &[u64],
-    list: [Scope; 32],
+    sc: &[u64],
     used: usize,
     options: Options,
     p: usize,
     d: usize,
 ) -> Got
-    requires { ⌜ Accepted (now s) (now tab) × (length (now b) ≤ 65536) × (0 < used) × (used ≤ 32) × ((t : ℕ) × ScopesStand (now s) (now b) (now ent) list used t) × Holds (param d) (bits (now b)) p ⌝ }
-    ensures { λ r. ⌜ ((g : Registry) (st : RenderContext) (t : ℕ) → Setting (now (s .entry)) (now (b .entry)) (now (ent .entry)) list used options g st t → Names (now (s .entry)) (now (b .entry)) (now (ent .entry)) t (rules.expand-as-name g st (param-at d (bits (now (b .entry))) p)) r) ⌝ }
+    requires { ⌜ Accepted (now s) (now tab) × (length (now b) ≤ 65536) × (0 < used) × (used ≤ 32) × ((t : ℕ) × ScopesStand (now s) (now b) (now ent) (scopes-of (now sc)) used t) × Holds (param d) (bits (now b)) p × (length (now sc) ≡ 96) ⌝ }
+    ensures { λ r. ⌜ ((g : Registry) (st : RenderContext) (t : ℕ) → Setting (now (s .entry)) (now (b .entry)) (now (ent .entry)) (scopes-of (now (sc .entry))) used options g st t → Names (now (s .entry)) (now (b .entry)) (now (ent .entry)) t (rules.expand-as-name g st (param-at d (bits (now (b .entry))) p)) r) ⌝ }
 {
     let x = calls::param_at(b, p);
     match x {
@@ -487,7 +487,7 @@ pub fn expand_as_name(
         Parameter::Path(q) => Got::Is(Value::Text(q)),
         Parameter::Literal(q) => Got::Is(Value::Literal(q)),
         Parameter::Subexpression(q) => {
-            let w = try_from_template(s, tab, b, ent, list, used, options, q, d - 1);
+            let w = try_from_template(s, tab, b, ent, sc, used, options, q, d - 1);
             finished(s, tab, b, ent, used, options, w)
         }
     }

@@ -17,7 +17,7 @@ use Rattle.meaning.specs.Forms.{Known}
 use Rattle.expand.specs.declared.Options.{Options}
 use Rattle.helpers.specs.declared.Does.{Does}
 use Rattle.helpers.specs.declared.Does.the-variants.{Write}
-use Rattle.state.specs.declared.RenderContext.{RenderContext}
+use Rattle.state.specs.Context.{RenderContext}
 use Rattle.state.specs.World.{world, Ready}
 use Rattle.drawing.specs.Renders.{Possible, Helped}
 

@@ -33,7 +33,7 @@ use Rattle.helpers.specs.declared.Shows.the-variants as shows
 use Rattle.helpers.specs.Does.{Expresses}
 use Rattle.helpers.proofs.Does.{the-type as does-type}
 use Rattle.writing.specs.Writes.{Writes}
-use Rattle.state.specs.declared.RenderContext.{RenderContext}
+use Rattle.state.specs.Context.{RenderContext}
 use Rattle.state.specs.Setters.{failed, marked, finished, with-escape}
 use Rattle.state.specs.World.{World, world, over, top, abs, Ready, Draws}
 use Rattle.state.specs.Laws.{draws-nothing}

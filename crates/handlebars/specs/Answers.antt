@@ -16,7 +16,7 @@ use Rattle.rules.specs.Error.{number}
 use Rattle.rules.specs.State.{Res}
 use Rattle.rules.specs.Call.{answer, line-of, column-of}
 use Rattle.output.specs.Outputs.{so-far}
-use Rattle.state.specs.declared.RenderContext.{RenderContext}
+use Rattle.state.specs.Context.{RenderContext}
 use Rattle.state.specs.Setters.{fresh}
 use Rattle.state.specs.World.{world, outputs-of, name-at, reason-of, position-of, error-of, Drawn, Draws}
 use Rattle.handlebars.specs.declared.Answer.{Answer}

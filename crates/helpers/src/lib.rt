@@ -23,6 +23,7 @@ ghost use Rattle.calls.specs.Calls.{param-at, call-at};
 ghost use Rattle.places.specs.Accepted.{Accepted};
 ghost use Rattle.meaning.specs.Forms.{Known};
 ghost use Rattle.meaning.specs.Means.{Means};
+ghost use Rattle.scope.specs.Words.{scopes-of};
 ghost use Rattle.scope.specs.Standing.{ScopesStand};
 ghost use Rattle.expand.specs.Answers.{Setting, ExpandedHeld};
 ghost use Rattle.helpers.specs.Does.{has, Helping, Decides, Expresses, unless-strict, inverse, in-scope, branch, truth, is-collection, shown, rendered};
@@ -32,7 +33,6 @@ use expand::HelperDef;
 use expand::Options;
 use lookup::Found;
 use meaning::Form;
-use scope::Scope;
 use value::Value;
 
 // What a helper does.
@@ -311,19 +311,19 @@ pub fn expression(
     tab: &[u64],
     b: &[u8],
     ent: &[u64],
-    list: [Scope; 32],
+    sc: &[u64],
     used: usize,
     options: Options,
     p: usize,
     d: usize,
 ) -> Shows
-    requires { ⌜ Accepted (now s) (now tab) × (length (now b) ≤ 65536) × (0 < used) × (used ≤ 32) × ((t : ℕ) × ScopesStand (now s) (now b) (now ent) list used t) × Holds (call-of (param d)) (bits (now b)) p ⌝ }
-    ensures { λ r. ⌜ ((g : Registry) (st : RenderContext) (t : ℕ) (ibw : Bool) → Setting (now (s .entry)) (now (b .entry)) (now (ent .entry)) list used options g st t → Expresses (now (s .entry)) (now (b .entry)) (now (ent .entry)) t g (call-at d (bits (now (b .entry))) p) ibw st (render-expression g (call-at d (bits (now (b .entry))) p) ibw st) r) ⌝ }
+    requires { ⌜ Accepted (now s) (now tab) × (length (now b) ≤ 65536) × (0 < used) × (used ≤ 32) × ((t : ℕ) × ScopesStand (now s) (now b) (now ent) (scopes-of (now sc)) used t) × Holds (call-of (param d)) (bits (now b)) p × (length (now sc) ≡ 96) ⌝ }
+    ensures { λ r. ⌜ ((g : Registry) (st : RenderContext) (t : ℕ) (ibw : Bool) → Setting (now (s .entry)) (now (b .entry)) (now (ent .entry)) (scopes-of (now (sc .entry))) used options g st t → Expresses (now (s .entry)) (now (b .entry)) (now (ent .entry)) t g (call-at d (bits (now (b .entry))) p) ibw st (render-expression g (call-at d (bits (now (b .entry))) p) ibw st) r) ⌝ }
 {
     if !name_only(b, p, d) {
         return Shows::Helper;
     }
-    let name = expand::expand_as_name(s, tab, b, ent, list, used, options, p, d);
+    let name = expand::expand_as_name(s, tab, b, ent, sc, used, options, p, d);
     match name {
         Got::Bad(n) => Shows::Bad(n),
         Got::Is(v) => {
@@ -332,7 +332,7 @@ pub fn expression(
             }
             rendered(
                 options.strict,
-                expand::expand(s, tab, b, ent, list, used, options, p, d),
+                expand::expand(s, tab, b, ent, sc, used, options, p, d),
             )
         }
     }

@@ -24,7 +24,7 @@ use Rattle.meaning.specs.Meaning.{json-of, scoped-of}
 use Rattle.members.specs.Turns.{each-turns}
 use Rattle.blocks.specs.Opened.{with-scope, newest}
 use Rattle.expand.specs.declared.Options.{Options}
-use Rattle.state.specs.declared.RenderContext.{RenderContext}
+use Rattle.state.specs.Context.{RenderContext}
 use Rattle.state.specs.Setters.{with-template, settled, pushed, finished, finished-within}
 use Rattle.state.specs.World.{World}
 use Rattle.drawing.specs.Renders.{Renders, Openable, body-rule}

@@ -14,7 +14,7 @@ use Rattle.calls.specs.Calls.{call-at}
 use Rattle.template.specs.Views.{body-says}
 use Rattle.expand.specs.declared.Options.{Options}
 use Rattle.helpers.specs.declared.Does.{Does}
-use Rattle.state.specs.declared.RenderContext.{RenderContext}
+use Rattle.state.specs.Context.{RenderContext}
 use Rattle.state.specs.Setters.{marked, finished}
 use Rattle.state.specs.World.{World, world, over, Ready}
 use Rattle.drawing.specs.Parts.{before-helper}

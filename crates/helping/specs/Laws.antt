@@ -48,7 +48,7 @@ use Rattle.helpers.specs.declared.Does.{Does}
 use Rattle.helpers.specs.declared.Does.the-variants as does
 use Rattle.helpers.specs.Does.{Fails, Decides, has}
 use Rattle.writing.specs.Writes.{Writes}
-use Rattle.state.specs.declared.RenderContext.{RenderContext}
+use Rattle.state.specs.Context.{RenderContext}
 use Rattle.state.specs.Setters.{failed, marked, settled, with-template, pushed, closed, finished, finished-within}
 use Rattle.state.specs.World.{World, world, over, front, top, abs, Ready, Draws}
 use Rattle.state.specs.Laws.{draws-nothing, draws-refused}

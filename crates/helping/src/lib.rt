@@ -15,6 +15,7 @@ ghost use Rattle.state.specs.World.{world, Ready};
 ghost use Rattle.inlining.specs.Decorated.{SomeReady};
 ghost use Rattle.drawing.specs.Parts.{before-helper};
 ghost use Rattle.blocks.specs.Opened.{Opens};
+ghost use Rattle.state.specs.Context.{whole};
 ghost use Rattle.helping.specs.Begun.{done, body-next, within-next, turns-next, HelperBegun};
 ghost use Rattle.helping.specs.Decided.{Decided};
 use expand::Options;
@@ -30,6 +31,7 @@ pub fn decide(
     tab: &[u64],
     b: &[u8],
     ent: &[u64],
+    sc: &[u64],
     options: Options,
     p: usize,
     template: Maybe,
@@ -37,11 +39,10 @@ pub fn decide(
     d: usize,
     rc: RenderContext,
 ) -> Does
-    requires { ⌜ Accepted (now s) (now tab) × (length (now b) ≤ 65536) × SomeReady (now s) (now b) rc (now ent) × Holds (call-of (param d)) (bits (now b)) p ⌝ }
-    ensures { λ r. ⌜ Decided (now (s .entry)) (now (b .entry)) (now (ent .entry)) options rc d p template inverse r ⌝ }
+    requires { ⌜ Accepted (now s) (now tab) × (length (now b) ≤ 65536) × SomeReady (now s) (now b) (whole rc (now sc)) (now ent) × Holds (call-of (param d)) (bits (now b)) p × (length (now sc) ≡ 96) ⌝ }
+    ensures { λ r. ⌜ Decided (now (s .entry)) (now (b .entry)) (now (ent .entry)) options (whole rc (now (sc .entry))) d p template inverse r ⌝ }
 {
-    let list = rc.scopes;
-    let w = expand::try_from_template(s, tab, b, ent, list, rc.used, options, p, d);
+    let w = expand::try_from_template(s, tab, b, ent, sc, rc.used, options, p, d);
     if w.bad != 0 {
         return Does::Bad(w.bad);
     }
@@ -67,7 +68,7 @@ fn before_helper(w: Writer, before: bool) -> bool
 
 // The marks in front of a helper.
 pub fn begin_helper(rc: RenderContext, before: bool) -> RenderContext
-    ensures { λ r. ⌜ r ≡ marked rc (before-helper (rc .writer) before) ⌝ }
+    ensures { λ r. ⌜ ((l : List ℕ) → whole r l ≡ marked (whole rc l) (before-helper (rc .writer) before)) ⌝ }
 {
     let w = rc.writer;
     state::begin_aware(rc, before_helper(w, before))
@@ -91,7 +92,7 @@ pub struct Begun {
 }
 
 fn done(rc: RenderContext) -> Begun
-    ensures { λ r. ⌜ r ≡ done rc ⌝ }
+    ensures { λ r. ⌜ ((l : List ℕ) → whole-begun r l ≡ done (whole rc l)) ⌝ }
 {
     Begun {
         rc,
@@ -101,7 +102,7 @@ fn done(rc: RenderContext) -> Begun
 
 // A body of the element, if it has it; a body has no name.
 fn body_next(m: Maybe, rc: RenderContext, before: Writer) -> Begun
-    ensures { λ r. ⌜ r ≡ body-next m rc before ⌝ }
+    ensures { λ r. ⌜ ((l : List ℕ) → whole-begun r l ≡ body-next m (whole rc l) before) ⌝ }
 {
     match m {
         Maybe::At(p) => {
@@ -115,14 +116,22 @@ fn body_next(m: Maybe, rc: RenderContext, before: Writer) -> Begun
 }
 
 // The template of `with`, in a scope of the value; without a template the scope is opened and closed again.
-fn within_next(b: &[u8], at: usize, m: Maybe, v: Value, rc: RenderContext, before: Writer) -> Begun
-    requires { ⌜ (length (now b) ≤ 65536) × Holds block-names (bits (now b)) at × Opens rc v ⌝ }
-    ensures { λ r. ⌜ r ≡ within-next (bits (now (b .entry))) at m v rc before ⌝ }
+fn within_next(
+    b: &[u8],
+    sc: &mut [u64],
+    at: usize,
+    m: Maybe,
+    v: Value,
+    rc: RenderContext,
+    before: Writer,
+) -> Begun
+    requires { ⌜ (length (now b) ≤ 65536) × Holds block-names (bits (now b)) at × Opens (whole rc (now sc)) v × (length (now sc) ≡ 96) ⌝ }
+    ensures { λ r. ⌜ whole-begun r (now (sc .exit)) ≡ within-next (bits (now (b .entry))) at m v (whole rc (now (sc .entry))) before ⌝ }
 {
     let Maybe::At(p) = m else {
         return done(state::settle(rc, before));
     };
-    let q = blocks::open_with(b, at, v, rc);
+    let q = blocks::open_with(b, sc, at, v, rc);
     Begun {
         rc: state::set_current_template_name(q, 0),
         next: Next::Within(p),
@@ -130,7 +139,7 @@ fn within_next(b: &[u8], at: usize, m: Maybe, v: Value, rc: RenderContext, befor
 }
 
 fn turns_next(m: Maybe, v: Value, rc: RenderContext, before: Writer) -> Begun
-    ensures { λ r. ⌜ r ≡ turns-next m v rc before ⌝ }
+    ensures { λ r. ⌜ ((l : List ℕ) → whole-begun r l ≡ turns-next m v (whole rc l) before) ⌝ }
 {
     match m {
         Maybe::At(p) => {
@@ -152,6 +161,7 @@ pub fn begin(
     page: &mut [u8],
     texts: &mut [u8],
     indent: &[u8],
+    sc: &mut [u64],
     options: Options,
     p: usize,
     at: usize,
@@ -161,10 +171,10 @@ pub fn begin(
     d: usize,
     rc: RenderContext,
 ) -> Begun
-    requires { ⌜ Accepted (now s) (now tab) × (length (now b) ≤ 65536) × Ready (now s) (now b) (world rc (now page) (now texts) (now indent) (now ent)) × Holds (call-of (param d)) (bits (now b)) p × Holds block-names (bits (now b)) at × MaybeHolds (body 16 d) (bits (now b)) template × MaybeHolds (body 16 d) (bits (now b)) inverse ⌝ }
-    ensures { λ r. ⌜ HelperBegun (now (s .entry)) (now (b .entry)) options (world rc (now (page .entry)) (now (texts .entry)) (now (indent .entry)) (now (ent .entry))) (world (r .rc) (now (page .exit)) (now (texts .exit)) (now (indent .entry)) (now (ent .entry))) d p at template inverse before (r .next) ⌝ }
+    requires { ⌜ Accepted (now s) (now tab) × (length (now b) ≤ 65536) × Ready (now s) (now b) (world (whole rc (now sc)) (now page) (now texts) (now indent) (now ent)) × Holds (call-of (param d)) (bits (now b)) p × Holds block-names (bits (now b)) at × MaybeHolds (body 16 d) (bits (now b)) template × MaybeHolds (body 16 d) (bits (now b)) inverse × (length (now sc) ≡ 96) ⌝ }
+    ensures { λ r. ⌜ HelperBegun (now (s .entry)) (now (b .entry)) options (world (whole rc (now (sc .entry))) (now (page .entry)) (now (texts .entry)) (now (indent .entry)) (now (ent .entry))) (world (whole (r .rc) (now (sc .exit))) (now (page .exit)) (now (texts .exit)) (now (indent .entry)) (now (ent .entry))) d p at template inverse before (r .next) ⌝ }
 {
-    let does = decide(s, tab, b, ent, options, p, template, inverse, d, rc);
+    let does = decide(s, tab, b, ent, sc, options, p, template, inverse, d, rc);
     let marks = rc.writer;
     let q = begin_helper(rc, before);
     match does {
@@ -172,7 +182,7 @@ pub fn begin(
         Does::Nothing => done(state::settle(q, marks)),
         Does::Template => body_next(template, q, marks),
         Does::Inverse => body_next(inverse, q, marks),
-        Does::Within(v) => within_next(b, at, template, v, q, marks),
+        Does::Within(v) => within_next(b, sc, at, template, v, q, marks),
         Does::Turns(v) => turns_next(template, v, q, marks),
         Does::Write(v) => done(state::finish(
             writing::value(page, texts, indent, s, tab, b, v, q),

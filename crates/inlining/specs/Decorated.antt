@@ -25,7 +25,7 @@ use Rattle.expand.specs.declared.Options.{Options}
 use Rattle.decorators.specs.declared.Inlined.{Inlined}
 use Rattle.decorators.specs.declared.Inlined.the-variants.{Bad, New, Again}
 use Rattle.decorators.specs.Inlined.{newest}
-use Rattle.state.specs.declared.RenderContext.{RenderContext}
+use Rattle.state.specs.Context.{RenderContext}
 use Rattle.state.specs.Setters.{failed, with-scopes}
 use Rattle.state.specs.World.{world, abs, Ready, Draws}
 

@@ -18,7 +18,7 @@ use Rattle.scope.specs.Standing.{ScopesStand}
 use Rattle.scope.specs.Made.{with-count}
 use Rattle.scope.specs.InlineLaws.{size-is}
 use Rattle.decorators.specs.Defined.{Holding, scopes-defined, blocks-defined}
-use Rattle.state.specs.declared.RenderContext.{RenderContext}
+use Rattle.state.specs.Context.{RenderContext}
 use Rattle.state.specs.Setters.{with-scopes}
 use Rattle.state.specs.World.{World, world, outputs-of, front, top, text-on, stack-of, sizes-of, abs, Ready, Goes}
 use Rattle.state.specs.Laws.{grows-none}

@@ -46,7 +46,7 @@ use Rattle.decorators.specs.declared.Inlined.the-variants.{Bad, New, Again}
 use Rattle.decorators.specs.Indents.{own, OwnStands}
 use Rattle.decorators.specs.Inlined.{has-body, Defines, InlinedIs, Inlining, Inlines}
 use Rattle.decorators.specs.Defined.{Holding, body-at, holds-new, holds-again}
-use Rattle.state.specs.declared.RenderContext.{RenderContext}
+use Rattle.state.specs.Context.{RenderContext}
 use Rattle.state.specs.Setters.{failed}
 use Rattle.state.specs.World.{World, world, over, front, top, abs, Ready, Goes, Draws}
 use Rattle.state.specs.Laws.{draws-fail}

@@ -11,6 +11,7 @@ ghost use Rattle.parts.specs.Says.{MaybeHolds};
 ghost use Rattle.places.specs.Accepted.{Accepted};
 ghost use Rattle.value.specs.Numbers.{encoded};
 ghost use Rattle.entries.specs.Stored.{stored};
+ghost use Rattle.state.specs.Context.{whole};
 ghost use Rattle.inlining.specs.Decorated.{is-at, place-of, with-body, end-of, one-more, NewFits, context-after, entries-after, Keepable, SomeReady, Leaves, Decorates};
 use decorators::Inlined;
 use expand::Options;
@@ -51,25 +52,39 @@ fn with_body(x: Inlined, has_body: bool) -> Inlined
 }
 
 // An inline partial more, behind the entries in use: v is its name, q the place of its body, which has d depths.
-fn add_partial(ent: &mut [u64], rc: RenderContext, v: Value, d: usize, q: usize) -> RenderContext
-    requires { ⌜ NewFits (now ent) rc v × (d ≤ 16) ⌝ }
-    ensures { λ r. ⌜ (r ≡ one-more rc) × (now (ent .exit) ≡ stored (now (ent .entry)) (end-of rc) (encoded v) d q) ⌝ }
+fn add_partial(
+    ent: &mut [u64],
+    sc: &mut [u64],
+    rc: RenderContext,
+    v: Value,
+    d: usize,
+    q: usize,
+) -> RenderContext
+    requires { ⌜ NewFits (now ent) (whole rc (now sc)) v × (d ≤ 16) × (length (now sc) ≡ 96) ⌝ }
+    ensures { λ r. ⌜ ((whole r (now (sc .exit))) ≡ one-more (whole rc (now (sc .entry)))) × (now (ent .exit) ≡ stored (now (ent .entry)) (end-of (whole rc (now (sc .entry)))) (encoded v) d q) ⌝ }
 {
-    let c = state::front(rc);
+    let c = state::front(sc, rc);
     let k = c.inline + c.count;
     decorators::set_local_partial(ent, k as usize, value::encode(v), d, q);
-    let more = state::set_block(rc, scope::with_count(c, c.count + 1));
+    let more = state::set_block(sc, rc, scope::with_count(c, c.count + 1));
     state::set_total(more, rc.total + 1)
 }
 
 // What `inline` answered is done.
-fn keep_partial(ent: &mut [u64], rc: RenderContext, x: Inlined, d: usize, q: usize) -> RenderContext
-    requires { ⌜ Keepable (now ent) rc x × (d ≤ 16) ⌝ }
-    ensures { λ r. ⌜ (r ≡ context-after rc x) × (now (ent .exit) ≡ entries-after rc (now (ent .entry)) d q x) ⌝ }
+fn keep_partial(
+    ent: &mut [u64],
+    sc: &mut [u64],
+    rc: RenderContext,
+    x: Inlined,
+    d: usize,
+    q: usize,
+) -> RenderContext
+    requires { ⌜ Keepable (now ent) (whole rc (now sc)) x × (d ≤ 16) × (length (now sc) ≡ 96) ⌝ }
+    ensures { λ r. ⌜ ((whole r (now (sc .exit))) ≡ context-after (whole rc (now (sc .entry))) x) × (now (ent .exit) ≡ entries-after (whole rc (now (sc .entry))) (now (ent .entry)) d q x) ⌝ }
 {
     match x {
         Inlined::Bad(n) => state::failed(rc, n),
-        Inlined::New(v) => add_partial(ent, rc, v, d, q),
+        Inlined::New(v) => add_partial(ent, sc, rc, v, d, q),
         Inlined::Again(k, _) => {
             // the entry keeps its name
             let name = entries::low(ent, k);
@@ -85,6 +100,7 @@ pub fn eval_decorator(
     tab: &[u64],
     b: &[u8],
     ent: &mut [u64],
+    sc: &mut [u64],
     options: Options,
     p: usize,
     body: Maybe,
@@ -92,11 +108,10 @@ pub fn eval_decorator(
     d: usize,
     rc: RenderContext,
 ) -> RenderContext
-    requires { ⌜ Accepted (now s) (now tab) × (length (now b) ≤ 65536) × SomeReady (now s) (now b) rc (now ent) × (d ≤ 16) × Holds (call-of (param d)) (bits (now b)) p × MaybeHolds (bundle.body 16 d) (bits (now b)) body × MaybeHolds string (bits (now b)) at ⌝ }
-    ensures { λ r. ⌜ Leaves rc r (now (ent .entry)) (now (ent .exit)) d body × Decorates (now (s .entry)) (now (b .entry)) rc r (now (ent .entry)) (now (ent .exit)) options p body at d ⌝ }
+    requires { ⌜ Accepted (now s) (now tab) × (length (now b) ≤ 65536) × SomeReady (now s) (now b) (whole rc (now sc)) (now ent) × (d ≤ 16) × Holds (call-of (param d)) (bits (now b)) p × MaybeHolds (bundle.body 16 d) (bits (now b)) body × MaybeHolds string (bits (now b)) at × (length (now sc) ≡ 96) ⌝ }
+    ensures { λ r. ⌜ Leaves (whole rc (now (sc .entry))) (whole r (now (sc .exit))) (now (ent .entry)) (now (ent .exit)) d body × Decorates (now (s .entry)) (now (b .entry)) (whole rc (now (sc .entry))) (whole r (now (sc .exit))) (now (ent .entry)) (now (ent .exit)) options p body at d ⌝ }
 {
-    let list = rc.scopes;
-    let w = expand::try_from_template(s, tab, b, ent, list, rc.used, options, p, d);
+    let w = expand::try_from_template(s, tab, b, ent, sc, rc.used, options, p, d);
     if w.bad != 0 {
         return state::failed(rc, w.bad);
     }
@@ -112,7 +127,7 @@ pub fn eval_decorator(
         return state::failed(rc, 15);
     }
     let has = is_at(body);
-    let x = decorators::inline(s, tab, b, ent, list, rc.used, rc.total, w, has);
+    let x = decorators::inline(s, tab, b, ent, sc, rc.used, rc.total, w, has);
     let y = with_body(x, has);
-    keep_partial(ent, rc, y, d, place_of(body))
+    keep_partial(ent, sc, rc, y, d, place_of(body))
 }

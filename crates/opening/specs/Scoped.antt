@@ -44,7 +44,7 @@ use Rattle.including.specs.PairsLaws.{call-pairs-stand}
 use Rattle.including.specs.Starting.{StartsPartial, GivesContext}
 use Rattle.including.specs.Included.{included, entries-of}
 use Rattle.including.specs.Including.{pairs-fit, Includes, includes}
-use Rattle.state.specs.declared.RenderContext.{RenderContext}
+use Rattle.state.specs.Context.{RenderContext}
 use Rattle.state.specs.Setters.{failed, counted, pushed, unless-bad}
 use Rattle.state.specs.World.{World, world, over, front, top, abs, Ready, Draws}
 use Rattle.state.specs.Steps.{Within, blocks-abs}

@@ -14,7 +14,7 @@ use Rattle.rules.specs.Partial.{Rendering}
 use Rattle.parts.specs.declared.Maybe.{Maybe}
 use Rattle.parts.specs.declared.Maybe.the-variants.{Nothing}
 use Rattle.expand.specs.declared.Options.{Options}
-use Rattle.state.specs.declared.RenderContext.{RenderContext}
+use Rattle.state.specs.Context.{RenderContext}
 use Rattle.state.specs.World.{World, world}
 use Rattle.texts.specs.Setters.{concluded}
 use Rattle.drawing.specs.Renders.{Renders}

@@ -33,7 +33,7 @@ use Rattle.scope.specs.Made.{child}
 use Rattle.scope.specs.MadeLaws.{child-is}
 use Rattle.settings.specs.Settings.{roots-stand}
 use Rattle.expand.specs.declared.Options.{Options}
-use Rattle.state.specs.declared.RenderContext.{RenderContext}
+use Rattle.state.specs.Context.{RenderContext}
 use Rattle.state.specs.Setters.{fresh, with-template}
 use Rattle.state.specs.World.{World, world, over, outputs-of, name-at, abs, Ready, Draws}
 use Rattle.state.specs.Laws.{draws-from}

@@ -7,7 +7,7 @@ use Rattle.rules.specs.Registry.{Registry}
 use Rattle.rules.specs.Partial.{Rendering}
 use Rattle.parts.specs.declared.Maybe.{Maybe}
 use Rattle.expand.specs.declared.Options.{Options}
-use Rattle.state.specs.declared.RenderContext.{RenderContext}
+use Rattle.state.specs.Context.{RenderContext}
 use Rattle.state.specs.World.{World, world}
 use Rattle.drawing.specs.Renders.{Renders}
 use Rattle.beginning.specs.Opened.{TextBegun}

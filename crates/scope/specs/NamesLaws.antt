@@ -231,11 +231,10 @@ module _ (s b : Bytes) (ent : List ℕ) where
 
   -- one turn of the loop over scopes, from i scopes to one less: found is what the scope has
   module _ (l : List Scope) (i n t : ℕ) (k : Bytes) (found : Param) (lt : 0 < i) (le : i ≤ n) (st : ScopesStand s b ent l n t)
-      (d : Scope) (x : ScopeStands s b ent (getD l (i - 1) d) → ParamIs s b ent (getD l (i - 1) d .inline) (own-param s b ent (getD l (i - 1) d) k) found) where
+      (d : Scope) (here : d ≡ getD l (i - 1) blank) (x : ScopeStands s b ent d → ParamIs s b ent (d .inline) (own-param s b ent d k) found) where
     turned : ParamIs s b ent (getD l (i - 1) blank .inline) (own-param s b ent (getD l (i - 1) blank) k) found
     turned =
-        subst (λ (c : Scope). ScopeStands s b ent c → ParamIs s b ent (c .inline) (own-param s b ent c k) found) (getD-any l (i - 1) d blank (omega (arith, st .room))) x
-        (st .each (i - 1) (omega arith))
+        subst (λ (c : Scope). ScopeStands s b ent c → ParamIs s b ent (c .inline) (own-param s b ent c k) found) here x (st .each (i - 1) (omega arith))
 
     pub turn-found : (w : Value) → found ≡ Is w → ParamIs s b ent t (get-in-block-params (blocks-of s b ent l i) k) (Is w)
     turn-found w e =
@@ -343,11 +342,10 @@ module _ (s b : Bytes) (ent : List ℕ) where
     pub no-local : n ≤ level → LocalIs s b ent t (local-at s b ent l n level k) Nothing
     no-local le = rw (no-block-at l n level le) tt
 
-    pub local-found : (d : Scope) (r : Param) → level < n → ScopesStand s b ent l n t → getD l (n - 1 - level) d .index < 65536 → r ≡ local-variable (getD l (n - 1 - level) d) k
+    pub local-found : (d : Scope) (r : Param) → level < n → ScopesStand s b ent l n t → d ≡ getD l (n - 1 - level) blank → d .index < 65536 → r ≡ local-variable d k
         → LocalIs s b ent t (local-at s b ent l n level k) r
-    local-found d r lt st small e =
+    local-found d r lt st f small e =
         let i : ℕ = n - 1 - level in
-        let f : getD l i d ≡ getD l i blank = getD-any l i d blank (omega (arith, st .room)) in
         rw (block-at l n level lt, e, f)
         (local-is (getD l i blank) t (omega (arith, st .within i (omega arith))) (st .each i (omega arith)) (subst (λ (c : Scope). c .index < 65536) f small) k)
 
@@ -368,12 +366,12 @@ pub own-settled : (b : Bytes) (ent : List ℕ) (c : Scope) (k : Bytes) (n : ℕ)
     → (r ≡ param-of b ent c k) × ((s : Bytes) → ScopeStands s b ent c → ParamIs s b ent (c .inline) (own-param s b ent c k) r)
 own-settled b ent c k n lt e r f = (f ∙ ap (param-by b ent c k) (sym e), λ s st. own-is s b ent c st k n lt e r f)
 
-module _ (b : Bytes) (ent : List ℕ) (l : List Scope) (k : Bytes) (i : ℕ) (d : Scope) (pos : 0 < i) (le : i ≤ length l) (r : Param) (own : r ≡ param-of b ent (getD l (i - 1) d) k) where
+module _ (b : Bytes) (ent : List ℕ) (l : List Scope) (k : Bytes) (i : ℕ) (d : Scope) (pos : 0 < i) (here : d ≡ getD l (i - 1) blank) (r : Param) (own : r ≡ param-of b ent d k) where
   pub first-own : first-param b ent l k i ≡ or-param r (first-param b ent l k (i - 1))
   unfolding first-param
   first-own =
       let x : i ≡ suc (i - 1) = omega arith in
-      let f = own ∙ ap (λ (c : Scope). param-of b ent c k) (getD-any l (i - 1) d blank (omega arith)) in
+      let f = own ∙ ap (λ (c : Scope). param-of b ent c k) here in
       ap (first-param b ent l k) x ∙ ap (λ (z : Param). or-param z (first-param b ent l k (i - 1))) (sym f)
 
   pub first-found : (w : Value) → r ≡ Is w → Is w ≡ first-param b ent l k i
@@ -386,5 +384,5 @@ module _ (l : List Scope) (n level : ℕ) (k : Bytes) where
   pub no-local-param : n ≤ level → Nothing ≡ local-param l n level k
   no-local-param le = rw (le-leb n level le)
 
-  pub local-param-is : (d : Scope) (r : Param) → level < n → n ≤ length l → r ≡ local-variable (getD l (n - 1 - level) d) k → r ≡ local-param l n level k
-  local-param-is d r lt le e = rw (lt-leb n level lt) (e ∙ ap (λ (c : Scope). local-variable c k) (getD-any l (n - 1 - level) d blank (omega arith)))
+  pub local-param-is : (d : Scope) (r : Param) → level < n → d ≡ getD l (n - 1 - level) blank → r ≡ local-variable d k → r ≡ local-param l n level k
+  local-param-is d r lt here e = rw (lt-leb n level lt) (e ∙ ap (λ (c : Scope). local-variable c k) here)

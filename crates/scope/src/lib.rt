@@ -1,8 +1,8 @@
-// block.rs, local_vars.rs and the part of context.rs that reads them: a scope as a record of numbers. The stack of scopes is an array by value.
+// block.rs, local_vars.rs and the part of context.rs that reads them: a scope as a record of numbers. The stack of scopes lies in a lent buffer of 96 words, three a scope: to hand it on by value would copy all of it at every call.
 ghost use mathlib.Core.Path.{_≡_};
 ghost use mathlib.Core.List.{List};
 ghost use Prim.Native.Nat.{ℕ, _≤_, _<_};
-ghost use lib.ListN.{length, getD};
+ghost use lib.ListN.{length, getD, set, replicate};
 ghost use Rattle.rules.specs.Bytes.{Bytes, same, pick};
 ghost use Rattle.rules.specs.Bits.{bits};
 ghost use Rattle.rules.specs.Bundle.{string};
@@ -12,6 +12,7 @@ ghost use Rattle.rules.specs.Context.{get-in-block-params};
 ghost use Rattle.scope.specs.Scopes.{blank, blocks-of};
 ghost use Rattle.scope.specs.Standing.{NamesStand, ScopeStands, ScopesStand};
 ghost use Rattle.scope.specs.Names.{Readable, AllReadable, HashReadable, without-path, hash-param, second-value, one-param, two-params, own-param, param-of, first-param, ParamIs, level-place, flag, local-key, local-variable, local-param, local-at, LocalIs};
+ghost use Rattle.scope.specs.Words.{scopes-of, first-word, second-word, small-part, third-word};
 ghost use Rattle.scope.specs.Made.{child, with-names, with-locals, with-count, turned};
 use value::Value;
 
@@ -42,6 +43,66 @@ pub struct Scope {
 pub enum Param {
     Is(Value),
     Nothing,
+}
+
+// The i-th scope of the buffer. specs/Words says how one is kept.
+pub fn scope_at(sc: &[u64], i: usize) -> Scope
+    requires { ⌜ (length (now sc) ≡ 96) × (i < 32) ⌝ }
+    ensures { λ r. ⌜ r ≡ getD (scopes-of (now (sc .entry))) i blank ⌝ }
+{
+    let v = sc[3 * i];
+    let w = sc[3 * i + 1];
+    let x = sc[3 * i + 2];
+    Scope {
+        base: (v % 4294967296) as u32,
+        names: (v / 4294967296 % 4294967296) as u32,
+        key: (w % 4294967296) as u32,
+        index: (w / 4294967296 % 65536) as u16,
+        inline: (w / 281474976710656 % 65536) as u16,
+        count: (x % 65536) as u16,
+        text: (x / 65536 % 65536) as u16,
+        kind: (x / 4294967296 % 256) as u8,
+        locals: (x / 1099511627776 % 256) as u8,
+        block: (x / 281474976710656 % 256) as u8,
+    }
+}
+
+// One scope as words. Each says how large its numbers are: that they come out again rests on it.
+fn first_word(c: Scope) -> u64
+    ensures { λ r. ⌜ (r ≡ first-word c) × (c .base < 4294967296) × (c .names < 4294967296) ⌝ }
+{
+    (c.base as u64) + 4294967296 * (c.names as u64)
+}
+
+fn second_word(c: Scope) -> u64
+    ensures { λ r. ⌜ (r ≡ second-word c) × (c .key < 4294967296) × (c .index < 65536) × (c .inline < 65536) ⌝ }
+{
+    (c.key as u64) + 4294967296 * (c.index as u64) + 281474976710656 * (c.inline as u64)
+}
+
+fn small_part(c: Scope) -> u64
+    ensures { λ r. ⌜ (r ≡ small-part c) × (c .kind < 256) × (c .locals < 256) × (c .block < 256) ⌝ }
+{
+    (c.kind as u64) + 256 * (c.locals as u64) + 65536 * (c.block as u64)
+}
+
+fn third_word(c: Scope) -> u64
+    ensures { λ r. ⌜ (r ≡ third-word c) × (c .count < 65536) × (c .text < 65536) × (c .kind < 256) × (c .locals < 256) × (c .block < 256) ⌝ }
+{
+    let small = small_part(c);
+    (c.count as u64) + 65536 * (c.text as u64) + 4294967296 * small
+}
+
+pub fn put_scope(sc: &mut [u64], i: usize, c: Scope)
+    requires { ⌜ (length (now sc) ≡ 96) × (i < 32) ⌝ }
+    ensures { λ _. ⌜ scopes-of (now (sc .exit)) ≡ set (scopes-of (now (sc .entry))) i c ⌝ }
+{
+    let v = first_word(c);
+    let w = second_word(c);
+    let x = third_word(c);
+    sc[3 * i] = v;
+    sc[3 * i + 1] = w;
+    sc[3 * i + 2] = x;
 }
 
 // A value without its path: what is missing is null.
@@ -137,14 +198,14 @@ pub fn block_param(b: &[u8], ent: &[u64], c: Scope, p: usize) -> Param
 }
 
 // From the newest scope on.
-pub fn get_in_block_params(b: &[u8], ent: &[u64], list: [Scope; 32], used: usize, p: usize) -> Param
-    requires { ⌜ (length (now b) ≤ 65536) × Holds string (bits (now b)) p × (used ≤ 32) × AllReadable (now b) (now ent) list used ⌝ }
-    ensures { λ r. ⌜ (r ≡ first-param (now (b .entry)) (now (ent .entry)) list (text-at (bits (now (b .entry))) p) used) × ((s : Bytes) (t : ℕ) → ScopesStand s (now (b .entry)) (now (ent .entry)) list used t → ParamIs s (now (b .entry)) (now (ent .entry)) t (get-in-block-params (blocks-of s (now (b .entry)) (now (ent .entry)) list used) (text-at (bits (now (b .entry))) p)) r) ⌝ }
+pub fn get_in_block_params(b: &[u8], ent: &[u64], sc: &[u64], used: usize, p: usize) -> Param
+    requires { ⌜ (length (now b) ≤ 65536) × Holds string (bits (now b)) p × (used ≤ 32) × AllReadable (now b) (now ent) (scopes-of (now sc)) used × (length (now sc) ≡ 96) ⌝ }
+    ensures { λ r. ⌜ (r ≡ first-param (now (b .entry)) (now (ent .entry)) (scopes-of (now (sc .entry))) (text-at (bits (now (b .entry))) p) used) × ((s : Bytes) (t : ℕ) → ScopesStand s (now (b .entry)) (now (ent .entry)) (scopes-of (now (sc .entry))) used t → ParamIs s (now (b .entry)) (now (ent .entry)) t (get-in-block-params (blocks-of s (now (b .entry)) (now (ent .entry)) (scopes-of (now (sc .entry))) used) (text-at (bits (now (b .entry))) p)) r) ⌝ }
 {
     let mut i = used;
     while 0 < i {
         i -= 1;
-        let c = list[i];
+        let c = scope_at(sc, i);
         let found = block_param(b, ent, c, p);
         if let Param::Is(w) = found {
             return Param::Is(w);
@@ -154,14 +215,14 @@ pub fn get_in_block_params(b: &[u8], ent: &[u64], list: [Scope; 32], used: usize
 }
 
 // The k-th scope from the newest on, or the newest where there are not so many.
-pub fn get_or_front(list: [Scope; 32], used: usize, k: usize) -> Scope
-    requires { ⌜ (0 < used) × (used ≤ 32) ⌝ }
-    ensures { λ r. ⌜ r ≡ getD list (level-place used k) blank ⌝ }
+pub fn get_or_front(sc: &[u64], used: usize, k: usize) -> Scope
+    requires { ⌜ (0 < used) × (used ≤ 32) × (length (now sc) ≡ 96) ⌝ }
+    ensures { λ r. ⌜ r ≡ getD (scopes-of (now (sc .entry))) (level-place used k) blank ⌝ }
 {
     if k < used {
-        return list[used - 1 - k];
+        return scope_at(sc, used - 1 - k);
     }
-    list[used - 1]
+    scope_at(sc, used - 1)
 }
 
 fn flag(yes: bool) -> Value
@@ -209,14 +270,14 @@ fn local_variable(b: &[u8], c: Scope, p: usize) -> Param
 }
 
 // `evaluate2` of a local path: the string at p names a local variable of the scope at a level.
-pub fn local_value(b: &[u8], list: [Scope; 32], used: usize, level: usize, p: usize) -> Param
-    requires { ⌜ (p ≤ 524288) × (used ≤ 32) ⌝ }
-    ensures { λ r. ⌜ (r ≡ local-param list used level (text-at (bits (now (b .entry))) p)) × ((s : Bytes) (ent : List ℕ) (t : ℕ) → ScopesStand s (now (b .entry)) ent list used t → LocalIs s (now (b .entry)) ent t (local-at s (now (b .entry)) ent list used level (text-at (bits (now (b .entry))) p)) r) ⌝ }
+pub fn local_value(b: &[u8], sc: &[u64], used: usize, level: usize, p: usize) -> Param
+    requires { ⌜ (p ≤ 524288) × (used ≤ 32) × (length (now sc) ≡ 96) ⌝ }
+    ensures { λ r. ⌜ (r ≡ local-param (scopes-of (now (sc .entry))) used level (text-at (bits (now (b .entry))) p)) × ((s : Bytes) (ent : List ℕ) (t : ℕ) → ScopesStand s (now (b .entry)) ent (scopes-of (now (sc .entry))) used t → LocalIs s (now (b .entry)) ent t (local-at s (now (b .entry)) ent (scopes-of (now (sc .entry))) used level (text-at (bits (now (b .entry))) p)) r) ⌝ }
 {
     if used <= level {
         return Param::Nothing;
     }
-    local_variable(b, list[used - 1 - level], p)
+    local_variable(b, scope_at(sc, used - 1 - level), p)
 }
 
 // A new scope with its base; its inline partials start at an entry.
@@ -295,4 +356,17 @@ pub fn turn(
     r.index = index as u16;
     r.locals = 1 + weight(first, 1) + weight(last, 2) + weight(object, 4);
     r
+}
+
+// The buffer of a call that begins: its first scope, and each that is not yet open, is the whole plan.
+pub fn begin(sc: &mut [u64])
+    requires { ⌜ length (now sc) ≡ 96 ⌝ }
+    ensures { λ _. ⌜ scopes-of (now (sc .exit)) ≡ replicate 32 blank ⌝ }
+{
+    let c = child(5, 0);
+    let mut i: usize = 0;
+    while i < 32 {
+        put_scope(sc, i, c);
+        i += 1;
+    }
 }

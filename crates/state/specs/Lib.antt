@@ -1,3 +1,4 @@
+pub mod Context
 pub mod Setters
 pub mod World
 pub mod Laws

@@ -9,7 +9,7 @@ use Rattle.output.specs.declared.Writer.{Writer}
 use Rattle.output.specs.Writer as writer
 use Rattle.scope.specs.declared.Scope.{Scope}
 use Rattle.scope.specs.Scopes.{blank}
-use Rattle.state.specs.declared.RenderContext.{RenderContext}
+use Rattle.state.specs.Context.{RenderContext}
 
 abbrev pub fresh : RenderContext
 fresh = record { scopes = replicate 32 blank; used = 1; writer = writer.fresh; total = 0; template = 0; named = 0; line = 0; column = 0; bad = 0; placed = false; «disable_escape» = false }

@@ -21,7 +21,7 @@ use Rattle.scope.specs.declared.Scope.{Scope}
 use Rattle.scope.specs.Scopes.{blank, partials-of, context-of, blocks-of}
 use Rattle.scope.specs.Standing.{ScopesStand}
 use Rattle.scope.specs.Made.{with-count}
-use Rattle.state.specs.declared.RenderContext.{RenderContext}
+use Rattle.state.specs.Context.{RenderContext}
 
 pub record World : Type 0 where
   pub rc : RenderContext

@@ -1,17 +1,19 @@
-// render.rs: `RenderContext`. It goes by value; each function here changes one part of it, as the Rust does.
+// render.rs: `RenderContext`. It goes by value, and its scopes lie in a lent buffer (`scope`); each function here changes one part of it, as the Rust does.
 ghost use mathlib.Core.Path.{_≡_};
-ghost use Prim.Native.Nat.{_-_, _≤_, _<_};
+ghost use Prim.Native.Nat.{ℕ, _-_, _≤_, _<_};
 ghost use lib.Dec.{eqb};
+ghost use mathlib.Core.List.{List};
 ghost use lib.ListN.{length, getD};
 ghost use Rattle.rules.specs.Bytes.{pick};
 ghost use Rattle.scope.specs.Scopes.{blank};
+ghost use Rattle.scope.specs.Words.{scopes-of};
+ghost use Rattle.state.specs.Context.{whole};
 ghost use Rattle.state.specs.Setters.{fresh, failed, located, with-escape, with-template, with-writer, wrote, with-marks, marked, settled-marks, settled, pushed, turned, counted, closed, finished, finished-within, finished-named};
 use output::Writer;
 use scope::Scope;
 
 pub struct RenderContext {
-    // the open scopes, the newest last
-    pub scopes: [Scope; 32],
+    // how many scopes are open; they lie in a lent buffer, the newest last
     pub used: usize,
     pub writer: Writer,
     // the entries that merged objects and inline partials of open scopes take (limit 22)
@@ -28,13 +30,12 @@ pub struct RenderContext {
 }
 
 // The context that a call starts with: one scope, the whole plan.
-pub fn new() -> RenderContext
-    ensures { λ r. ⌜ r ≡ fresh ⌝ }
+pub fn new(sc: &mut [u64]) -> RenderContext
+    requires { ⌜ length (now sc) ≡ 96 ⌝ }
+    ensures { λ r. ⌜ whole r (now (sc .exit)) ≡ fresh ⌝ }
 {
-    let first = scope::child(5, 0);
-    let list = [first; 32];
+    scope::begin(sc);
     RenderContext {
-        scopes: list,
         used: 1,
         writer: output::new(),
         total: 0,
@@ -49,7 +50,7 @@ pub fn new() -> RenderContext
 }
 
 pub fn failed(rc: RenderContext, n: u8) -> RenderContext
-    ensures { λ r. ⌜ r ≡ failed rc n ⌝ }
+    ensures { λ r. ⌜ ((l : List ℕ) → whole r l ≡ failed (whole rc l) n) ⌝ }
 {
     let mut q = rc;
     q.bad = n;
@@ -76,7 +77,7 @@ fn chosen(yes: bool, x: u64, y: u64) -> u64
 
 // An error that has no position or no template name yet gets them.
 pub fn located(rc: RenderContext, name: usize, line: u64, column: u64) -> RenderContext
-    ensures { λ r. ⌜ r ≡ located rc name line column ⌝ }
+    ensures { λ r. ⌜ ((l : List ℕ) → whole r l ≡ located (whole rc l) name line column) ⌝ }
 {
     let mut q = rc;
     q.named = first_of(q.named, name);
@@ -87,7 +88,7 @@ pub fn located(rc: RenderContext, name: usize, line: u64, column: u64) -> Render
 }
 
 pub fn set_disable_escape(rc: RenderContext, yes: bool) -> RenderContext
-    ensures { λ r. ⌜ r ≡ with-escape rc yes ⌝ }
+    ensures { λ r. ⌜ ((l : List ℕ) → whole r l ≡ with-escape (whole rc l) yes) ⌝ }
 {
     let mut q = rc;
     q.disable_escape = yes;
@@ -95,7 +96,7 @@ pub fn set_disable_escape(rc: RenderContext, yes: bool) -> RenderContext
 }
 
 pub fn set_current_template_name(rc: RenderContext, name: usize) -> RenderContext
-    ensures { λ r. ⌜ r ≡ with-template rc name ⌝ }
+    ensures { λ r. ⌜ ((l : List ℕ) → whole r l ≡ with-template (whole rc l) name) ⌝ }
 {
     let mut q = rc;
     q.template = name;
@@ -103,7 +104,7 @@ pub fn set_current_template_name(rc: RenderContext, name: usize) -> RenderContex
 }
 
 pub fn set_writer(rc: RenderContext, w: Writer) -> RenderContext
-    ensures { λ r. ⌜ r ≡ with-writer rc w ⌝ }
+    ensures { λ r. ⌜ ((l : List ℕ) → whole r l ≡ with-writer (whole rc l) w) ⌝ }
 {
     let mut q = rc;
     q.writer = w;
@@ -121,7 +122,7 @@ fn full_number(block_text: bool) -> u8
 
 // A writer that has written; what does not fit is 24 in a block text and 25 on the page.
 pub fn wrote(rc: RenderContext, w: Writer) -> RenderContext
-    ensures { λ r. ⌜ r ≡ wrote rc w ⌝ }
+    ensures { λ r. ⌜ ((l : List ℕ) → whole r l ≡ wrote (whole rc l) w) ⌝ }
 {
     let mut q = rc;
     q.writer = w;
@@ -142,7 +143,7 @@ fn with_marks(w: Writer, produced: bool, before: bool) -> Writer
 
 // The marks in front of a helper or a partial.
 pub fn begin_aware(rc: RenderContext, indent_before_write: bool) -> RenderContext
-    ensures { λ r. ⌜ r ≡ marked rc «indent_before_write» ⌝ }
+    ensures { λ r. ⌜ ((l : List ℕ) → whole r l ≡ marked (whole rc l) «indent_before_write») ⌝ }
 {
     let mut q = rc;
     q.writer = with_marks(q.writer, false, indent_before_write);
@@ -160,45 +161,42 @@ fn settle_marks(w: Writer, before: Writer) -> Writer
 
 // The marks behind it; before holds those from in front.
 pub fn settle(rc: RenderContext, before: Writer) -> RenderContext
-    ensures { λ r. ⌜ r ≡ settled rc before ⌝ }
+    ensures { λ r. ⌜ ((l : List ℕ) → whole r l ≡ settled (whole rc l) before) ⌝ }
 {
     let mut q = rc;
     q.writer = settle_marks(q.writer, before);
     q
 }
 
-pub fn front(rc: RenderContext) -> Scope
-    requires { ⌜ (0 < rc .used) × (rc .used ≤ 32) × (length (rc .scopes) ≡ 32) ⌝ }
-    ensures { λ r. ⌜ r ≡ getD (rc .scopes) (rc .used - 1) blank ⌝ }
+pub fn front(sc: &[u64], rc: RenderContext) -> Scope
+    requires { ⌜ (length (now sc) ≡ 96) × (0 < rc .used) × (rc .used ≤ 32) ⌝ }
+    ensures { λ r. ⌜ r ≡ getD (scopes-of (now (sc .entry))) (rc .used - 1) blank ⌝ }
 {
-    let n = rc.used - 1;
-    rc.scopes[n]
+    scope::scope_at(sc, rc.used - 1)
 }
 
-pub fn push_block(rc: RenderContext, c: Scope) -> RenderContext
-    requires { ⌜ rc .used < 32 ⌝ }
-    ensures { λ r. ⌜ r ≡ pushed rc c ⌝ }
+pub fn push_block(sc: &mut [u64], rc: RenderContext, c: Scope) -> RenderContext
+    requires { ⌜ (length (now sc) ≡ 96) × (rc .used < 32) ⌝ }
+    ensures { λ r. ⌜ whole r (now (sc .exit)) ≡ pushed (whole rc (now (sc .entry))) c ⌝ }
 {
+    let n = rc.used;
+    scope::put_scope(sc, n, c);
     let mut q = rc;
-    let n = q.used;
-    q.scopes[n] = c;
     q.used = n + 1;
     q
 }
 
 // The newest scope is another one.
-pub fn set_block(rc: RenderContext, c: Scope) -> RenderContext
-    requires { ⌜ (0 < rc .used) × (rc .used ≤ 32) ⌝ }
-    ensures { λ r. ⌜ r ≡ turned rc c ⌝ }
+pub fn set_block(sc: &mut [u64], rc: RenderContext, c: Scope) -> RenderContext
+    requires { ⌜ (length (now sc) ≡ 96) × (0 < rc .used) × (rc .used ≤ 32) ⌝ }
+    ensures { λ r. ⌜ whole r (now (sc .exit)) ≡ turned (whole rc (now (sc .entry))) c ⌝ }
 {
-    let mut q = rc;
-    let n = q.used - 1;
-    q.scopes[n] = c;
-    q
+    scope::put_scope(sc, rc.used - 1, c);
+    rc
 }
 
 pub fn set_total(rc: RenderContext, total: usize) -> RenderContext
-    ensures { λ r. ⌜ r ≡ counted rc total ⌝ }
+    ensures { λ r. ⌜ ((l : List ℕ) → whole r l ≡ counted (whole rc l) total) ⌝ }
 {
     let mut q = rc;
     q.total = total;
@@ -208,7 +206,7 @@ pub fn set_total(rc: RenderContext, total: usize) -> RenderContext
 // The newest scope is closed; the entries in use are those from before it.
 pub fn pop_block(rc: RenderContext, total: usize) -> RenderContext
     requires { ⌜ 0 < rc .used ⌝ }
-    ensures { λ r. ⌜ r ≡ closed rc total ⌝ }
+    ensures { λ r. ⌜ ((l : List ℕ) → whole r l ≡ closed (whole rc l) total) ⌝ }
 {
     let mut q = rc;
     q.used = q.used - 1;
@@ -218,7 +216,7 @@ pub fn pop_block(rc: RenderContext, total: usize) -> RenderContext
 
 // Behind a block: its marks are settled, unless there is an error. before holds the marks from in front.
 pub fn finish(rc: RenderContext, before: Writer) -> RenderContext
-    ensures { λ r. ⌜ r ≡ finished before rc ⌝ }
+    ensures { λ r. ⌜ ((l : List ℕ) → whole r l ≡ finished before (whole rc l)) ⌝ }
 {
     let mut q = rc;
     if q.bad == 0 {
@@ -230,7 +228,7 @@ pub fn finish(rc: RenderContext, before: Writer) -> RenderContext
 // The same, and the scope of the block is closed; total is the entries in use beneath it.
 pub fn finish_within(rc: RenderContext, total: usize, before: Writer) -> RenderContext
     requires { ⌜ (rc .bad ≡ 0 → 0 < rc .used) ⌝ }
-    ensures { λ r. ⌜ r ≡ finished-within total before rc ⌝ }
+    ensures { λ r. ⌜ ((l : List ℕ) → whole r l ≡ finished-within total before (whole rc l)) ⌝ }
 {
     let mut q = rc;
     if q.bad == 0 {
@@ -243,7 +241,7 @@ pub fn finish_within(rc: RenderContext, total: usize, before: Writer) -> RenderC
 
 // The same, and the current template is again the one from before.
 pub fn finish_named(rc: RenderContext, name: usize, before: Writer) -> RenderContext
-    ensures { λ r. ⌜ r ≡ finished-named name before rc ⌝ }
+    ensures { λ r. ⌜ ((l : List ℕ) → whole r l ≡ finished-named name before (whole rc l)) ⌝ }
 {
     let mut q = rc;
     if q.bad == 0 {

@@ -15,7 +15,7 @@ use Rattle.parts.specs.Says.{MaybeHolds}
 use Rattle.value.specs.declared.Value.{Value}
 use Rattle.expand.specs.declared.Options.{Options}
 use Rattle.expand.specs.declared.Expanded.{Expanded}
-use Rattle.state.specs.declared.RenderContext.{RenderContext}
+use Rattle.state.specs.Context.{RenderContext}
 use Rattle.state.specs.Setters.{failed, with-template, unless-bad}
 use Rattle.state.specs.World.{World, world, over, abs, Ready, Draws}
 use Rattle.texts.specs.declared.Peek.{Peek}

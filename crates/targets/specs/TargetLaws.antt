@@ -35,7 +35,7 @@ use Rattle.expand.specs.Answers.{name-of}
 use Rattle.partials.specs.declared.Found.{Found}
 use Rattle.partials.specs.declared.Found.the-variants as found
 use Rattle.partials.specs.Finding.{FoundIs, drawn, template-name}
-use Rattle.state.specs.declared.RenderContext.{RenderContext}
+use Rattle.state.specs.Context.{RenderContext}
 use Rattle.state.specs.Setters.{failed, with-template, unless-bad}
 use Rattle.state.specs.World.{World, world, over, top, name-at, abs, Ready, Draws}
 use Rattle.state.specs.Laws.{draws-fail, draws-from, draws-stop-after}

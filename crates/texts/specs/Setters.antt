@@ -5,7 +5,7 @@ use lib.ListN.{getD}
 use Rattle.output.specs.declared.Writer.{Writer}
 use Rattle.scope.specs.declared.Scope.{Scope}
 use Rattle.scope.specs.Scopes.{blank}
-use Rattle.state.specs.declared.RenderContext.{RenderContext}
+use Rattle.state.specs.Context.{RenderContext}
 use Rattle.state.specs.Setters.{with-writer, turned, settled, unless-bad}
 
 -- the block texts' two ends, and whether one of them is the output in force

@@ -23,7 +23,7 @@ use Rattle.support.specs.Feed.{begun, finished, all-emitted, escaped, fed-text,
 use Rattle.support.proofs.Agree.{fed-outputs, indent-aware-write-is, fed-grown}
 use Rattle.scope.specs.declared.Scope.{Scope}
 use Rattle.scope.specs.Scopes.{blank}
-use Rattle.state.specs.declared.RenderContext.{RenderContext}
+use Rattle.state.specs.Context.{RenderContext}
 use Rattle.state.specs.Setters.{failed, with-writer, wrote}
 use Rattle.state.specs.World.{World, world, outputs-of, text-on, stack-of, abs, Ready, Grows, Goes, Draws}
 use Rattle.state.specs.Laws.{draws-fail}

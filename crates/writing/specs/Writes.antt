@@ -3,7 +3,7 @@ use mathlib.Core.Path.{_≡_}
 use Rattle.rules.specs.Bytes.{Bytes}
 use Rattle.rules.specs.State.{Draw}
 use Rattle.output.specs.Outputs.{Outputs}
-use Rattle.state.specs.declared.RenderContext.{RenderContext}
+use Rattle.state.specs.Context.{RenderContext}
 use Rattle.state.specs.Setters.{wrote}
 use Rattle.state.specs.World.{World, abs, Ready, Draws}
 

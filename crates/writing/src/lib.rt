@@ -23,6 +23,7 @@ ghost use Rattle.meaning.specs.Standing.{Stands};
 ghost use Rattle.meaning.specs.Forms.{Known};
 ghost use Rattle.meaning.specs.Means.{Means};
 ghost use Rattle.print.specs.Printed.{printed};
+ghost use Rattle.state.specs.Context.{whole};
 ghost use Rattle.state.specs.World.{world};
 ghost use Rattle.writing.specs.Writes.{Wrote, Writes};
 use output::Writer;
@@ -58,8 +59,8 @@ pub fn raw_string(
     rc: RenderContext,
 ) -> RenderContext
     requires { ⌜ (length (now b) ≤ 65536) × Holds string (bits (now b)) p ⌝ }
-    ensures { λ r. ⌜ Wrote rc r (now (page .exit)) (now (texts .exit)) (fed (now (indent .entry)) (text-at (bits (now (b .entry))) p) (outputs (rc .writer) (now (page .entry)) (now (texts .entry)))) ⌝ }
-    ensures { λ r. ⌜ ((s : Bytes) (ent : List ℕ) → Writes s (now (b .entry)) (world rc (now (page .entry)) (now (texts .entry)) (now (indent .entry)) ent) (world r (now (page .exit)) (now (texts .exit)) (now (indent .entry)) ent) (indent-aware-write (text-at (bits (now (b .entry))) p))) ⌝ }
+    ensures { λ r. ⌜ ((l : List ℕ) → Wrote (whole rc l) (whole r l) (now (page .exit)) (now (texts .exit)) (fed (now (indent .entry)) (text-at (bits (now (b .entry))) p) (outputs (rc .writer) (now (page .entry)) (now (texts .entry))))) ⌝ }
+    ensures { λ r. ⌜ ((l : List ℕ) (s : Bytes) (ent : List ℕ) → Writes s (now (b .entry)) (world (whole rc l) (now (page .entry)) (now (texts .entry)) (now (indent .entry)) ent) (world (whole r l) (now (page .exit)) (now (texts .exit)) (now (indent .entry)) ent) (indent-aware-write (text-at (bits (now (b .entry))) p))) ⌝ }
 {
     let t = parts::text_at(b, p);
     let w = support::begin(rc.writer);
@@ -100,8 +101,8 @@ pub fn value(
     rc: RenderContext,
 ) -> RenderContext
     requires { ⌜ Accepted (now s) (now tab) × (length (now b) ≤ 65536) × Known (now s) (now b) v ⌝ }
-    ensures { λ r. ⌜ Means (now (s .entry)) (now (b .entry)) v (λ j. Wrote rc r (now (page .exit)) (now (texts .exit)) (fed (now (indent .entry)) (escaped (not (rc .«disable_escape»)) (render j)) (outputs (rc .writer) (now (page .entry)) (now (texts .entry))))) ⌝ }
-    ensures { λ r. ⌜ ((ent : List ℕ) (t : ℕ) → Stands (now (s .entry)) (now (b .entry)) ent t v → Writes (now (s .entry)) (now (b .entry)) (world rc (now (page .entry)) (now (texts .entry)) (now (indent .entry)) ent) (world r (now (page .exit)) (now (texts .exit)) (now (indent .entry)) ent) (λ x. indent-aware-write (do-escape x (render (json-of (now (s .entry)) (now (b .entry)) ent v))) x)) ⌝ }
+    ensures { λ r. ⌜ Means (now (s .entry)) (now (b .entry)) v (λ j. (l : List ℕ) → Wrote (whole rc l) (whole r l) (now (page .exit)) (now (texts .exit)) (fed (now (indent .entry)) (escaped (not (rc .«disable_escape»)) (render j)) (outputs (rc .writer) (now (page .entry)) (now (texts .entry))))) ⌝ }
+    ensures { λ r. ⌜ ((l : List ℕ) (ent : List ℕ) (t : ℕ) → Stands (now (s .entry)) (now (b .entry)) ent t v → Writes (now (s .entry)) (now (b .entry)) (world (whole rc l) (now (page .entry)) (now (texts .entry)) (now (indent .entry)) ent) (world (whole r l) (now (page .exit)) (now (texts .exit)) (now (indent .entry)) ent) (λ x. indent-aware-write (do-escape x (render (json-of (now (s .entry)) (now (b .entry)) ent v))) x)) ⌝ }
 {
     let w = support::begin(rc.writer);
     let u = feed_value(page, texts, indent, w, s, tab, b, v, !rc.disable_escape);
@@ -117,8 +118,8 @@ pub fn partial_block_text(
     n: usize,
 ) -> RenderContext
     requires { ⌜ (rc .writer .high ≤ from) × (from + n ≤ length (now texts)) ⌝ }
-    ensures { λ r. ⌜ Wrote rc r (now (page .exit)) (now (texts .exit)) (on (all-put (take n (drop from (now (texts .entry))))) (outputs (rc .writer) (now (page .entry)) (now (texts .entry)))) ⌝ }
-    ensures { λ r. ⌜ ((s b indent : Bytes) (ent : List ℕ) → Writes s b (world rc (now (page .entry)) (now (texts .entry)) indent ent) (world r (now (page .exit)) (now (texts .exit)) indent ent) (write (take n (drop from (now (texts .entry)))))) ⌝ }
+    ensures { λ r. ⌜ ((l : List ℕ) → Wrote (whole rc l) (whole r l) (now (page .exit)) (now (texts .exit)) (on (all-put (take n (drop from (now (texts .entry))))) (outputs (rc .writer) (now (page .entry)) (now (texts .entry))))) ⌝ }
+    ensures { λ r. ⌜ ((l : List ℕ) (s b indent : Bytes) (ent : List ℕ) → Writes s b (world (whole rc l) (now (page .entry)) (now (texts .entry)) indent ent) (world (whole r l) (now (page .exit)) (now (texts .exit)) indent ent) (write (take n (drop from (now (texts .entry)))))) ⌝ }
 {
     let w = rc.writer;
     let q = output::write_text(page, texts, w, from, n);

@@ -11,7 +11,7 @@ use Rattle.drawing.specs.Renders.{registry-of}
 use Rattle.drawing.specs.Parts.{before-partial}
 use Rattle.state.specs.World.{World, world, over, top, abs, Ready, Draws, sizes-of}
 use Rattle.state.specs.Setters.{failed, marked, finished, with-template}
-use Rattle.state.specs.declared.RenderContext.{RenderContext}
+use Rattle.state.specs.Context.{RenderContext}
 use Rattle.inlining.specs.Rule.{own-stands}
 use Rattle.rules.specs.Output.{write}
 use Rattle.rules.specs.Bits.{bits}

@@ -1,7 +1,7 @@
 use Rattle.drawing.specs.Enclosed.{own-says}
 use Rattle.texts.specs.Setters.{indented}
 use Rattle.state.specs.Setters.{with-template}
-use Rattle.state.specs.declared.RenderContext.{RenderContext}
+use Rattle.state.specs.Context.{RenderContext}
 use Rattle.inlining.specs.Rule.{own-stands}
 use Rattle.decorators.specs.Indents.{bytes-of}
 use Rattle.rules.specs.State.{text-size}

@@ -1,5 +1,5 @@
 use Rattle.beginning.specs.Opened.{body-context, body-buffer, BodyFits}
-use Rattle.state.specs.declared.RenderContext.{RenderContext}
+use Rattle.state.specs.Context.{RenderContext}
 use Rattle.rules.specs.Bits.{bits}
 use lib.ListN.{length}
 use mathlib.Core.Path.{_∙_, ap, sym, subst}

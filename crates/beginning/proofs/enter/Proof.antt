@@ -5,7 +5,7 @@ use Rattle.beginning.specs.declared.Begun.{Begun}
 use Rattle.texts.specs.Setters.{text-opened, without-text}
 use Rattle.state.specs.World.{World, world}
 use Rattle.state.specs.Setters.{with-template}
-use Rattle.state.specs.declared.RenderContext.{RenderContext}
+use Rattle.state.specs.Context.{RenderContext}
 use Rattle.parts.specs.declared.Maybe.the-variants.{At, Nothing}
 use Rattle.parts.specs.declared.Maybe.{Maybe}
 use Rattle.rules.specs.Bits.{bits}

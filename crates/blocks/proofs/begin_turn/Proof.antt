@@ -1,5 +1,6 @@
+use Rattle.state.specs.Context.{whole}
 use Rattle.state.specs.Setters as set
-use Rattle.state.specs.declared.RenderContext.{RenderContext}
+use Rattle.state.specs.Context.{RenderContext}
 use Rattle.scope.specs.Made.{turned}
 use Rattle.scope.specs.declared.Scope.{Scope}
 use Rattle.value.specs.Numbers.{encoded}
@@ -31,9 +32,12 @@ set-block-requires c κs = search needs
 set-current-template-name-requires : tie.Need-set-current-template-name-requires
 set-current-template-name-requires c κs = search needs
 
+same-length : tie.Need-same-length
+same-length c = search needs
+
 -- src/lib.rt:96:1
 returns : tie.Need-returns
-returns c = (c .set-current-template-name) .ensures ∙ ap (λ (x : RenderContext). set.with-template x 0) ((c .before .set-block) .ensures ∙ ap (set.turned ((c .before .before .before .before .args) .rc)) ((c .before .before .turn-scope) .ensures ∙ ap (λ (x : Scope). turned x (encoded ((c .before .before .before .before .args) .item)) (encoded ((c .before .before .before .before .args) .key)) ((c .before .before .before .before .args) .k) (eqb ((c .before .before .before .before .args) .k) 0) ((c .before .before .before .before .args) .last) ((c .before .before .before .before .args) .object)) ((c .before .before .before .front) .ensures)))
+returns c = (c .set-current-template-name) .ensures _ ∙ ap (λ (x : RenderContext). set.with-template x 0) ((c .before .before .before .set-block) .ensures ∙ ap (set.turned (whole ((c .before .before .before .before .before .before .before .before .before .args) .rc) ((c .before .before .before .before .before .before .before .before .before .args) .sc .now))) ((c .before .before .before .before .before .turn-scope) .ensures ∙ ap (λ (x : Scope). turned x (encoded ((c .before .before .before .before .before .before .before .before .before .args) .item)) (encoded ((c .before .before .before .before .before .before .before .before .before .args) .key)) ((c .before .before .before .before .before .before .before .before .before .args) .k) (eqb ((c .before .before .before .before .before .before .before .before .before .args) .k) 0) ((c .before .before .before .before .before .before .before .before .before .args) .last) ((c .before .before .before .before .before .before .before .before .before .args) .object)) ((c .before .before .before .before .before .before .front) .ensures)))
 
 pub begin-turn-spec : {M : Type 1} → statement M
 begin-turn-spec =
@@ -43,4 +47,5 @@ begin-turn-spec =
     turn-scope-requires
     set-block-requires
     set-current-template-name-requires
+    same-length
     returns)

@@ -17,10 +17,10 @@ enum-told : tie.Need-enum-told
 enum-told c = search needs
 
 returns : tie.Need-returns
-returns c = let z = c .before .before .before .before .before .before .before .before in λ g st t h. subst (Evaluates (z .args .s .now) (z .args .b .now) (z .args .ent .now) t _) (c .before .found .given .1) (c .before .before .before .evaluate2 .ensures g st t (h .plan) (h .recursive) (h .open-scopes) (h .stand))
+returns c = let z = c .before .before .before .before .before .before .before .before .before in λ g st t h. subst (Evaluates (z .args .s .now) (z .args .b .now) (z .args .ent .now) t _) (c .before .found .given .1) (c .before .before .before .evaluate2 .ensures g st t (h .plan) (h .recursive) (h .open-scopes) (h .stand))
 
 returns-2 : tie.Need-returns-2
-returns-2 c = let z = c .before .before .before .before .before .before .before in λ g st t h. refuse-is invalid-json-index _ (subst (Evaluates (z .args .s .now) (z .args .b .now) (z .args .ent .now) t _) (c .enum-told .given .1) (c .before .before .evaluate2 .ensures g st t (h .plan) (h .recursive) (h .open-scopes) (h .stand)))
+returns-2 c = let z = c .before .before .before .before .before .before .before .before in λ g st t h. refuse-is invalid-json-index _ (subst (Evaluates (z .args .s .now) (z .args .b .now) (z .args .ent .now) t _) (c .enum-told .given .1) (c .before .before .evaluate2 .ensures g st t (h .plan) (h .recursive) (h .open-scopes) (h .stand)))
 
 pub path-value-spec : {M : Type 1} → statement M
 path-value-spec =

@@ -6,7 +6,7 @@ use Rattle.blocks.specs.Opened.{Opens}
 use Rattle.drawing.specs.Renders.{Renders}
 use Rattle.state.specs.World.{World, world, over, top, abs, Ready, Draws}
 use Rattle.state.specs.Setters.{failed, settled, finished}
-use Rattle.state.specs.declared.RenderContext.{RenderContext}
+use Rattle.state.specs.Context.{RenderContext}
 use Rattle.including.specs.ValuesLaws.{stands-fits}
 use Rattle.meaning.specs.Means.{stands-known}
 use Rattle.meaning.specs.Meaning.{json-of}

@@ -1,7 +1,7 @@
 use Rattle.helping.specs.Begun.{done, body-next}
 use Rattle.helping.specs.declared.Next.the-variants.{Body}
 use Rattle.helping.specs.declared.Begun.{Begun}
-use Rattle.state.specs.declared.RenderContext.{RenderContext}
+use Rattle.state.specs.Context.{RenderContext}
 use Rattle.parts.specs.declared.Maybe.{Maybe}
 use mathlib.Core.Path.{_∙_, ap, sym}
 use borrow.Author.Needs.{needs}

@@ -2,7 +2,7 @@ use Rattle.helping.specs.Begun.{done, within-next}
 use Rattle.helping.specs.declared.Next.the-variants.{Within}
 use Rattle.helping.specs.declared.Begun.{Begun}
 use Rattle.state.specs.Setters.{with-template}
-use Rattle.state.specs.declared.RenderContext.{RenderContext}
+use Rattle.state.specs.Context.{RenderContext}
 use Rattle.parts.specs.declared.Maybe.{Maybe}
 use Rattle.rules.specs.Bits.{bits}
 use mathlib.Core.Path.{_∙_, ap, sym}

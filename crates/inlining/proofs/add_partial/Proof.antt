@@ -5,7 +5,7 @@ use native.Mathlib.Omega.{arith}
 use Rattle.entries.specs.Stored.{stored}
 use Rattle.scope.specs.declared.Scope.{Scope}
 use Rattle.scope.specs.Made.{with-count}
-use Rattle.state.specs.declared.RenderContext.{RenderContext}
+use Rattle.state.specs.Context.{RenderContext}
 use Rattle.state.specs.Setters.{turned, counted}
 use borrow.Author.Needs.{needs}
 use Rattle.inlining.proofs.add_partial.Statement.{statement}

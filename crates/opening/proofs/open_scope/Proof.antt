@@ -1,7 +1,7 @@
 use Rattle.opening.specs.Scoped.{end-of, ScopeOpened, scope-base, scope-pairs, scope-full, scope-deep, scope-parts, scope-opened}
 use Rattle.state.specs.World.{world, Ready}
 use Rattle.state.specs.Setters.{failed, counted, pushed}
-use Rattle.state.specs.declared.RenderContext.{RenderContext}
+use Rattle.state.specs.Context.{RenderContext}
 use Rattle.including.specs.Included.{included, entries-of}
 use Rattle.including.specs.Pairs.{with-pairs}
 use Rattle.scope.specs.Scopes.{blank}

@@ -3,7 +3,7 @@ use Rattle.drawing.specs.Renders.{body-rule}
 use Rattle.drawing.specs.Renders.{Renders}
 use Rattle.state.specs.World.{World, world, over, Ready}
 use Rattle.state.specs.Setters.{fresh, with-template}
-use Rattle.state.specs.declared.RenderContext.{RenderContext}
+use Rattle.state.specs.Context.{RenderContext}
 use Rattle.scope.specs.NamesLaws.{string-near}
 use mathlib.Core.Path.{_≡_, _∙_, ap, sym, subst}
 use Prim.Native.Nat.{_+_}

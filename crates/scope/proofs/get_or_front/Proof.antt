@@ -1,9 +1,9 @@
 -- `scope::get_or_front` meets its contract.
-use Rattle.scope.specs.NamesLaws.{getD-any}
 use Rattle.scope.specs.Scopes.{blank}
+use Rattle.scope.specs.Words.{scopes-of}
 use borrow.Author.Tests.{lt-ltb, le-ltb}
 use lib.ListN.{getD}
-use Prim.Native.Nat.{ℕ, _-_}
+use Prim.Native.Nat.{ℕ}
 use Rattle.rules.specs.Picks.{yes, no}
 use native.Mathlib.Omega.{arith}
 use mathlib.Core.Path.{refl, ap, _∙_}
@@ -11,43 +11,35 @@ use borrow.Author.Needs.{needs}
 use Rattle.scope.proofs.get_or_front.Statement.{statement}
 use Rattle.scope.proofs.get_or_front.Tie as tie
 
-sub-result : tie.Need-sub-result
-sub-result c = search needs
+sub-scope-at : tie.Need-sub-scope-at
+sub-scope-at c = search needs
 
-sub-result-2 : tie.Need-sub-result-2
-sub-result-2 c = search needs
+sub-scope-at-2 : tie.Need-sub-scope-at-2
+sub-scope-at-2 c = search needs
 
-mul-result : tie.Need-mul-result
-mul-result c = search needs
-
-array-copy-out-result : tie.Need-array-copy-out-result
-array-copy-out-result c = search needs
+scope-at-requires : tie.Need-scope-at-requires
+scope-at-requires c κs = search needs
 
 returns : tie.Need-returns
-returns c = getD-any (c .before .before .args .t1) (c .before .before .args .used - 1 - c .before .before .args .k) _ blank (omega (arith, c .before .before .good .0)) ∙ ap (λ (i : ℕ). getD (c .before .before .args .t1) i blank) (yes _ _ _ _ (lt-ltb (c .before .before .args .k) (c .before .before .args .used) (omega arith)) refl)
+returns c = c .scope-at .ensures ∙ ap (λ (i : ℕ). getD (scopes-of (c .before .before .before .args .sc .now)) i blank) (yes _ _ _ _ (lt-ltb (c .before .before .before .args .k) (c .before .before .before .args .used) (omega arith)) refl)
 
-sub-result-3 : tie.Need-sub-result-3
-sub-result-3 c = search needs
+sub-scope-at-3 : tie.Need-sub-scope-at-3
+sub-scope-at-3 c = search needs
 
-mul-result-2 : tie.Need-mul-result-2
-mul-result-2 c = search needs
-
-array-copy-out-result-2 : tie.Need-array-copy-out-result-2
-array-copy-out-result-2 c = search needs
+scope-at-requires-2 : tie.Need-scope-at-requires-2
+scope-at-requires-2 c κs = search needs
 
 returns-2 : tie.Need-returns-2
-returns-2 c = getD-any (c .before .before .args .t1) (c .before .before .args .used - 1) _ blank (omega (arith, c .before .before .good .0)) ∙ ap (λ (i : ℕ). getD (c .before .before .args .t1) i blank) (no _ _ _ _ (le-ltb (c .before .before .args .k) (c .before .before .args .used) (omega arith)) refl)
+returns-2 c = c .scope-at2 .ensures ∙ ap (λ (i : ℕ). getD (scopes-of (c .before .before .before .args .sc .now)) i blank) (no _ _ _ _ (le-ltb (c .before .before .before .args .k) (c .before .before .before .args .used) (omega arith)) refl)
 
 pub get-or-front-spec : {M : Type 1} → statement M
 get-or-front-spec =
     tie.close
     (tie.spec
-    sub-result
-    sub-result-2
-    mul-result
-    array-copy-out-result
+    sub-scope-at
+    sub-scope-at-2
+    scope-at-requires
     returns
-    sub-result-3
-    mul-result-2
-    array-copy-out-result-2
+    sub-scope-at-3
+    scope-at-requires-2
     returns-2)

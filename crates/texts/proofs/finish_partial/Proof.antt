@@ -1,5 +1,5 @@
 use Rattle.state.specs.Setters.{settled}
-use Rattle.state.specs.declared.RenderContext.{RenderContext}
+use Rattle.state.specs.Context.{RenderContext}
 use mathlib.Core.Path.{_∙_, ap}
 use borrow.Author.Tests.{eq-eqb, ne-eqb}
 use borrow.Author.Needs.{needs}
@@ -12,7 +12,7 @@ use Rattle.texts.proofs.cleanup.Reads as cleanup-reads
 
 -- src/lib.rt:89:9
 returns : tie.Need-returns
-returns c = rw (ne-eqb ((c .before .before .args) .rc .bad) 0 ((c .if1) .taken))
+returns c = λ l m. rw (ne-eqb ((c .before .before .args) .rc .bad) 0 ((c .if1) .taken))
 
 -- src/lib.rt:91:19
 cleanup-requires : tie.Need-cleanup-requires
@@ -24,7 +24,8 @@ settle-requires c κs = search needs
 
 -- src/lib.rt:85:1
 returns-2 : tie.Need-returns-2
-returns-2 c = (c .settle) .ensures ∙ ap (λ (x : RenderContext). settled x ((c .before .before .before .before .args) .before .writer)) ((c .before .cleanup) .ensures) ∙ rw (eq-eqb ((c .before .before .before .before .args) .rc .bad) 0 ((c .before .before .if1) .left))
+returns-2 c = λ l m. (c .settle) .ensures l ∙ ap (λ (x : RenderContext). settled x ((c .before .before .before .before .args) .before .writer)) ((c .before .cleanup) .ensures l m) ∙ rw (eq-eqb ((c .before .before .before .before .args) .rc .bad) 0 ((c .before .before .if1) .left))
 
 pub finish-partial-spec : {M : Type 1} → statement M
-finish-partial-spec = tie.close (tie.spec returns cleanup-requires settle-requires returns-2)
+finish-partial-spec =
+    tie.close (tie.spec returns cleanup-requires settle-requires returns-2)

@@ -1,3 +1,8 @@
+use Rattle.state.specs.Context.{whole}
+use Rattle.state.specs.Setters.{turned}
+use Rattle.texts.specs.Setters.{with-block}
+use Rattle.scope.specs.declared.Scope.{Scope}
+use mathlib.Core.Path.{ap}
 use mathlib.Core.Path.{_∙_}
 use borrow.Author.Needs.{needs}
 use Rattle.texts.proofs.no_text.Statement.{statement}
@@ -17,8 +22,19 @@ with-block-requires c κs = search needs
 set-block-requires : tie.Need-set-block-requires
 set-block-requires c κs = search needs
 
+same-length : tie.Need-same-length
+same-length c = search needs
+
 returns : tie.Need-returns
-returns c = c .set-block .ensures ∙ rw (c .before .with-block .ensures, c .before .before .front .ensures)
+returns c =
+    c .before .before .set-block .ensures ∙ ap (turned (whole (c .before .before .before .before .before .before .before .before .args .rc) (c .before .before .before .before .before .before .before .before .args .sc .now))) (c .before .before .before .with-block .ensures ∙ ap (λ (x : Scope). with-block x 1 (x .text)) (c .before .before .before .before .before .front .ensures))
 
 pub no-text-spec : {M : Type 1} → statement M
-no-text-spec = tie.close (tie.spec front-requires with-block-requires set-block-requires returns)
+no-text-spec =
+    tie.close
+    (tie.spec
+    front-requires
+    with-block-requires
+    set-block-requires
+    same-length
+    returns)

@@ -1,3 +1,6 @@
+use Rattle.state.specs.Context.{whole}
+use mathlib.Core.List.{List}
+use Prim.Native.Nat.{ℕ}
 use lib.ListN.{take, drop}
 use Rattle.output.specs.Writer.{all-put}
 use Rattle.output.specs.Outputs.{outputs, on}
@@ -27,9 +30,9 @@ returns c =
     let page = f .last .0 in
     let texts = f .last .1 .0 in
     let v = take (a .n) (drop (a .from) (a .texts .now)) in
-    let w : Wrote (a .rc) (c .wrote .result) page texts (on (all-put v) (outputs (a .rc .writer) (a .page .now) (a .texts .now))) =
-    wrote-by (a .rc) (c .wrote .result) (f .result) page texts (on (all-put v) (outputs (a .rc .writer) (a .page .now) (a .texts .now))) (f .ensures) (c .wrote .ensures) in
-    (w, λ s b i ent r. draws-put s b (world (a .rc) (a .page .now) (a .texts .now) i ent) (c .wrote .result) page texts r v w)
+    let w : (l : List ℕ) → Wrote (whole (a .rc) l) (whole (c .wrote .result) l) page texts (on (all-put v) (outputs (a .rc .writer) (a .page .now) (a .texts .now))) =
+    λ l. wrote-by (whole (a .rc) l) (whole (c .wrote .result) l) (f .result) page texts (on (all-put v) (outputs (a .rc .writer) (a .page .now) (a .texts .now))) (f .ensures) (c .wrote .ensures l) in
+    (w, λ l s b i ent r. draws-put s b (world (whole (a .rc) l) (a .page .now) (a .texts .now) i ent) (whole (c .wrote .result) l) page texts r v (w l))
 
 pub partial-block-text-spec : {M : Type 1} → statement M
 partial-block-text-spec = tie.close (tie.spec write-text-requires wrote-requires same-length same-length-2 returns)

@@ -1,3 +1,5 @@
+use Rattle.state.specs.Context.{whole}
+use mathlib.Core.List.{List}
 use Prim.Native.Nat.{ℕ, _+_, _*_, _≤_}
 use mathlib.Core.Path.{_≡_, ap, _∙_}
 use native.Mathlib.Omega.{arith}
@@ -62,10 +64,10 @@ returns c =
     let z = bits (a .b .now) in
     let e : bytes-at z (t .result .first) (t .result .count) ≡ text-at z (a .p) = ap (λ (x : Text). bytes-at z (x .first) (x .count)) (t .ensures) in
     let feeds = rw e at (f .ensures) in
-    let w : Wrote (a .rc) (c .wrote .result) page texts (fed (a .indent .now) (text-at z (a .p)) (outputs (a .rc .writer) (a .page .now) (a .texts .now))) =
-    wrote-fed (a .rc) (c .wrote .result) (c .before .before .before .before .before .before .before .before .before .begin .result) (f .result) (c .before .finish .result) (a .indent .now) (text-at z (a .p)) (a .page .now) (a .texts .now) page texts
-    (c .before .before .before .before .before .before .before .before .before .begin .ensures) feeds (c .before .finish .ensures) (c .wrote .ensures) in
-    (w, λ s ent r. draws-fed s (a .b .now) (world (a .rc) (a .page .now) (a .texts .now) (a .indent .now) ent) (c .wrote .result) page texts r (text-at z (a .p)) w)
+    let w : (l : List ℕ) → Wrote (whole (a .rc) l) (whole (c .wrote .result) l) page texts (fed (a .indent .now) (text-at z (a .p)) (outputs (a .rc .writer) (a .page .now) (a .texts .now))) =
+    λ l. wrote-fed (whole (a .rc) l) (whole (c .wrote .result) l) (c .before .before .before .before .before .before .before .before .before .begin .result) (f .result) (c .before .finish .result) (a .indent .now) (text-at z (a .p)) (a .page .now) (a .texts .now) page texts
+    (c .before .before .before .before .before .before .before .before .before .begin .ensures) feeds (c .before .finish .ensures) (c .wrote .ensures l) in
+    (w, λ l s ent r. draws-fed s (a .b .now) (world (whole (a .rc) l) (a .page .now) (a .texts .now) (a .indent .now) ent) (whole (c .wrote .result) l) page texts r (text-at z (a .p)) (w l))
 
 pub raw-string-spec : {M : Type 1} → statement M
 raw-string-spec = tie.close (tie.spec text-at-requires begin-requires feed-packed-requires finish-requires wrote-requires same-length same-length-2 returns)

@@ -1,3 +1,6 @@
+use Rattle.state.specs.Context.{whole}
+use mathlib.Core.List.{List}
+use Prim.Native.Nat.{ℕ}
 use mathlib.Core.Bool.{not}
 use mathlib.Core.Path.{_≡_, subst}
 use Rattle.rules.specs.Bytes.{Bytes}
@@ -45,15 +48,15 @@ returns c =
     let e = not (a .rc .«disable_escape») in
     let m = means-so (a .s .now) (a .b .now) (a .v)
     (λ j. outputs (f .result) page texts ≡ on (printed i e (render j)) (outputs w (a .page .now) (a .texts .now)))
-    (λ j. Wrote (a .rc) r page texts (fed i (escaped e (render j)) (outputs (a .rc .writer) (a .page .now) (a .texts .now))))
-    (λ j h. wrote-fed (a .rc) r w (f .result) (c .before .finish .result) i (escaped e (render j)) (a .page .now) (a .texts .now) page texts (c .before .before .before .before .before .before .before .before .before .before .begin .ensures) h (c .before .finish .ensures) (c .wrote .ensures))
+    (λ j. (l : List ℕ) → Wrote (whole (a .rc) l) (whole r l) page texts (fed i (escaped e (render j)) (outputs (a .rc .writer) (a .page .now) (a .texts .now))))
+    (λ j h l. wrote-fed (whole (a .rc) l) (whole r l) w (f .result) (c .before .finish .result) i (escaped e (render j)) (a .page .now) (a .texts .now) page texts (c .before .before .before .before .before .before .before .before .before .before .begin .ensures) h (c .before .finish .ensures) (c .wrote .ensures l))
     (f .ensures) in (
       m,
-      λ ent t st ready.
+      λ l ent t st ready.
           let j = render (json-of (a .s .now) (a .b .now) ent (a .v)) in
-          let x = world (a .rc) (a .page .now) (a .texts .now) i ent in
-          subst (λ (y : Bytes). Draws (a .s .now) (a .b .now) x (world r page texts i ent) (indent-aware-write y (abs (a .s .now) (a .b .now) x))) (escape-is (a .s .now) (a .b .now) x j)
-          (draws-fed (a .s .now) (a .b .now) x r page texts ready (escaped e j) (m .at ent t st)),
+          let x = world (whole (a .rc) l) (a .page .now) (a .texts .now) i ent in
+          subst (λ (y : Bytes). Draws (a .s .now) (a .b .now) x (world (whole r l) page texts i ent) (indent-aware-write y (abs (a .s .now) (a .b .now) x))) (escape-is (a .s .now) (a .b .now) x j)
+          (draws-fed (a .s .now) (a .b .now) x (whole r l) page texts ready (escaped e j) (m .at ent t st l)),
     )
 
 pub value-spec : {M : Type 1} → statement M
