@@ -6,7 +6,7 @@ use mathlib.Core.Option.{Option, none, some}
 use mathlib.Core.Path.{_≡_, refl, sym, ap, ap₂, _∙_, subst}
 use native.Mathlib.Omega.{arith}
 use lib.Dec.{leb}
-use lib.ListN.{length, getD}
+use lib.ListN.{length}
 use borrow.Author.Tests.{le-leb, lt-leb}
 use Rattle.rules.specs.Bytes.{Bytes}
 use Rattle.rules.specs.Json.{Json, as-str}
@@ -21,9 +21,8 @@ use Rattle.rules.specs.BlockUtil as block-util
 use Rattle.rules.specs.Inline.{one-more, set-local-partial, inline}
 use Rattle.meaning.specs.Meaning.{json-of, scoped-of}
 use Rattle.scope.specs.declared.Scope.{Scope}
-use Rattle.scope.specs.Scopes.{partials-of, blocks-of, blank}
+use Rattle.scope.specs.Scopes.{partials-of, blocks-of}
 use Rattle.scope.specs.Standing.{InlineStands, ScopeStands, ScopesStand}
-use Rattle.scope.specs.NamesLaws.{getD-any}
 use Rattle.scope.specs.InlineLaws.{find-none, find-here}
 use Rattle.expand.specs.declared.Expanded.{Expanded}
 use Rattle.expand.specs.Answers.{name-of, Begins}
@@ -173,20 +172,13 @@ module _ (s b : Bytes) (ent : List ℕ) (l : List Scope) (used taken : ℕ) (w :
               by-number = refl;
             }
 
--- The newest of the first i scopes as the code reads it, whatever is read past the end
+-- The newest of the first i scopes, as the code has read it
 
-module _ (s b : Bytes) (ent : List ℕ) (l : List Scope) (used t : ℕ) (st : ScopesStand s b ent l used t) (i : ℕ) (pos : 0 < i) (le : i ≤ used) (d : Scope) where
-  read-so : getD l (i - 1) blank ≡ getD l (i - 1) d
-  read-so = getD-any l (i - 1) blank d (omega (arith, st .room))
-
-  pub front-ready : (2 * (getD l (i - 1) d .inline + getD l (i - 1) d .count) ≤ length ent)
-      × ((j : ℕ) → j < getD l (i - 1) d .count → InlineStands s b ent (getD l (i - 1) d .inline + j))
+module _ (s b : Bytes) (ent : List ℕ) (l : List Scope) (used t : ℕ) (st : ScopesStand s b ent l used t) (i : ℕ) (pos : 0 < i) (le : i ≤ used) (d : Scope) (here : d ≡ newest l i) where
+  pub front-ready : (2 * (d .inline + d .count) ≤ length ent) × ((j : ℕ) → j < d .count → InlineStands s b ent (d .inline + j))
   front-ready =
-      let f : getD l (i - 1) d .inline + getD l (i - 1) d .count ≤ t = subst (λ (c : Scope). c .inline + c .count ≤ t) read-so (st .within (i - 1) (omega arith)) in
-      (omega (arith, st .entries), subst (ScopeStands s b ent) read-so (st .each (i - 1) (omega arith)) .inlines)
+      let f : d .inline + d .count ≤ t = subst (λ (c : Scope). c .inline + c .count ≤ t) (sym here) (st .within (i - 1) (omega arith)) in
+      (omega (arith, st .entries), subst (ScopeStands s b ent) (sym here) (st .each (i - 1) (omega arith)) .inlines)
 
-  pub front-found : (m : Bytes) (r q : Local) → r ≡ q → LocalIs s b ent (getD l (i - 1) d .inline) (getD l (i - 1) d .count) m r
-      → LocalIs s b ent (newest l i .inline) (newest l i .count) m q
-  front-found m r q e h =
-      subst (λ (c : Scope). LocalIs s b ent (c .inline) (c .count) m q) (sym read-so)
-      (subst (LocalIs s b ent (getD l (i - 1) d .inline) (getD l (i - 1) d .count) m) e h)
+  pub front-found : (m : Bytes) (r q : Local) → r ≡ q → LocalIs s b ent (d .inline) (d .count) m r → LocalIs s b ent (newest l i .inline) (newest l i .count) m q
+  front-found m r q e h = subst (λ (c : Scope). LocalIs s b ent (c .inline) (c .count) m q) here (subst (LocalIs s b ent (d .inline) (d .count) m) e h)

@@ -18,6 +18,7 @@ ghost use Rattle.meaning.specs.Standing.{Stands};
 ghost use Rattle.meaning.specs.Forms.{Known};
 ghost use Rattle.meaning.specs.Means.{Means};
 ghost use Rattle.scope.specs.Scopes.{inline-name};
+ghost use Rattle.scope.specs.Words.{scopes-of};
 ghost use Rattle.scope.specs.Standing.{InlineStands, ScopesStand};
 ghost use Rattle.entries.specs.Stored.{stored};
 ghost use Rattle.expand.specs.Answers.{name-of, ExpandedHeld};
@@ -26,7 +27,6 @@ ghost use Rattle.decorators.specs.Inlined.{is-string, LocalIs, Inlines};
 use expand::Expanded;
 use meaning::Form;
 use parts::Maybe;
-use scope::Scope;
 use text::Text;
 use value::Value;
 
@@ -156,14 +156,14 @@ pub fn inline(
     tab: &[u64],
     b: &[u8],
     ent: &[u64],
-    list: [Scope; 32],
+    sc: &[u64],
     used: usize,
     total: usize,
     w: Expanded,
     has_body: bool,
 ) -> Inlined
-    requires { ⌜ Accepted (now s) (now tab) × (length (now b) ≤ 65536) × (0 < used) × (used ≤ 32) × ((t : ℕ) × ScopesStand (now s) (now b) (now ent) list used t) × ExpandedHeld (now s) (now b) (now ent) w ⌝ }
-    ensures { λ r. ⌜ Inlines (now (s .entry)) (now (b .entry)) (now (ent .entry)) list used total w «has_body» r ⌝ }
+    requires { ⌜ Accepted (now s) (now tab) × (length (now b) ≤ 65536) × (0 < used) × (used ≤ 32) × ((t : ℕ) × ScopesStand (now s) (now b) (now ent) (scopes-of (now sc)) used t) × ExpandedHeld (now s) (now b) (now ent) w × (length (now sc) ≡ 96) ⌝ }
+    ensures { λ r. ⌜ Inlines (now (s .entry)) (now (b .entry)) (now (ent .entry)) (scopes-of (now (sc .entry))) used total w «has_body» r ⌝ }
 {
     let v = w.first;
     if w.count == 0 {
@@ -175,7 +175,7 @@ pub fn inline(
     if !has_body {
         return Inlined::Bad(19);
     }
-    let c = list[used - 1];
+    let c = scope::scope_at(sc, used - 1);
     let found = get_local_partial(s, tab, b, ent, c.inline as usize, c.count as usize, v);
     if let Local::At(k) = found {
         return Inlined::Again(k, v);

@@ -11,6 +11,7 @@ ghost use Rattle.rules.specs.State.{RenderContext};
 ghost use Rattle.rules.specs.Registry.{Registry};
 ghost use Rattle.parts.specs.Holds.{Holds, row};
 ghost use Rattle.places.specs.Accepted.{Accepted};
+ghost use Rattle.scope.specs.Words.{scopes-of};
 ghost use Rattle.scope.specs.Standing.{ScopesStand};
 ghost use Rattle.expand.specs.Answers.{Setting};
 ghost use Rattle.value.specs.Numbers.{Fits, encoded};
@@ -44,22 +45,22 @@ pub fn hash_values(
     tab: &[u64],
     b: &[u8],
     ent: &[u64],
-    list: [Scope; 32],
+    sc: &[u64],
     used: usize,
     options: Options,
     p: usize,
     n: usize,
     d: usize,
 ) -> [u32; 15]
-    requires { ⌜ Accepted (now s) (now tab) × (length (now b) ≤ 65536) × (0 < used) × (used ≤ 32) × ((t : ℕ) × ScopesStand (now s) (now b) (now ent) list used t × (t ≤ 4096)) × (n < 16) × Holds (row (string then param d) n) (bits (now b)) p ⌝ }
-    ensures { λ r. ⌜ ((g : Registry) (st : RenderContext) (t : ℕ) → Setting (now (s .entry)) (now (b .entry)) (now (ent .entry)) list used options g st t → HashValues (now (s .entry)) (now (b .entry)) (now (ent .entry)) t d p n g st r) ⌝ }
+    requires { ⌜ Accepted (now s) (now tab) × (length (now b) ≤ 65536) × (0 < used) × (used ≤ 32) × ((t : ℕ) × ScopesStand (now s) (now b) (now ent) (scopes-of (now sc)) used t × (t ≤ 4096)) × (n < 16) × Holds (row (string then param d) n) (bits (now b)) p × (length (now sc) ≡ 96) ⌝ }
+    ensures { λ r. ⌜ ((g : Registry) (st : RenderContext) (t : ℕ) → Setting (now (s .entry)) (now (b .entry)) (now (ent .entry)) (scopes-of (now (sc .entry))) used options g st t → HashValues (now (s .entry)) (now (b .entry)) (now (ent .entry)) t d p n g st r) ⌝ }
 {
     let mut r: [u32; 15] = [0; 15];
     let mut at = p;
     let mut i: usize = 0;
     while i < n {
         let q = parts::skip_string(b, at);
-        let x = expand::expand(s, tab, b, ent, list, used, options, q, d);
+        let x = expand::expand(s, tab, b, ent, sc, used, options, q, d);
         r[i] = number_of(x);
         at = calls::skip_param(b, q, d);
         i += 1;
@@ -68,12 +69,12 @@ pub fn hash_values(
 }
 
 // What the hash is merged into: the first parameter, or else the current value. Its path is not known to the partial.
-pub fn partial_context(list: [Scope; 32], used: usize, w: Expanded) -> Value
-    requires { ⌜ (0 < used) × (used ≤ 32) ⌝ }
-    ensures { λ r. ⌜ StartsPartial list used w r ⌝ }
+pub fn partial_context(sc: &[u64], used: usize, w: Expanded) -> Value
+    requires { ⌜ (0 < used) × (used ≤ 32) × (length (now sc) ≡ 96) ⌝ }
+    ensures { λ r. ⌜ StartsPartial (scopes-of (now (sc .entry))) used w r ⌝ }
 {
     if w.count == 0 {
-        let c = list[used - 1];
+        let c = scope::scope_at(sc, used - 1);
         return scope::without_path(value::decode(c.base));
     }
     let v = w.first;

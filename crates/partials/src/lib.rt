@@ -17,11 +17,11 @@ ghost use Rattle.meaning.specs.Standing.{Stands};
 ghost use Rattle.meaning.specs.Forms.{Known};
 ghost use Rattle.meaning.specs.Means.{Means};
 ghost use Rattle.scope.specs.Scopes.{blocks-of};
+ghost use Rattle.scope.specs.Words.{scopes-of};
 ghost use Rattle.scope.specs.Standing.{ScopesStand};
 ghost use Rattle.expand.specs.Answers.{name-of};
 ghost use Rattle.partials.specs.Finding.{EntryIs, FoundIs, template-name};
 use decorators::Local;
-use scope::Scope;
 use value::Value;
 
 pub enum Found {
@@ -38,17 +38,17 @@ fn get_partial(
     tab: &[u64],
     b: &[u8],
     ent: &[u64],
-    list: [Scope; 32],
+    sc: &[u64],
     used: usize,
     v: Value,
 ) -> Local
-    requires { ⌜ Accepted (now s) (now tab) × (length (now b) ≤ 65536) × (used ≤ 32) × ((t : ℕ) × ScopesStand (now s) (now b) (now ent) list used t) × Known (now s) (now b) v ⌝ }
-    ensures { λ r. ⌜ ((t : ℕ) → Stands (now (s .entry)) (now (b .entry)) (now (ent .entry)) t v → EntryIs (now (s .entry)) (now (b .entry)) (now (ent .entry)) (get-partial (blocks-of (now (s .entry)) (now (b .entry)) (now (ent .entry)) list used) (name-of (now (s .entry)) (now (b .entry)) (now (ent .entry)) v)) r) ⌝ }
+    requires { ⌜ Accepted (now s) (now tab) × (length (now b) ≤ 65536) × (used ≤ 32) × ((t : ℕ) × ScopesStand (now s) (now b) (now ent) (scopes-of (now sc)) used t) × Known (now s) (now b) v × (length (now sc) ≡ 96) ⌝ }
+    ensures { λ r. ⌜ ((t : ℕ) → Stands (now (s .entry)) (now (b .entry)) (now (ent .entry)) t v → EntryIs (now (s .entry)) (now (b .entry)) (now (ent .entry)) (get-partial (blocks-of (now (s .entry)) (now (b .entry)) (now (ent .entry)) (scopes-of (now (sc .entry))) used) (name-of (now (s .entry)) (now (b .entry)) (now (ent .entry)) v)) r) ⌝ }
 {
     let mut i = used;
     while 0 < i {
         i -= 1;
-        let c = list[i];
+        let c = scope::scope_at(sc, i);
         let found = decorators::get_local_partial(
             s,
             tab,
@@ -89,14 +89,14 @@ pub fn find_partial(
     b: &[u8],
     places: &[u32],
     ent: &[u64],
-    list: [Scope; 32],
+    sc: &[u64],
     used: usize,
     v: Value,
 ) -> Found
-    requires { ⌜ Accepted (now s) (now tab) × (length (now b) ≤ 65536) × Holds (templates 16) (bits (now b)) 8 × (field (bits (now b)) 8 8 ≤ length (now places)) × Indexed (body 16 16) (bits (now b)) (field (bits (now b)) 8 8) (now places) × (used ≤ 32) × ((t : ℕ) × ScopesStand (now s) (now b) (now ent) list used t) × ((t : ℕ) × Stands (now s) (now b) (now ent) t v) ⌝ }
-    ensures { λ r. ⌜ FoundIs (bits (now (b .entry))) (name-of (now (s .entry)) (now (b .entry)) (now (ent .entry)) v) (get-partial (blocks-of (now (s .entry)) (now (b .entry)) (now (ent .entry)) list used) (name-of (now (s .entry)) (now (b .entry)) (now (ent .entry)) v)) (get-template (templates-at 16 (bits (now (b .entry)))) (name-of (now (s .entry)) (now (b .entry)) (now (ent .entry)) v)) r ⌝ }
+    requires { ⌜ Accepted (now s) (now tab) × (length (now b) ≤ 65536) × Holds (templates 16) (bits (now b)) 8 × (field (bits (now b)) 8 8 ≤ length (now places)) × Indexed (body 16 16) (bits (now b)) (field (bits (now b)) 8 8) (now places) × (used ≤ 32) × ((t : ℕ) × ScopesStand (now s) (now b) (now ent) (scopes-of (now sc)) used t) × ((t : ℕ) × Stands (now s) (now b) (now ent) t v) × (length (now sc) ≡ 96) ⌝ }
+    ensures { λ r. ⌜ FoundIs (bits (now (b .entry))) (name-of (now (s .entry)) (now (b .entry)) (now (ent .entry)) v) (get-partial (blocks-of (now (s .entry)) (now (b .entry)) (now (ent .entry)) (scopes-of (now (sc .entry))) used) (name-of (now (s .entry)) (now (b .entry)) (now (ent .entry)) v)) (get-template (templates-at 16 (bits (now (b .entry)))) (name-of (now (s .entry)) (now (b .entry)) (now (ent .entry)) v)) r ⌝ }
 {
-    let inner = get_partial(s, tab, b, ent, list, used, v);
+    let inner = get_partial(s, tab, b, ent, sc, used, v);
     if let Local::At(k) = inner {
         return Found::Inline(entries::place(ent, k), entries::high(ent, k) as usize);
     }

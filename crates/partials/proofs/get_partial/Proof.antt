@@ -5,6 +5,7 @@ use Rattle.decorators.proofs.Inlining.{front-ready, front-found}
 use Rattle.decorators.specs.declared.Local.the-variants.{At}
 use Rattle.expand.specs.Answers.{name-of}
 use Rattle.scope.specs.Scopes.{blocks-of}
+use Rattle.scope.specs.Words.{scopes-of}
 use Rattle.meaning.specs.Standing.{Stands}
 use Rattle.rules.specs.Partial.{get-partial}
 use Rattle.rules.specs.Template.{Template}
@@ -17,10 +18,10 @@ use Rattle.partials.proofs.get_partial.Statement.{statement}
 use Rattle.partials.proofs.get_partial.Tie as tie
 
 abbrev Inv-loop : tie.InvT-loop
-Inv-loop s tab b ent used v list i₀ i = (i ≤ used) × ((t : ℕ) → Stands s b ent t v → get-partial (blocks-of s b ent list i) (name-of s b ent v) ≡ get-partial (blocks-of s b ent list used) (name-of s b ent v))
+Inv-loop s tab b ent sc used v i₀ i = (i ≤ used) × ((t : ℕ) → Stands s b ent t v → get-partial (blocks-of s b ent (scopes-of sc) i) (name-of s b ent v) ≡ get-partial (blocks-of s b ent (scopes-of sc) used) (name-of s b ent v))
 
 abbrev μ-loop : tie.MeasureT-loop
-μ-loop s tab b ent used v list i₀ i = i
+μ-loop s tab b ent sc used v i₀ i = i
 
 loop-holds : tie.Need-loop-holds Inv-loop μ-loop
 loop-holds c = (omega arith, λ t st. refl)
@@ -28,11 +29,8 @@ loop-holds c = (omega arith, λ t st. refl)
 sub-i : tie.Need-sub-i Inv-loop μ-loop
 sub-i c = omega arith
 
-mul-c : tie.Need-mul-c Inv-loop μ-loop
-mul-c c = search needs
-
-array-copy-out-c : tie.Need-array-copy-out-c Inv-loop μ-loop
-array-copy-out-c c = search needs
+scope-at-requires : tie.Need-scope-at-requires Inv-loop μ-loop
+scope-at-requires c κs = search needs
 
 cast-get-local-partial : tie.Need-cast-get-local-partial Inv-loop μ-loop
 cast-get-local-partial c = search needs
@@ -42,8 +40,8 @@ cast-get-local-partial-2 c = search needs
 
 get-local-partial-requires : tie.Need-get-local-partial-requires Inv-loop μ-loop
 get-local-partial-requires c κs =
-    let z = c .before .before .before .before .before .before .before .before .before in
-    let f = front-ready (z .args .s .now) (z .args .b .now) (z .args .ent .now) (z .args .t5) (z .args .used) (z .pre .3 .0) (z .pre .3 .1) (c .before .before .before .before .loop .i) (c .before .before .before .loop-test .taken) (c .before .before .before .before .loop .inv .0) _ in
+    let z = c .before .before .before .before .before .before .before .before .before .before in
+    let f = front-ready (z .args .s .now) (z .args .b .now) (z .args .ent .now) (scopes-of (z .args .sc .now)) (z .args .used) (z .pre .3 .0) (z .pre .3 .1) (c .before .before .before .before .loop .i) (c .before .before .before .loop-test .taken) (c .before .before .before .before .loop .inv .0) _ (c .before .before .scope-at .ensures) in
     (z .pre .0, z .pre .1, z .pre .4, f .0, f .1)
 
 enum-known-found : tie.Need-enum-known-found Inv-loop μ-loop
@@ -51,11 +49,11 @@ enum-known-found c = search needs
 
 returns : tie.Need-returns Inv-loop μ-loop
 returns c =
-    let z = c .before .before .before .before .before .before .before .before .before .before .before .before .before in
+    let z = c .before .before .before .before .before .before .before .before .before .before .before .before .before .before in
     let n = name-of (z .args .s .now) (z .args .b .now) (z .args .ent .now) (z .args .v) in
     λ t st. subst (λ (o : Option Template). EntryIs (z .args .s .now) (z .args .b .now) (z .args .ent .now) o (At (c .before .found .given .0 .0))) (c .before .before .before .before .before .before .before .before .loop .inv .1 t st)
-    (turn-found (z .args .s .now) (z .args .b .now) (z .args .ent .now) (z .args .t5) (z .args .used) (z .pre .3 .0) (z .pre .3 .1) (c .before .before .before .before .before .before .before .before .loop .i) (c .before .before .before .before .before .before .before .loop-test .taken) (c .before .before .before .before .before .before .before .before .loop .inv .0) n _
-    (front-found (z .args .s .now) (z .args .b .now) (z .args .ent .now) (z .args .t5) (z .args .used) (z .pre .3 .0) (z .pre .3 .1) (c .before .before .before .before .before .before .before .before .loop .i) (c .before .before .before .before .before .before .before .loop-test .taken) (c .before .before .before .before .before .before .before .before .loop .inv .0) _ n _ _ (c .before .found .given .1) (c .before .before .before .get-local-partial .ensures t st)))
+    (turn-found (z .args .s .now) (z .args .b .now) (z .args .ent .now) (scopes-of (z .args .sc .now)) (z .args .used) (z .pre .3 .0) (z .pre .3 .1) (c .before .before .before .before .before .before .before .before .loop .i) (c .before .before .before .before .before .before .before .loop-test .taken) (c .before .before .before .before .before .before .before .before .loop .inv .0) n _
+    (front-found (z .args .s .now) (z .args .b .now) (z .args .ent .now) (scopes-of (z .args .sc .now)) (z .args .used) (z .pre .3 .0) (z .pre .3 .1) (c .before .before .before .before .before .before .before .before .loop .i) (c .before .before .before .before .before .before .before .loop-test .taken) (c .before .before .before .before .before .before .before .before .loop .inv .0) _ (c .before .before .before .before .before .before .scope-at .ensures) n _ _ (c .before .found .given .1) (c .before .before .before .get-local-partial .ensures t st)))
 
 enum-told : tie.Need-enum-told Inv-loop μ-loop
 enum-told c = search needs
@@ -65,20 +63,20 @@ loop-less c = omega (arith, c .before .before .before .before .before .before .l
 
 loop-again : tie.Need-loop-again Inv-loop μ-loop
 loop-again c =
-    let z = c .before .before .before .before .before .before .before .before .before .before .before .before in
+    let z = c .before .before .before .before .before .before .before .before .before .before .before .before .before in
     let n = name-of (z .args .s .now) (z .args .b .now) (z .args .ent .now) (z .args .v) in (
       omega (arith, c .before .before .before .before .before .before .before .loop .inv .0),
       λ t st.
-          turn-outer (z .args .s .now) (z .args .b .now) (z .args .ent .now) (z .args .t5) (z .args .used) (z .pre .3 .0) (z .pre .3 .1) (c .before .before .before .before .before .before .before .loop .i) (c .before .before .before .before .before .before .loop-test .taken) (c .before .before .before .before .before .before .before .loop .inv .0) n
-          (front-found (z .args .s .now) (z .args .b .now) (z .args .ent .now) (z .args .t5) (z .args .used) (z .pre .3 .0) (z .pre .3 .1) (c .before .before .before .before .before .before .before .loop .i) (c .before .before .before .before .before .before .loop-test .taken) (c .before .before .before .before .before .before .before .loop .inv .0) _ n _ _ (c .enum-told .given .1) (c .before .before .get-local-partial .ensures t st))
+          turn-outer (z .args .s .now) (z .args .b .now) (z .args .ent .now) (scopes-of (z .args .sc .now)) (z .args .used) (z .pre .3 .0) (z .pre .3 .1) (c .before .before .before .before .before .before .before .loop .i) (c .before .before .before .before .before .before .loop-test .taken) (c .before .before .before .before .before .before .before .loop .inv .0) n
+          (front-found (z .args .s .now) (z .args .b .now) (z .args .ent .now) (scopes-of (z .args .sc .now)) (z .args .used) (z .pre .3 .0) (z .pre .3 .1) (c .before .before .before .before .before .before .before .loop .i) (c .before .before .before .before .before .before .loop-test .taken) (c .before .before .before .before .before .before .before .loop .inv .0) _ (c .before .before .before .before .before .scope-at .ensures) n _ _ (c .enum-told .given .1) (c .before .before .get-local-partial .ensures t st))
           ∙ c .before .before .before .before .before .before .before .loop .inv .1 t st,
     )
 
 returns-2 : tie.Need-returns-2 Inv-loop μ-loop
 returns-2 c =
-    let z = c .before .before .before .before .before .before in
+    let z = c .before .before .before .before .before .before .before in
     let e : c .before .loop .i ≡ 0 = omega (arith, c .loop-test .left) in
-    λ t st. sym (c .before .loop .inv .1 t st) ∙ ap (λ (j : ℕ). get-partial (blocks-of (z .args .s .now) (z .args .b .now) (z .args .ent .now) (z .args .t5) j) (name-of (z .args .s .now) (z .args .b .now) (z .args .ent .now) (z .args .v))) e
+    λ t st. sym (c .before .loop .inv .1 t st) ∙ ap (λ (j : ℕ). get-partial (blocks-of (z .args .s .now) (z .args .b .now) (z .args .ent .now) (scopes-of (z .args .sc .now)) j) (name-of (z .args .s .now) (z .args .b .now) (z .args .ent .now) (z .args .v))) e
 
 pub get-partial-spec : {M : Type 1} → statement M
 get-partial-spec =
@@ -88,8 +86,7 @@ get-partial-spec =
     μ-loop
     loop-holds
     sub-i
-    mul-c
-    array-copy-out-c
+    scope-at-requires
     cast-get-local-partial
     cast-get-local-partial-2
     get-local-partial-requires
