@@ -1,6 +1,7 @@
 -- What the beginning of a helper leaves to be drawn: s is the plan, b the bundle.
 use Prim.Native.Nat.{ℕ}
 use mathlib.Core.Bool.{Bool}
+use mathlib.Core.List.{List}
 use mathlib.Core.Option.{none}
 use Rattle.rules.specs.Bytes.{Bytes}
 use Rattle.rules.specs.Bits.{Bits, bits}
@@ -24,7 +25,7 @@ use Rattle.meaning.specs.Meaning.{json-of, scoped-of}
 use Rattle.members.specs.Turns.{each-turns}
 use Rattle.blocks.specs.Opened.{with-scope, newest}
 use Rattle.expand.specs.declared.Options.{Options}
-use Rattle.state.specs.Context.{RenderContext}
+use Rattle.state.specs.Context.{RenderContext, whole}
 use Rattle.state.specs.Setters.{with-template, settled, pushed, finished, finished-within}
 use Rattle.state.specs.World.{World}
 use Rattle.drawing.specs.Renders.{Renders, Openable, body-rule}
@@ -32,8 +33,16 @@ use Rattle.drawing.specs.EachLoop.{each-rule}
 use Rattle.drawing.specs.Continues.{Continues}
 use Rattle.helping.specs.declared.Next.{Next}
 use Rattle.helping.specs.declared.Next.the-variants.{Done, Body, Within, Turns}
-use Rattle.helping.specs.declared.Begun.{Begun}
+use Rattle.helping.specs.declared.Begun as code
 use Rattle.helping.specs.Decided.{helper-rule}
+
+-- what is returned, with its scopes, which lie in a lent buffer l
+pub record Begun : Type 0 where
+  pub rc : RenderContext
+  pub next : Next
+
+abbrev pub whole-begun : code.Begun → List ℕ → Begun
+whole-begun r l = record { rc = whole (r .rc) l; next = r .next }
 
 abbrev pub done : RenderContext → Begun
 done c = record { rc = c; next = Done }

@@ -3,7 +3,8 @@
 // for the call and the bodies of the element.
 ghost use mathlib.Core.Bool.{_&&_, _||_};
 ghost use mathlib.Core.Path.{_≡_};
-ghost use Prim.Native.Nat.{_≤_, _<_};
+ghost use mathlib.Core.List.{List};
+ghost use Prim.Native.Nat.{ℕ, _≤_, _<_};
 ghost use lib.ListN.{length};
 ghost use Rattle.rules.specs.Bits.{bits};
 ghost use Rattle.rules.specs.Bundle.{body, param, call-of, block-names};
@@ -16,7 +17,7 @@ ghost use Rattle.inlining.specs.Decorated.{SomeReady};
 ghost use Rattle.drawing.specs.Parts.{before-helper};
 ghost use Rattle.blocks.specs.Opened.{Opens};
 ghost use Rattle.state.specs.Context.{whole};
-ghost use Rattle.helping.specs.Begun.{done, body-next, within-next, turns-next, HelperBegun};
+ghost use Rattle.helping.specs.Begun.{whole-begun, done, body-next, within-next, turns-next, HelperBegun};
 ghost use Rattle.helping.specs.Decided.{Decided};
 use expand::Options;
 use helpers::Does;

@@ -1,3 +1,5 @@
+use Rattle.state.specs.Context.{whole}
+use Rattle.scope.specs.Words.{scopes-of}
 use Rattle.state.specs.Setters.{marked}
 use mathlib.Core.Bool.{Bool}
 use mathlib.Core.Path.{_∙_, ap}
@@ -19,7 +21,8 @@ begin-aware-requires c κs = search needs
 
 -- src/lib.rt:78:1
 returns : tie.Need-returns
-returns c = (c .begin-aware) .ensures ∙ ap (marked ((c .before .before .before .args) .rc)) ((c .before .before-helper) .ensures)
+returns c = λ l. (c .begin-aware) .ensures l ∙ ap (marked (whole ((c .before .before .before .args) .rc) l)) ((c .before .before-helper) .ensures)
 
 pub begin-helper-spec : {M : Type 1} → statement M
-begin-helper-spec = tie.close (tie.spec before-helper-requires begin-aware-requires returns)
+begin-helper-spec =
+    tie.close (tie.spec before-helper-requires begin-aware-requires returns)

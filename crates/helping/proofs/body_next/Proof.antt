@@ -1,6 +1,8 @@
+use Rattle.state.specs.Context.{whole}
+use Rattle.scope.specs.Words.{scopes-of}
 use Rattle.helping.specs.Begun.{done, body-next}
 use Rattle.helping.specs.declared.Next.the-variants.{Body}
-use Rattle.helping.specs.declared.Begun.{Begun}
+use Rattle.helping.specs.Begun.{Begun}
 use Rattle.state.specs.Context.{RenderContext}
 use Rattle.parts.specs.declared.Maybe.{Maybe}
 use mathlib.Core.Path.{_∙_, ap, sym}
@@ -35,11 +37,11 @@ done-requires c κs = search needs
 
 -- src/lib.rt:112:1
 returns : tie.Need-returns
-returns c = ap (λ (x : RenderContext). record { rc = x; next = Body ((c .before .before .m) .given .0 .0) }) ((c .set-current-template-name) .ensures) ∙ sym (ap (λ (k : Maybe). body-next k ((c .before .before .before .before .args) .rc) ((c .before .before .before .before .args) .before)) ((c .before .before .m) .given .1))
+returns c = λ l. ap (λ (x : RenderContext). record { rc = x; next = Body ((c .before .before .m) .given .0 .0) }) ((c .set-current-template-name) .ensures l) ∙ sym (ap (λ (k : Maybe). body-next k (whole ((c .before .before .before .before .args) .rc) l) ((c .before .before .before .before .args) .before)) ((c .before .before .m) .given .1))
 
 -- src/lib.rt:112:1
 returns-2 : tie.Need-returns-2
-returns-2 c = (c .done) .ensures ∙ ap done ((c .before .settle) .ensures) ∙ sym (ap (λ (k : Maybe). body-next k ((c .before .before .before .before .args) .rc) ((c .before .before .before .before .args) .before)) ((c .before .before .enum-told) .given .1))
+returns-2 c = λ l. (c .done) .ensures l ∙ ap done ((c .before .settle) .ensures l) ∙ sym (ap (λ (k : Maybe). body-next k (whole ((c .before .before .before .before .args) .rc) l) ((c .before .before .before .before .args) .before)) ((c .before .before .enum-told) .given .1))
 
 pub body-next-spec : {M : Type 1} → statement M
 body-next-spec =

@@ -1,3 +1,5 @@
+use Rattle.state.specs.Context.{whole}
+use Rattle.scope.specs.Words.{scopes-of}
 use Rattle.expand.specs.Answers.{helper-of}
 use Rattle.rules.specs.Registry.{get-helper}
 use Rattle.inlining.specs.Decorated.{is-at}
@@ -24,11 +26,11 @@ try-from-template-requires c κs = search needs
 
 -- src/lib.rt:55:9
 returns : tie.Need-returns
-returns c = decided-refused ((c .before .before .before .before .before .before .before .before .args) .s .now) ((c .before .before .before .before .before .before .before .before .args) .b .now) ((c .before .before .before .before .before .before .before .before .args) .ent .now) ((c .before .before .before .before .before .before .before .before .args) .options) ((c .before .before .before .before .before .before .before .before .args) .rc) ((c .before .before .before .before .before .before .before .before .args) .d) ((c .before .before .before .before .before .before .before .before .args) .p) ((c .before .before .before .before .before .before .before .before .args) .template) ((c .before .before .before .before .before .before .before .before .args) .inverse) ((c .before .before .try-from-template) .result) ((c .before .before .try-from-template) .ensures) ((c .if1) .taken)
+returns c = decided-refused ((c .before .before .before .before .before .before .before .before .args) .s .now) ((c .before .before .before .before .before .before .before .before .args) .b .now) ((c .before .before .before .before .before .before .before .before .args) .ent .now) ((c .before .before .before .before .before .before .before .before .args) .options) (whole ((c .before .before .before .before .before .before .before .before .args) .rc) ((c .before .before .before .before .before .before .before .before .args) .sc .now)) ((c .before .before .before .before .before .before .before .before .args) .d) ((c .before .before .before .before .before .before .before .before .args) .p) ((c .before .before .before .before .before .before .before .before .args) .template) ((c .before .before .before .before .before .before .before .before .args) .inverse) ((c .before .before .try-from-template) .result) ((c .before .before .try-from-template) .ensures) ((c .if1) .taken)
 
 -- src/lib.rt:58:9
 get-helper-requires : tie.Need-get-helper-requires
-get-helper-requires c κs = ((c .before .before .before .before .before .before .before .before .pre) .0, (c .before .before .before .before .before .before .before .before .pre) .1, stands-known ((c .before .before .before .before .before .before .before .before .args) .s .now) ((c .before .before .before .before .before .before .before .before .args) .b .now) ((c .before .before .before .before .before .before .before .before .args) .ent .now) _ _ (some-held ((c .before .before .before .before .before .before .before .before .args) .s .now) ((c .before .before .before .before .before .before .before .before .args) .b .now) ((c .before .before .before .before .before .before .before .before .args) .ent .now) ((c .before .before .before .before .before .before .before .before .args) .options) ((c .before .before .before .before .before .before .before .before .args) .rc) ((c .before .before .before .before .before .before .before .before .args) .d) ((c .before .before .before .before .before .before .before .before .args) .p) ((c .before .before .before .before .before .before .before .before .args) .template) ((c .before .before .before .before .before .before .before .before .args) .inverse) ((c .before .before .try-from-template) .result) ((c .before .before .try-from-template) .ensures) ((c .if1) .left) ((c .before .before .before .before .before .before .before .before .pre) .2) .name))
+get-helper-requires c κs = ((c .before .before .before .before .before .before .before .before .pre) .0, (c .before .before .before .before .before .before .before .before .pre) .1, stands-known ((c .before .before .before .before .before .before .before .before .args) .s .now) ((c .before .before .before .before .before .before .before .before .args) .b .now) ((c .before .before .before .before .before .before .before .before .args) .ent .now) _ _ (some-held ((c .before .before .before .before .before .before .before .before .args) .s .now) ((c .before .before .before .before .before .before .before .before .args) .b .now) ((c .before .before .before .before .before .before .before .before .args) .ent .now) ((c .before .before .before .before .before .before .before .before .args) .options) (whole ((c .before .before .before .before .before .before .before .before .args) .rc) ((c .before .before .before .before .before .before .before .before .args) .sc .now)) ((c .before .before .before .before .before .before .before .before .args) .d) ((c .before .before .before .before .before .before .before .before .args) .p) ((c .before .before .before .before .before .before .before .before .args) .template) ((c .before .before .before .before .before .before .before .before .args) .inverse) ((c .before .before .try-from-template) .result) ((c .before .before .try-from-template) .ensures) ((c .if1) .left) ((c .before .before .before .before .before .before .before .before .pre) .2) .name))
 
 -- src/lib.rt:59:9
 is-at-requires : tie.Need-is-at-requires
@@ -40,13 +42,13 @@ is-at-requires-2 c κs = search needs
 
 -- src/lib.rt:61:5
 call-helper-requires : tie.Need-call-helper-requires
-call-helper-requires c κs = ((c .before .before .before .before .before .before .before .before .before .before .before .pre) .0, (c .before .before .before .before .before .before .before .before .before .before .before .pre) .1, some-held ((c .before .before .before .before .before .before .before .before .before .before .before .args) .s .now) ((c .before .before .before .before .before .before .before .before .before .before .before .args) .b .now) ((c .before .before .before .before .before .before .before .before .before .before .before .args) .ent .now) ((c .before .before .before .before .before .before .before .before .before .before .before .args) .options) ((c .before .before .before .before .before .before .before .before .before .before .before .args) .rc) ((c .before .before .before .before .before .before .before .before .before .before .before .args) .d) ((c .before .before .before .before .before .before .before .before .before .before .before .args) .p) ((c .before .before .before .before .before .before .before .before .before .before .before .args) .template) ((c .before .before .before .before .before .before .before .before .before .before .before .args) .inverse) ((c .before .before .before .before .before .try-from-template) .result) ((c .before .before .before .before .before .try-from-template) .ensures) ((c .before .before .before .if1) .left) ((c .before .before .before .before .before .before .before .before .before .before .before .pre) .2))
+call-helper-requires c κs = ((c .before .before .before .before .before .before .before .before .before .before .before .pre) .0, (c .before .before .before .before .before .before .before .before .before .before .before .pre) .1, some-held ((c .before .before .before .before .before .before .before .before .before .before .before .args) .s .now) ((c .before .before .before .before .before .before .before .before .before .before .before .args) .b .now) ((c .before .before .before .before .before .before .before .before .before .before .before .args) .ent .now) ((c .before .before .before .before .before .before .before .before .before .before .before .args) .options) (whole ((c .before .before .before .before .before .before .before .before .before .before .before .args) .rc) ((c .before .before .before .before .before .before .before .before .before .before .before .args) .sc .now)) ((c .before .before .before .before .before .before .before .before .before .before .before .args) .d) ((c .before .before .before .before .before .before .before .before .before .before .before .args) .p) ((c .before .before .before .before .before .before .before .before .before .before .before .args) .template) ((c .before .before .before .before .before .before .before .before .before .before .before .args) .inverse) ((c .before .before .before .before .before .try-from-template) .result) ((c .before .before .before .before .before .try-from-template) .ensures) ((c .before .before .before .if1) .left) ((c .before .before .before .before .before .before .before .before .before .before .before .pre) .2))
 
 -- src/lib.rt:37:1
 returns-2 : tie.Need-returns-2
 returns-2 c =
     let x = (c .before .before .before .before .before .before .try-from-template) .result in
-    decided-fine ((c .before .before .before .before .before .before .before .before .before .before .before .before .args) .s .now) ((c .before .before .before .before .before .before .before .before .before .before .before .before .args) .b .now) ((c .before .before .before .before .before .before .before .before .before .before .before .before .args) .ent .now) ((c .before .before .before .before .before .before .before .before .before .before .before .before .args) .options) ((c .before .before .before .before .before .before .before .before .before .before .before .before .args) .rc) ((c .before .before .before .before .before .before .before .before .before .before .before .before .args) .d) ((c .before .before .before .before .before .before .before .before .before .before .before .before .args) .p) ((c .before .before .before .before .before .before .before .before .before .before .before .before .args) .template) ((c .before .before .before .before .before .before .before .before .before .before .before .before .args) .inverse) x ((c .before .before .before .before .before .before .try-from-template) .ensures) ((c .before .before .before .before .if1) .left) ((c .before .before .before .get-helper) .result) ((c .call-helper) .result)
+    decided-fine ((c .before .before .before .before .before .before .before .before .before .before .before .before .args) .s .now) ((c .before .before .before .before .before .before .before .before .before .before .before .before .args) .b .now) ((c .before .before .before .before .before .before .before .before .before .before .before .before .args) .ent .now) ((c .before .before .before .before .before .before .before .before .before .before .before .before .args) .options) (whole ((c .before .before .before .before .before .before .before .before .before .before .before .before .args) .rc) ((c .before .before .before .before .before .before .before .before .before .before .before .before .args) .sc .now)) ((c .before .before .before .before .before .before .before .before .before .before .before .before .args) .d) ((c .before .before .before .before .before .before .before .before .before .before .before .before .args) .p) ((c .before .before .before .before .before .before .before .before .before .before .before .before .args) .template) ((c .before .before .before .before .before .before .before .before .before .before .before .before .args) .inverse) x ((c .before .before .before .before .before .before .try-from-template) .ensures) ((c .before .before .before .before .if1) .left) ((c .before .before .before .get-helper) .result) ((c .call-helper) .result)
     (λ t e i. (c .before .before .before .get-helper) .ensures .at ((c .before .before .before .before .before .before .before .before .before .before .before .before .args) .ent .now) t (i .name-stands) ∙ ap (λ n. helper-of (get-helper n)) (sym (i .name)))
     (subst (λ (k : Bool). Decides ((c .before .before .before .before .before .before .before .before .before .before .before .before .args) .s .now) ((c .before .before .before .before .before .before .before .before .before .before .before .before .args) .b .now) ((c .before .before .before .before .before .before .before .before .before .before .before .before .args) .ent .now) ((c .before .before .before .before .before .before .before .before .before .before .before .before .args) .rc .used) ((c .before .before .before .before .before .before .before .before .before .before .before .before .args) .options) ((c .before .before .before .get-helper) .result) x k (is-at ((c .before .before .before .before .before .before .before .before .before .before .before .before .args) .inverse)) ((c .call-helper) .result)) ((c .before .before .is-at) .ensures)
     (subst (λ (k : Bool). Decides ((c .before .before .before .before .before .before .before .before .before .before .before .before .args) .s .now) ((c .before .before .before .before .before .before .before .before .before .before .before .before .args) .b .now) ((c .before .before .before .before .before .before .before .before .before .before .before .before .args) .ent .now) ((c .before .before .before .before .before .before .before .before .before .before .before .before .args) .rc .used) ((c .before .before .before .before .before .before .before .before .before .before .before .before .args) .options) ((c .before .before .before .get-helper) .result) x ((c .before .before .is-at) .result) k ((c .call-helper) .result)) ((c .before .is-at2) .ensures) ((c .call-helper) .ensures)))

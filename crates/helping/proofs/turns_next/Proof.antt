@@ -1,3 +1,5 @@
+use Rattle.state.specs.Context.{whole}
+use Rattle.scope.specs.Words.{scopes-of}
 use Rattle.helping.specs.Begun.{done, turns-next}
 use Rattle.parts.specs.declared.Maybe.{Maybe}
 use mathlib.Core.Path.{_∙_, ap, sym}
@@ -27,12 +29,19 @@ done-requires c κs = search needs
 
 -- src/lib.rt:148:1
 returns : tie.Need-returns
-returns c = sym (ap (λ (k : Maybe). turns-next k ((c .before .before .before .args) .v) ((c .before .before .before .args) .rc) ((c .before .before .before .args) .before)) ((c .before .m) .given .1))
+returns c = λ l. sym (ap (λ (k : Maybe). turns-next k ((c .before .before .before .args) .v) (whole ((c .before .before .before .args) .rc) l) ((c .before .before .before .args) .before)) ((c .before .m) .given .1))
 
 -- src/lib.rt:148:1
 returns-2 : tie.Need-returns-2
-returns-2 c = (c .done) .ensures ∙ ap done ((c .before .settle) .ensures) ∙ sym (ap (λ (k : Maybe). turns-next k ((c .before .before .before .before .args) .v) ((c .before .before .before .before .args) .rc) ((c .before .before .before .before .args) .before)) ((c .before .before .enum-told) .given .1))
+returns-2 c = λ l. (c .done) .ensures l ∙ ap done ((c .before .settle) .ensures l) ∙ sym (ap (λ (k : Maybe). turns-next k ((c .before .before .before .before .args) .v) (whole ((c .before .before .before .before .args) .rc) l) ((c .before .before .before .before .args) .before)) ((c .before .before .enum-told) .given .1))
 
 pub turns-next-spec : {M : Type 1} → statement M
 turns-next-spec =
-    tie.close (tie.spec enum-known-m enum-told settle-requires done-requires returns returns-2)
+    tie.close
+    (tie.spec
+    enum-known-m
+    enum-told
+    settle-requires
+    done-requires
+    returns
+    returns-2)

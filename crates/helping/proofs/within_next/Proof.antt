@@ -1,6 +1,8 @@
+use Rattle.state.specs.Context.{whole}
+use Rattle.scope.specs.Words.{scopes-of}
 use Rattle.helping.specs.Begun.{done, within-next}
 use Rattle.helping.specs.declared.Next.the-variants.{Within}
-use Rattle.helping.specs.declared.Begun.{Begun}
+use Rattle.helping.specs.Begun.{Begun}
 use Rattle.state.specs.Setters.{with-template}
 use Rattle.state.specs.Context.{RenderContext}
 use Rattle.parts.specs.declared.Maybe.{Maybe}
@@ -34,7 +36,7 @@ done-requires c κs = search needs
 
 -- src/lib.rt:139:9
 returns : tie.Need-returns
-returns c = (c .done) .ensures ∙ ap done ((c .before .settle) .ensures) ∙ sym (ap (λ (k : Maybe). within-next (bits ((c .before .before .before .before .before .args) .b .now)) ((c .before .before .before .before .before .args) .at) k ((c .before .before .before .before .before .args) .v) ((c .before .before .before .before .before .args) .rc) ((c .before .before .before .before .before .args) .before)) ((c .before .before .enum-told) .given .1))
+returns c = (c .done) .ensures _ ∙ ap done ((c .before .settle) .ensures _) ∙ sym (ap (λ (k : Maybe). within-next (bits ((c .before .before .before .before .before .before .args) .b .now)) ((c .before .before .before .before .before .before .args) .at) k ((c .before .before .before .before .before .before .args) .v) (whole ((c .before .before .before .before .before .before .args) .rc) ((c .before .before .before .before .before .before .args) .sc .now)) ((c .before .before .before .before .before .before .args) .before)) ((c .before .before .enum-told) .given .1))
 
 -- src/lib.rt:141:9
 open-with-requires : tie.Need-open-with-requires
@@ -44,9 +46,12 @@ open-with-requires c κs = search needs
 set-current-template-name-requires : tie.Need-set-current-template-name-requires
 set-current-template-name-requires c κs = search needs
 
+same-length : tie.Need-same-length
+same-length c = search needs
+
 -- src/lib.rt:127:1
 returns-2 : tie.Need-returns-2
-returns-2 c = ap (λ (x : RenderContext). record { rc = x; next = Within ((c .before .before .before .m) .given .0 .0) }) ((c .set-current-template-name) .ensures ∙ ap (λ (x : RenderContext). with-template x 0) ((c .before .open-with) .ensures)) ∙ sym (ap (λ (k : Maybe). within-next (bits ((c .before .before .before .before .before .before .args) .b .now)) ((c .before .before .before .before .before .before .args) .at) k ((c .before .before .before .before .before .before .args) .v) ((c .before .before .before .before .before .before .args) .rc) ((c .before .before .before .before .before .before .args) .before)) ((c .before .before .before .m) .given .1))
+returns-2 c = ap (λ (x : RenderContext). record { rc = x; next = Within ((c .before .before .before .before .before .before .m) .given .0 .0) }) ((c .set-current-template-name) .ensures _ ∙ ap (λ (x : RenderContext). with-template x 0) ((c .before .before .before .open-with) .ensures)) ∙ sym (ap (λ (k : Maybe). within-next (bits ((c .before .before .before .before .before .before .before .before .before .before .args) .b .now)) ((c .before .before .before .before .before .before .before .before .before .before .args) .at) k ((c .before .before .before .before .before .before .before .before .before .before .args) .v) (whole ((c .before .before .before .before .before .before .before .before .before .before .args) .rc) ((c .before .before .before .before .before .before .before .before .before .before .args) .sc .now)) ((c .before .before .before .before .before .before .before .before .before .before .args) .before)) ((c .before .before .before .before .before .before .m) .given .1))
 
 pub within-next-spec : {M : Type 1} → statement M
 within-next-spec =
@@ -59,4 +64,5 @@ within-next-spec =
     returns
     open-with-requires
     set-current-template-name-requires
+    same-length
     returns-2)
