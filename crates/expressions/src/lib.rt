@@ -1,7 +1,9 @@
 // render.rs: `Expression` and `HtmlExpression`. An expression draws no body, so these are leaves of the drawing.
 // s is the plan with its places tab, b the bundle; ent holds the entries of open partials, indent the indent in force; d is the number of depths left
 // for the call.
-ghost use Prim.Native.Nat.{_≤_};
+ghost use mathlib.Core.List.{List};
+ghost use mathlib.Core.Path.{_≡_};
+ghost use Prim.Native.Nat.{ℕ, _≤_};
 ghost use lib.ListN.{length};
 ghost use Rattle.rules.specs.Bits.{bits};
 ghost use Rattle.rules.specs.Bundle.{param, call-of};
@@ -11,6 +13,7 @@ ghost use Rattle.calls.specs.Calls.{call-at};
 ghost use Rattle.places.specs.Accepted.{Accepted};
 ghost use Rattle.state.specs.World.{world, Ready};
 ghost use Rattle.drawing.specs.Renders.{Renders};
+ghost use Rattle.state.specs.Context.{whole};
 ghost use Rattle.expressions.specs.Bare.{bare-rule, Printable, BareDrawn};
 use expand::Options;
 use helpers::Does;
@@ -30,7 +33,7 @@ fn draw_bare(
     rc: RenderContext,
 ) -> RenderContext
     requires { ⌜ Accepted (now s) (now tab) × (length (now b) ≤ 65536) × Printable (now s) (now b) does ⌝ }
-    ensures { λ r. ⌜ BareDrawn (now (s .entry)) (now (b .entry)) rc r (now (page .entry)) (now (texts .entry)) (now (indent .entry)) (now (page .exit)) (now (texts .exit)) does ⌝ }
+    ensures { λ r. ⌜ ((l : List ℕ) → BareDrawn (now (s .entry)) (now (b .entry)) (whole rc l) (whole r l) (now (page .entry)) (now (texts .entry)) (now (indent .entry)) (now (page .exit)) (now (texts .exit)) does) ⌝ }
 {
     match does {
         Does::Bad(n) => state::failed(rc, n),
@@ -48,17 +51,18 @@ fn render_bare(
     page: &mut [u8],
     texts: &mut [u8],
     indent: &[u8],
+    sc: &[u64],
     options: Options,
     p: usize,
     before: bool,
     d: usize,
     rc: RenderContext,
 ) -> RenderContext
-    requires { ⌜ Accepted (now s) (now tab) × (length (now b) ≤ 65536) × Ready (now s) (now b) (world rc (now page) (now texts) (now indent) (now ent)) × Holds (call-of (param d)) (bits (now b)) p ⌝ }
-    ensures { λ r. ⌜ Renders (now (s .entry)) (now (b .entry)) options (world rc (now (page .entry)) (now (texts .entry)) (now (indent .entry)) (now (ent .entry))) (world r (now (page .exit)) (now (texts .exit)) (now (indent .entry)) (now (ent .entry))) (bare-rule (now (b .entry)) d p before) ⌝ }
+    requires { ⌜ Accepted (now s) (now tab) × (length (now b) ≤ 65536) × Ready (now s) (now b) (world (whole rc (now sc)) (now page) (now texts) (now indent) (now ent)) × Holds (call-of (param d)) (bits (now b)) p × (length (now sc) ≡ 96) ⌝ }
+    ensures { λ r. ⌜ Renders (now (s .entry)) (now (b .entry)) options (world (whole rc (now (sc .entry))) (now (page .entry)) (now (texts .entry)) (now (indent .entry)) (now (ent .entry))) (world (whole r (now (sc .entry))) (now (page .exit)) (now (texts .exit)) (now (indent .entry)) (now (ent .entry))) (bare-rule (now (b .entry)) d p before) ⌝ }
 {
     let none = Maybe::Nothing;
-    let does = helping::decide(s, tab, b, ent, options, p, none, none, d, rc);
+    let does = helping::decide(s, tab, b, ent, sc, options, p, none, none, d, rc);
     let q = helping::begin_helper(rc, before);
     let marks = rc.writer;
     let u = draw_bare(s, tab, b, page, texts, indent, does, q);
@@ -74,17 +78,17 @@ pub fn render_expression(
     page: &mut [u8],
     texts: &mut [u8],
     indent: &[u8],
+    sc: &[u64],
     options: Options,
     p: usize,
     before: bool,
     d: usize,
     rc: RenderContext,
 ) -> RenderContext
-    requires { ⌜ Accepted (now s) (now tab) × (length (now b) ≤ 65536) × Ready (now s) (now b) (world rc (now page) (now texts) (now indent) (now ent)) × Holds (call-of (param d)) (bits (now b)) p ⌝ }
-    ensures { λ r. ⌜ Renders (now (s .entry)) (now (b .entry)) options (world rc (now (page .entry)) (now (texts .entry)) (now (indent .entry)) (now (ent .entry))) (world r (now (page .exit)) (now (texts .exit)) (now (indent .entry)) (now (ent .entry))) (λ g R. render-expression g (call-at d (bits (now (b .entry))) p) before) ⌝ }
+    requires { ⌜ Accepted (now s) (now tab) × (length (now b) ≤ 65536) × Ready (now s) (now b) (world (whole rc (now sc)) (now page) (now texts) (now indent) (now ent)) × Holds (call-of (param d)) (bits (now b)) p × (length (now sc) ≡ 96) ⌝ }
+    ensures { λ r. ⌜ Renders (now (s .entry)) (now (b .entry)) options (world (whole rc (now (sc .entry))) (now (page .entry)) (now (texts .entry)) (now (indent .entry)) (now (ent .entry))) (world (whole r (now (sc .entry))) (now (page .exit)) (now (texts .exit)) (now (indent .entry)) (now (ent .entry))) (λ g R. render-expression g (call-at d (bits (now (b .entry))) p) before) ⌝ }
 {
-    let list = rc.scopes;
-    let shows = helpers::expression(s, tab, b, ent, list, rc.used, options, p, d);
+    let shows = helpers::expression(s, tab, b, ent, sc, rc.used, options, p, d);
     match shows {
         Shows::Bad(n) => state::failed(rc, n),
         Shows::Helper => render_bare(
@@ -95,6 +99,7 @@ pub fn render_expression(
             page,
             texts,
             indent,
+            sc,
             options,
             p,
             before,
@@ -115,14 +120,15 @@ pub fn render_html_expression(
     page: &mut [u8],
     texts: &mut [u8],
     indent: &[u8],
+    sc: &[u64],
     options: Options,
     p: usize,
     before: bool,
     d: usize,
     rc: RenderContext,
 ) -> RenderContext
-    requires { ⌜ Accepted (now s) (now tab) × (length (now b) ≤ 65536) × Ready (now s) (now b) (world rc (now page) (now texts) (now indent) (now ent)) × Holds (call-of (param d)) (bits (now b)) p ⌝ }
-    ensures { λ r. ⌜ Renders (now (s .entry)) (now (b .entry)) options (world rc (now (page .entry)) (now (texts .entry)) (now (indent .entry)) (now (ent .entry))) (world r (now (page .exit)) (now (texts .exit)) (now (indent .entry)) (now (ent .entry))) (λ g R. render-html-expression g (call-at d (bits (now (b .entry))) p) before) ⌝ }
+    requires { ⌜ Accepted (now s) (now tab) × (length (now b) ≤ 65536) × Ready (now s) (now b) (world (whole rc (now sc)) (now page) (now texts) (now indent) (now ent)) × Holds (call-of (param d)) (bits (now b)) p × (length (now sc) ≡ 96) ⌝ }
+    ensures { λ r. ⌜ Renders (now (s .entry)) (now (b .entry)) options (world (whole rc (now (sc .entry))) (now (page .entry)) (now (texts .entry)) (now (indent .entry)) (now (ent .entry))) (world (whole r (now (sc .entry))) (now (page .exit)) (now (texts .exit)) (now (indent .entry)) (now (ent .entry))) (λ g R. render-html-expression g (call-at d (bits (now (b .entry))) p) before) ⌝ }
 {
     let q = state::set_disable_escape(rc, true);
     let u = render_expression(
@@ -133,6 +139,7 @@ pub fn render_html_expression(
         page,
         texts,
         indent,
+        sc,
         options,
         p,
         before,

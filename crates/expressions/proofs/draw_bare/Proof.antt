@@ -1,3 +1,4 @@
+use Rattle.state.specs.Context.{whole}
 -- `expressions::draw_bare` meets its contract.
 use Rattle.expressions.specs.Laws.{bare-refused, bare-written, bare-nothing}
 use borrow.Author.Needs.{needs}
@@ -18,8 +19,9 @@ value-requires c κs = ((c .before .before .before .before .before .before .befo
 
 returns : tie.Need-returns
 returns c =
+    λ l.
     let a = (c .before .before .before .before .before .before .before .before .before .before .args) in
-    bare-refused (a .s .now) (a .b .now) (a .rc) (a .page .now) (a .texts .now) (a .indent .now) (a .does) ((c .before .before .does) .given .0 .0) ((c .before .before .does) .given .1) ((c .failed) .result) ((c .failed) .ensures)
+    bare-refused (a .s .now) (a .b .now) (whole (a .rc) l) (a .page .now) (a .texts .now) (a .indent .now) (a .does) ((c .before .before .does) .given .0 .0) ((c .before .before .does) .given .1) (whole ((c .failed) .result) l) ((c .failed) .ensures l)
 
 same-length : tie.Need-same-length
 same-length c = search needs
@@ -29,13 +31,15 @@ same-length-2 c = search needs
 
 returns-2 : tie.Need-returns-2
 returns-2 c =
+    λ l.
     let a = (c .before .before .before .before .before .before .before .before .before .before .before .before .before .before .before .before .args) in
-    bare-written (a .s .now) (a .b .now) (a .rc) (a .page .now) (a .texts .now) (a .indent .now) (a .does) ((c .before .before .before .before .before .before .before .before .does2) .given .0 .0) ((c .before .before .before .before .before .before .before .before .does2) .given .1) ((c .before .before .before .before .value) .result) ((c .before .before .before .before .value) .last .0) ((c .before .before .before .before .value) .last .1 .0) ((c .before .before .before .before .value) .ensures .1)
+    bare-written (a .s .now) (a .b .now) (whole (a .rc) l) (a .page .now) (a .texts .now) (a .indent .now) (a .does) ((c .before .before .before .before .before .before .before .before .does2) .given .0 .0) ((c .before .before .before .before .before .before .before .before .does2) .given .1) (whole ((c .before .before .before .before .value) .result) l) ((c .before .before .before .before .value) .last .0) ((c .before .before .before .before .value) .last .1 .0) ((c .before .before .before .before .value) .ensures .1 l)
 
 returns-3 : tie.Need-returns-3
 returns-3 c =
+    λ l.
     let a = (c .before .before .before .before .before .before .before .args) in
-    bare-nothing (a .s .now) (a .b .now) (a .rc) (a .page .now) (a .texts .now) (a .indent .now) (a .does) ((c .match) .keys3)
+    bare-nothing (a .s .now) (a .b .now) (whole (a .rc) l) (a .page .now) (a .texts .now) (a .indent .now) (a .does) ((c .match) .keys3)
 
 pub draw-bare-spec : {M : Type 1} → statement M
 draw-bare-spec =
