@@ -84,6 +84,7 @@ pub fn draw(
 {
     let mut index: [u32; 64] = [0; 64];
     registry::index(b, 16, &mut index);
+    let mut sc: [u64; 96] = [0; 96];
     let rc = render_template(
         s,
         tab,
@@ -93,6 +94,7 @@ pub fn draw(
         page,
         texts,
         indent,
+        &mut sc,
         options,
         name,
         p,

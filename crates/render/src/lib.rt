@@ -16,6 +16,7 @@ ghost use Rattle.parts.specs.declared.Maybe.the-variants.{At, Nothing};
 ghost use Rattle.parts.specs.Holds.{Holds};
 ghost use Rattle.parts.specs.Says.{MaybeHolds, names-at};
 ghost use Rattle.template.specs.Views.{template-at, element-says, ElementHolds};
+ghost use Rattle.state.specs.Context.{whole};
 ghost use Rattle.state.specs.Setters.{fresh};
 ghost use Rattle.state.specs.World.{world, Ready, Draws};
 ghost use Rattle.drawing.specs.Renders.{Checked, Named, Renders, registry-of, Openable};
@@ -41,14 +42,15 @@ fn render_elements(
     page: &mut [u8],
     texts: &mut [u8],
     indent: &mut [u8],
+    sc: &mut [u64],
     options: Options,
     p: usize,
     d: usize,
     name: usize,
     rc: RenderContext,
 ) -> RenderContext
-    requires { ⌜ Checked (now s) (now tab) (now b) (now index) × Ready (now s) (now b) (world rc (now page) (now texts) (now indent) (now ent)) × (d ≤ 16) × Holds (body 16 d) (bits (now b)) p × Named (now b) name ⌝ }
-    ensures { λ r. ⌜ Renders (now (s .entry)) (now (b .entry)) options (world rc (now (page .entry)) (now (texts .entry)) (now (indent .entry)) (now (ent .entry))) (world r (now (page .exit)) (now (texts .exit)) (now (indent .exit)) (now (ent .exit))) (body-rule (now (b .entry)) d p name) ⌝ }
+    requires { ⌜ Checked (now s) (now tab) (now b) (now index) × Ready (now s) (now b) (world (whole rc (now sc)) (now page) (now texts) (now indent) (now ent)) × (d ≤ 16) × Holds (body 16 d) (bits (now b)) p × Named (now b) name × (length (now sc) ≡ 96) ⌝ }
+    ensures { λ r. ⌜ Renders (now (s .entry)) (now (b .entry)) options (world (whole rc (now (sc .entry))) (now (page .entry)) (now (texts .entry)) (now (indent .entry)) (now (ent .entry))) (world (whole r (now (sc .exit))) (now (page .exit)) (now (texts .exit)) (now (indent .exit)) (now (ent .exit))) (body-rule (now (b .entry)) d p name) ⌝ }
 {
     let body = template::body_at(b, p);
     let count = body.count;
@@ -67,6 +69,7 @@ fn render_elements(
             page,
             texts,
             indent,
+            sc,
             options,
             element,
             d - 1,
@@ -90,13 +93,14 @@ fn render_element(
     page: &mut [u8],
     texts: &mut [u8],
     indent: &mut [u8],
+    sc: &mut [u64],
     options: Options,
     e: Element,
     d: usize,
     rc: RenderContext,
 ) -> RenderContext
-    requires { ⌜ Checked (now s) (now tab) (now b) (now index) × Ready (now s) (now b) (world rc (now page) (now texts) (now indent) (now ent)) × (d < 16) × ElementHolds 16 d (bits (now b)) e ⌝ }
-    ensures { λ r. ⌜ Renders (now (s .entry)) (now (b .entry)) options (world rc (now (page .entry)) (now (texts .entry)) (now (indent .entry)) (now (ent .entry))) (world r (now (page .exit)) (now (texts .exit)) (now (indent .exit)) (now (ent .exit))) (λ g R. render-element g R (element-says 16 d (bits (now (b .entry))) e)) ⌝ }
+    requires { ⌜ Checked (now s) (now tab) (now b) (now index) × Ready (now s) (now b) (world (whole rc (now sc)) (now page) (now texts) (now indent) (now ent)) × (d < 16) × ElementHolds 16 d (bits (now b)) e × (length (now sc) ≡ 96) ⌝ }
+    ensures { λ r. ⌜ Renders (now (s .entry)) (now (b .entry)) options (world (whole rc (now (sc .entry))) (now (page .entry)) (now (texts .entry)) (now (indent .entry)) (now (ent .entry))) (world (whole r (now (sc .exit))) (now (page .exit)) (now (texts .exit)) (now (indent .exit)) (now (ent .exit))) (λ g R. render-element g R (element-says 16 d (bits (now (b .entry))) e)) ⌝ }
 {
     match e {
         Element::RawString(p) => writing::raw_string(page, texts, indent, b, p, rc),
@@ -109,6 +113,7 @@ fn render_element(
                 page,
                 texts,
                 indent,
+                sc,
                 options,
                 p,
                 before,
@@ -125,6 +130,7 @@ fn render_element(
                 page,
                 texts,
                 indent,
+                sc,
                 options,
                 p,
                 before,
@@ -142,6 +148,7 @@ fn render_element(
                 page,
                 texts,
                 indent,
+                sc,
                 options,
                 p,
                 at,
@@ -153,10 +160,10 @@ fn render_element(
             )
         }
         Element::DecoratorExpression(p, at, _) => {
-            inlining::eval_decorator(s, tab, b, ent, options, p, Maybe::Nothing, at, d, rc)
+            inlining::eval_decorator(s, tab, b, ent, sc, options, p, Maybe::Nothing, at, d, rc)
         }
         Element::DecoratorBlock(p, body, at, _) => {
-            inlining::eval_decorator(s, tab, b, ent, options, p, Maybe::At(body), at, d, rc)
+            inlining::eval_decorator(s, tab, b, ent, sc, options, p, Maybe::At(body), at, d, rc)
         }
         Element::PartialBlock(p, body, at, before) => {
             render_partial_block(
@@ -168,6 +175,7 @@ fn render_element(
                 page,
                 texts,
                 indent,
+                sc,
                 options,
                 p,
                 body,
@@ -187,6 +195,7 @@ fn render_element(
                 page,
                 texts,
                 indent,
+                sc,
                 options,
                 p,
                 at,
@@ -209,6 +218,7 @@ fn render_helper(
     page: &mut [u8],
     texts: &mut [u8],
     indent: &mut [u8],
+    sc: &mut [u64],
     options: Options,
     p: usize,
     at: usize,
@@ -218,8 +228,8 @@ fn render_helper(
     d: usize,
     rc: RenderContext,
 ) -> RenderContext
-    requires { ⌜ Checked (now s) (now tab) (now b) (now index) × Ready (now s) (now b) (world rc (now page) (now texts) (now indent) (now ent)) × (d < 16) × Holds (call-of (param d)) (bits (now b)) p × Holds block-names (bits (now b)) at × MaybeHolds (body 16 d) (bits (now b)) template × MaybeHolds (body 16 d) (bits (now b)) inverse ⌝ }
-    ensures { λ r. ⌜ Renders (now (s .entry)) (now (b .entry)) options (world rc (now (page .entry)) (now (texts .entry)) (now (indent .entry)) (now (ent .entry))) (world r (now (page .exit)) (now (texts .exit)) (now (indent .exit)) (now (ent .exit))) (helper-rule (now (b .entry)) d p before (names-at (bits (now (b .entry))) at) template inverse) ⌝ }
+    requires { ⌜ Checked (now s) (now tab) (now b) (now index) × Ready (now s) (now b) (world (whole rc (now sc)) (now page) (now texts) (now indent) (now ent)) × (d < 16) × Holds (call-of (param d)) (bits (now b)) p × Holds block-names (bits (now b)) at × MaybeHolds (body 16 d) (bits (now b)) template × MaybeHolds (body 16 d) (bits (now b)) inverse × (length (now sc) ≡ 96) ⌝ }
+    ensures { λ r. ⌜ Renders (now (s .entry)) (now (b .entry)) options (world (whole rc (now (sc .entry))) (now (page .entry)) (now (texts .entry)) (now (indent .entry)) (now (ent .entry))) (world (whole r (now (sc .exit))) (now (page .exit)) (now (texts .exit)) (now (indent .exit)) (now (ent .exit))) (helper-rule (now (b .entry)) d p before (names-at (bits (now (b .entry))) at) template inverse) ⌝ }
 {
     let marks = rc.writer;
     let total = rc.total;
@@ -231,6 +241,7 @@ fn render_helper(
         page,
         texts,
         indent,
+        sc,
         options,
         p,
         at,
@@ -254,6 +265,7 @@ fn render_helper(
                 page,
                 texts,
                 indent,
+                sc,
                 options,
                 t,
                 d,
@@ -272,6 +284,7 @@ fn render_helper(
                 page,
                 texts,
                 indent,
+                sc,
                 options,
                 t,
                 d,
@@ -290,6 +303,7 @@ fn render_helper(
                 page,
                 texts,
                 indent,
+                sc,
                 options,
                 v,
                 at,
@@ -313,6 +327,7 @@ fn render_turns(
     page: &mut [u8],
     texts: &mut [u8],
     indent: &mut [u8],
+    sc: &mut [u64],
     options: Options,
     v: Value,
     at: usize,
@@ -320,17 +335,17 @@ fn render_turns(
     d: usize,
     rc: RenderContext,
 ) -> RenderContext
-    requires { ⌜ Checked (now s) (now tab) (now b) (now index) × Ready (now s) (now b) (world rc (now page) (now texts) (now indent) (now ent)) × (d < 16) × Holds block-names (bits (now b)) at × Holds (body 16 d) (bits (now b)) p × Openable (now s) (now b) (world rc (now page) (now texts) (now indent) (now ent)) v ⌝ }
-    ensures { λ r. ⌜ Renders (now (s .entry)) (now (b .entry)) options (world rc (now (page .entry)) (now (texts .entry)) (now (indent .entry)) (now (ent .entry))) (world r (now (page .exit)) (now (texts .exit)) (now (indent .exit)) (now (ent .exit))) (each-rule (now (s .entry)) (now (b .entry)) (world rc (now (page .entry)) (now (texts .entry)) (now (indent .entry)) (now (ent .entry))) d at p v) ⌝ }
+    requires { ⌜ Checked (now s) (now tab) (now b) (now index) × Ready (now s) (now b) (world (whole rc (now sc)) (now page) (now texts) (now indent) (now ent)) × (d < 16) × Holds block-names (bits (now b)) at × Holds (body 16 d) (bits (now b)) p × Openable (now s) (now b) (world (whole rc (now sc)) (now page) (now texts) (now indent) (now ent)) v × (length (now sc) ≡ 96) ⌝ }
+    ensures { λ r. ⌜ Renders (now (s .entry)) (now (b .entry)) options (world (whole rc (now (sc .entry))) (now (page .entry)) (now (texts .entry)) (now (indent .entry)) (now (ent .entry))) (world (whole r (now (sc .exit))) (now (page .exit)) (now (texts .exit)) (now (indent .exit)) (now (ent .exit))) (each-rule (now (s .entry)) (now (b .entry)) (world (whole rc (now (sc .entry))) (now (page .entry)) (now (texts .entry)) (now (indent .entry)) (now (ent .entry))) d at p v) ⌝ }
 {
-    let mut q = blocks::open_each(b, at, v, rc);
+    let mut q = blocks::open_each(b, sc, at, v, rc);
     let mut turn = turns::first_turn(s, tab, b, ent, v);
     let mut k: usize = 0;
     loop {
         let Turn::Item(item, key, object, last) = turn else {
             return state::pop_block(q, rc.total);
         };
-        let u = blocks::begin_turn(q, item, key, k, object, last);
+        let u = blocks::begin_turn(sc, q, item, key, k, object, last);
         q = render_elements(
             s,
             tab,
@@ -340,6 +355,7 @@ fn render_turns(
             page,
             texts,
             indent,
+            sc,
             options,
             p,
             d,
@@ -364,6 +380,7 @@ fn render_partial(
     page: &mut [u8],
     texts: &mut [u8],
     indent: &mut [u8],
+    sc: &mut [u64],
     options: Options,
     p: usize,
     at: Maybe,
@@ -371,8 +388,8 @@ fn render_partial(
     d: usize,
     rc: RenderContext,
 ) -> RenderContext
-    requires { ⌜ Checked (now s) (now tab) (now b) (now index) × Ready (now s) (now b) (world rc (now page) (now texts) (now indent) (now ent)) × (d < 16) × Holds (call-of (param d)) (bits (now b)) p × MaybeHolds string (bits (now b)) at ⌝ }
-    ensures { λ r. ⌜ Renders (now (s .entry)) (now (b .entry)) options (world rc (now (page .entry)) (now (texts .entry)) (now (indent .entry)) (now (ent .entry))) (world r (now (page .exit)) (now (texts .exit)) (now (indent .exit)) (now (ent .exit))) (partial-rule (now (b .entry)) d p Nothing at before) ⌝ }
+    requires { ⌜ Checked (now s) (now tab) (now b) (now index) × Ready (now s) (now b) (world (whole rc (now sc)) (now page) (now texts) (now indent) (now ent)) × (d < 16) × Holds (call-of (param d)) (bits (now b)) p × MaybeHolds string (bits (now b)) at × (length (now sc) ≡ 96) ⌝ }
+    ensures { λ r. ⌜ Renders (now (s .entry)) (now (b .entry)) options (world (whole rc (now (sc .entry))) (now (page .entry)) (now (texts .entry)) (now (indent .entry)) (now (ent .entry))) (world (whole r (now (sc .exit))) (now (page .exit)) (now (texts .exit)) (now (indent .exit)) (now (ent .exit))) (partial-rule (now (b .entry)) d p Nothing at before) ⌝ }
 {
     let begun = beginning::begin(
         s,
@@ -383,6 +400,7 @@ fn render_partial(
         page,
         texts,
         indent,
+        sc,
         options,
         p,
         Maybe::Nothing,
@@ -403,6 +421,7 @@ fn render_partial(
             page,
             texts,
             indent,
+            sc,
             options,
             t,
             e,
@@ -425,6 +444,7 @@ fn render_partial_block(
     page: &mut [u8],
     texts: &mut [u8],
     indent: &mut [u8],
+    sc: &mut [u64],
     options: Options,
     p: usize,
     own: usize,
@@ -433,8 +453,8 @@ fn render_partial_block(
     d: usize,
     rc: RenderContext,
 ) -> RenderContext
-    requires { ⌜ Checked (now s) (now tab) (now b) (now index) × Ready (now s) (now b) (world rc (now page) (now texts) (now indent) (now ent)) × (d < 16) × Holds (call-of (param d)) (bits (now b)) p × Holds (body 16 d) (bits (now b)) own × MaybeHolds string (bits (now b)) at ⌝ }
-    ensures { λ r. ⌜ Renders (now (s .entry)) (now (b .entry)) options (world rc (now (page .entry)) (now (texts .entry)) (now (indent .entry)) (now (ent .entry))) (world r (now (page .exit)) (now (texts .exit)) (now (indent .exit)) (now (ent .exit))) (partial-rule (now (b .entry)) d p (At own) at before) ⌝ }
+    requires { ⌜ Checked (now s) (now tab) (now b) (now index) × Ready (now s) (now b) (world (whole rc (now sc)) (now page) (now texts) (now indent) (now ent)) × (d < 16) × Holds (call-of (param d)) (bits (now b)) p × Holds (body 16 d) (bits (now b)) own × MaybeHolds string (bits (now b)) at × (length (now sc) ≡ 96) ⌝ }
+    ensures { λ r. ⌜ Renders (now (s .entry)) (now (b .entry)) options (world (whole rc (now (sc .entry))) (now (page .entry)) (now (texts .entry)) (now (indent .entry)) (now (ent .entry))) (world (whole r (now (sc .exit))) (now (page .exit)) (now (texts .exit)) (now (indent .exit)) (now (ent .exit))) (partial-rule (now (b .entry)) d p (At own) at before) ⌝ }
 {
     let begun = beginning::begin(
         s,
@@ -445,6 +465,7 @@ fn render_partial_block(
         page,
         texts,
         indent,
+        sc,
         options,
         p,
         Maybe::At(own),
@@ -467,6 +488,7 @@ fn render_partial_block(
                 page,
                 texts,
                 indent,
+                sc,
                 options,
                 t,
                 d,
@@ -485,6 +507,7 @@ fn render_partial_block(
                 page,
                 texts,
                 indent,
+                sc,
                 options,
                 t,
                 e,
@@ -503,6 +526,7 @@ fn render_partial_block(
                 page,
                 texts,
                 indent,
+                sc,
                 options,
                 o,
                 t,
@@ -528,6 +552,7 @@ fn render_text(
     page: &mut [u8],
     texts: &mut [u8],
     indent: &mut [u8],
+    sc: &mut [u64],
     options: Options,
     o: usize,
     p: usize,
@@ -538,8 +563,8 @@ fn render_text(
     rc: RenderContext,
     around: RenderContext,
 ) -> RenderContext
-    requires { ⌜ Checked (now s) (now tab) (now b) (now index) × Ready (now s) (now b) (world rc (now page) (now texts) (now indent) (now ent)) × (d < 16) × TextReady (now s) (now b) options (world rc (now page) (now texts) (now indent) (now ent)) around d o p e name at ⌝ }
-    ensures { λ r. ⌜ TextDrawn (now (s .entry)) (now (b .entry)) options (world rc (now (page .entry)) (now (texts .entry)) (now (indent .entry)) (now (ent .entry))) (world r (now (page .exit)) (now (texts .exit)) (now (indent .exit)) (now (ent .exit))) around d o p e name at ⌝ }
+    requires { ⌜ Checked (now s) (now tab) (now b) (now index) × Ready (now s) (now b) (world (whole rc (now sc)) (now page) (now texts) (now indent) (now ent)) × (d < 16) × TextReady (now s) (now b) options (world (whole rc (now sc)) (now page) (now texts) (now indent) (now ent)) around d o p e name at × (length (now sc) ≡ 96) ⌝ }
+    ensures { λ r. ⌜ TextDrawn (now (s .entry)) (now (b .entry)) options (world (whole rc (now (sc .entry))) (now (page .entry)) (now (texts .entry)) (now (indent .entry)) (now (ent .entry))) (world (whole r (now (sc .exit))) (now (page .exit)) (now (texts .exit)) (now (indent .exit)) (now (ent .exit))) around d o p e name at ⌝ }
 {
     let q = render_elements(
         s,
@@ -550,6 +575,7 @@ fn render_text(
         page,
         texts,
         indent,
+        sc,
         options,
         o,
         d,
@@ -560,7 +586,7 @@ fn render_text(
         return q;
     }
     let w = around.writer;
-    let u = beginning::end_text(texts, indent, b, at, name, w.low, w.block_text, q);
+    let u = beginning::end_text(texts, indent, sc, b, at, name, w.low, w.block_text, q);
     texts::finish_partial(
         render_elements(
             s,
@@ -571,6 +597,7 @@ fn render_text(
             page,
             texts,
             indent,
+            sc,
             options,
             p,
             e,
@@ -591,14 +618,15 @@ pub fn render_template(
     page: &mut [u8],
     texts: &mut [u8],
     indent: &mut [u8],
+    sc: &mut [u64],
     options: Options,
     name: usize,
     p: usize,
 ) -> RenderContext
-    requires { ⌜ Checked (now s) (now tab) (now b) (now index) × (8192 ≤ length (now ent)) × (16384 ≤ length (now texts)) × (256 ≤ length (now indent)) × Holds string (bits (now b)) name × Holds (body 16 16) (bits (now b)) p ⌝ }
-    ensures { λ r. ⌜ Draws (now (s .entry)) (now (b .entry)) (world fresh (now (page .entry)) (now (texts .entry)) (now (indent .entry)) (now (ent .entry))) (world r (now (page .exit)) (now (texts .exit)) (now (indent .exit)) (now (ent .exit))) (rule.render-template (registry-of (now (s .entry)) (now (b .entry)) options (length (now (page .entry)))) 32 (some (text-at (bits (now (b .entry))) name)) (template-at 16 16 (bits (now (b .entry))) p) (rules-fresh (paper-limits (length (now (page .entry)))))) ⌝ }
+    requires { ⌜ Checked (now s) (now tab) (now b) (now index) × (8192 ≤ length (now ent)) × (16384 ≤ length (now texts)) × (256 ≤ length (now indent)) × Holds string (bits (now b)) name × Holds (body 16 16) (bits (now b)) p × (length (now sc) ≡ 96) ⌝ }
+    ensures { λ r. ⌜ Draws (now (s .entry)) (now (b .entry)) (world fresh (now (page .entry)) (now (texts .entry)) (now (indent .entry)) (now (ent .entry))) (world (whole r (now (sc .exit))) (now (page .exit)) (now (texts .exit)) (now (indent .exit)) (now (ent .exit))) (rule.render-template (registry-of (now (s .entry)) (now (b .entry)) options (length (now (page .entry)))) 32 (some (text-at (bits (now (b .entry))) name)) (template-at 16 16 (bits (now (b .entry))) p) (rules-fresh (paper-limits (length (now (page .entry)))))) ⌝ }
 {
-    let rc = state::set_current_template_name(state::new(), name + 1);
+    let rc = state::set_current_template_name(state::new(sc), name + 1);
     render_elements(
         s,
         tab,
@@ -608,6 +636,7 @@ pub fn render_template(
         page,
         texts,
         indent,
+        sc,
         options,
         p,
         16,

@@ -189,4 +189,3 @@ begun-more l m i lt e h k le = ap (λ (x : List Scope). getD x k blank) e ∙ go
     go : (t : Bool) → ltb k i ≡ t → getD (set l i blank) k blank ≡ blank
     go true q = let y = ltb-true k i q in getD-set-other l i k blank blank (λ z. omega arith) ∙ h k y
     go false q = let y = ltb-false k i q in let z : k ≡ i = omega arith in ap (λ (j : ℕ). getD (set l i blank) j blank) z ∙ getD-set-same l i blank blank lt
-

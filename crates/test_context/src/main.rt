@@ -1,7 +1,7 @@
 // Paths over a small plan, with one scope, two, and recursive lookup: a line for each, what it prints (unwritten bytes are dots) or 20.
 ghost use mathlib.Core.Path.{_≡_};
 ghost use Prim.Native.Nat.{ℕ, _≤_, _<_};
-ghost use lib.ListN.{length};
+ghost use lib.ListN.{length, getD};
 ghost use Rattle.rules.specs.Bits.{bits};
 ghost use Rattle.rules.specs.Bundle.{path, param, body};
 ghost use Rattle.layout.specs.Verdict.{verdict};
@@ -10,13 +10,15 @@ ghost use Rattle.parts.specs.Holds.{Holds};
 ghost use Rattle.template.specs.Views.{ElementHolds};
 ghost use Rattle.places.specs.Accepted.{Accepted};
 ghost use Rattle.meaning.specs.Forms.{Known};
+ghost use Rattle.scope.specs.Scopes.{blank};
+ghost use Rattle.scope.specs.Made.{child};
+ghost use Rattle.scope.specs.Words.{scopes-of};
 ghost use Rattle.scope.specs.Standing.{ScopesStand};
 use calls::Parameter;
 use context::Evaluated;
 use layout::Verdict;
 use libc::STDOUT_FILENO;
 use registry::Found;
-use scope::Scope;
 use template::Element;
 use value::Value;
 
@@ -39,14 +41,14 @@ fn show_path(
     tab: &[u64],
     b: &[u8],
     ent: &[u64],
-    list: [Scope; 32],
+    sc: &[u64],
     used: usize,
     recursive: bool,
     q: usize,
 )
-    requires { ⌜ Accepted (now s) (now tab) × (length (now b) ≤ 65536) × (0 < used) × (used ≤ 32) × ((t : ℕ) × ScopesStand (now s) (now b) (now ent) list used t) × Holds path (bits (now b)) q ⌝ }
+    requires { ⌜ Accepted (now s) (now tab) × (length (now b) ≤ 65536) × (0 < used) × (used ≤ 32) × ((t : ℕ) × ScopesStand (now s) (now b) (now ent) (scopes-of (now sc)) used t) × Holds path (bits (now b)) q × (length (now sc) ≡ 96) ⌝ }
 {
-    let found = context::evaluate2(s, tab, b, ent, list, used, recursive, q);
+    let found = context::evaluate2(s, tab, b, ent, sc, used, recursive, q);
     match found {
         Evaluated::Is(v) => print_value(s, tab, b, v),
         Evaluated::BadIndex => print(b"20"),
@@ -60,19 +62,19 @@ fn show_name(
     tab: &[u64],
     b: &[u8],
     ent: &[u64],
-    list: [Scope; 32],
+    sc: &[u64],
     used: usize,
     recursive: bool,
     p: usize,
     d: usize,
 )
-    requires { ⌜ Accepted (now s) (now tab) × (length (now b) ≤ 65536) × (0 < used) × (used ≤ 32) × ((t : ℕ) × ScopesStand (now s) (now b) (now ent) list used t) × Holds (param d) (bits (now b)) p ⌝ }
+    requires { ⌜ Accepted (now s) (now tab) × (length (now b) ≤ 65536) × (0 < used) × (used ≤ 32) × ((t : ℕ) × ScopesStand (now s) (now b) (now ent) (scopes-of (now sc)) used t) × Holds (param d) (bits (now b)) p × (length (now sc) ≡ 96) ⌝ }
 {
     let x = calls::param_at(b, p);
     let Parameter::Path(q) = x else {
         return;
     };
-    show_path(s, tab, b, ent, list, used, recursive, q);
+    show_path(s, tab, b, ent, sc, used, recursive, q);
 }
 
 fn show_element(
@@ -80,18 +82,18 @@ fn show_element(
     tab: &[u64],
     b: &[u8],
     ent: &[u64],
-    list: [Scope; 32],
+    sc: &[u64],
     used: usize,
     recursive: bool,
     e: Element,
     d: usize,
 )
-    requires { ⌜ Accepted (now s) (now tab) × (length (now b) ≤ 65536) × (0 < used) × (used ≤ 32) × ((t : ℕ) × ScopesStand (now s) (now b) (now ent) list used t) × ElementHolds 16 d (bits (now b)) e ⌝ }
+    requires { ⌜ Accepted (now s) (now tab) × (length (now b) ≤ 65536) × (0 < used) × (used ≤ 32) × ((t : ℕ) × ScopesStand (now s) (now b) (now ent) (scopes-of (now sc)) used t) × ElementHolds 16 d (bits (now b)) e × (length (now sc) ≡ 96) ⌝ }
 {
     let Element::Expression(c, _) = e else {
         return;
     };
-    show_name(s, tab, b, ent, list, used, recursive, c, d);
+    show_name(s, tab, b, ent, sc, used, recursive, c, d);
 }
 
 // The elements of the body at p.
@@ -100,13 +102,13 @@ fn show_body(
     tab: &[u64],
     b: &[u8],
     ent: &[u64],
-    list: [Scope; 32],
+    sc: &[u64],
     used: usize,
     recursive: bool,
     p: usize,
     d: usize,
 )
-    requires { ⌜ Accepted (now s) (now tab) × (length (now b) ≤ 65536) × (0 < used) × (used ≤ 32) × ((t : ℕ) × ScopesStand (now s) (now b) (now ent) list used t) × Holds (body 16 d) (bits (now b)) p ⌝ }
+    requires { ⌜ Accepted (now s) (now tab) × (length (now b) ≤ 65536) × (0 < used) × (used ≤ 32) × ((t : ℕ) × ScopesStand (now s) (now b) (now ent) (scopes-of (now sc)) used t) × Holds (body 16 d) (bits (now b)) p × (length (now sc) ≡ 96) ⌝ }
 {
     let v = template::body_at(b, p);
     let count = v.count;
@@ -115,8 +117,20 @@ fn show_body(
     while i < count {
         let e = template::element_at(b, cur, 16, d - 1);
         let element = e.element;
-        show_element(s, tab, b, ent, list, used, recursive, element, d - 1);
+        show_element(s, tab, b, ent, sc, used, recursive, element, d - 1);
         cur = e.next;
+        i += 1;
+    }
+}
+
+// So many scopes of the plan.
+fn open_roots(sc: &mut [u64], n: usize)
+    requires { ⌜ (length (now sc) ≡ 96) × (n ≤ 32) ⌝ }
+    ensures { λ _. ⌜ ((i : ℕ) → i < n → getD (scopes-of (now (sc .exit))) i blank ≡ child 5 0) ⌝ }
+{
+    let mut i: usize = 0;
+    while i < n {
+        scope::put_scope(sc, i, scope::child(5, 0));
         i += 1;
     }
 }
@@ -130,8 +144,9 @@ fn show_main(s: &[u8], tab: &[u64], b: &[u8], used: usize, recursive: bool)
         return;
     };
     let ent: [u64; 2] = [0, 0];
-    let list = [scope::child(5, 0); 32];
-    show_body(s, tab, b, &ent, list, used, recursive, p, 16);
+    let mut sc: [u64; 96] = [0; 96];
+    open_roots(&mut sc, used);
+    show_body(s, tab, b, &ent, &sc, used, recursive, p, 16);
     print(b"\n");
 }
 

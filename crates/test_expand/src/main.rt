@@ -2,7 +2,7 @@
 // value, and what the call gives, or the number of its refusal. The calls are gone through plainly, in strict mode, and with all scopes open.
 ghost use mathlib.Core.Path.{_≡_};
 ghost use Prim.Native.Nat.{ℕ, _≤_, _<_};
-ghost use lib.ListN.{length};
+ghost use lib.ListN.{length, getD};
 ghost use Rattle.rules.specs.Bits.{bits};
 ghost use Rattle.rules.specs.Bundle.{call-of, param, body};
 ghost use Rattle.layout.specs.Verdict.{verdict};
@@ -11,6 +11,9 @@ ghost use Rattle.parts.specs.Holds.{Holds};
 ghost use Rattle.template.specs.Views.{ElementHolds};
 ghost use Rattle.places.specs.Accepted.{Accepted};
 ghost use Rattle.meaning.specs.Forms.{Known};
+ghost use Rattle.scope.specs.Scopes.{blank};
+ghost use Rattle.scope.specs.Made.{child};
+ghost use Rattle.scope.specs.Words.{scopes-of};
 ghost use Rattle.scope.specs.Standing.{ScopesStand};
 ghost use Rattle.expand.specs.Answers.{GotKnown};
 use expand::Got;
@@ -18,7 +21,6 @@ use expand::Options;
 use layout::Verdict;
 use libc::STDOUT_FILENO;
 use registry::Found;
-use scope::Scope;
 use template::Element;
 use value::Value;
 
@@ -63,16 +65,16 @@ fn call_value(
     tab: &[u64],
     b: &[u8],
     ent: &[u64],
-    list: [Scope; 32],
+    sc: &[u64],
     used: usize,
     options: Options,
     p: usize,
     d: usize,
 ) -> Got
-    requires { ⌜ Accepted (now s) (now tab) × (length (now b) ≤ 65536) × (0 < used) × (used ≤ 32) × ((t : ℕ) × ScopesStand (now s) (now b) (now ent) list used t) × Holds (call-of (param d)) (bits (now b)) p ⌝ }
+    requires { ⌜ Accepted (now s) (now tab) × (length (now b) ≤ 65536) × (0 < used) × (used ≤ 32) × ((t : ℕ) × ScopesStand (now s) (now b) (now ent) (scopes-of (now sc)) used t) × Holds (call-of (param d)) (bits (now b)) p × (length (now sc) ≡ 96) ⌝ }
     ensures { λ r. ⌜ GotKnown (now (s .entry)) (now (b .entry)) r ⌝ }
 {
-    let w = expand::try_from_template(s, tab, b, ent, list, used, options, p, d);
+    let w = expand::try_from_template(s, tab, b, ent, sc, used, options, p, d);
     if w.bad == 0 {
         return expand::called(s, tab, b, ent, used, options, w);
     }
@@ -85,16 +87,16 @@ fn name_value(
     tab: &[u64],
     b: &[u8],
     ent: &[u64],
-    list: [Scope; 32],
+    sc: &[u64],
     used: usize,
     options: Options,
     p: usize,
     d: usize,
 ) -> Got
-    requires { ⌜ Accepted (now s) (now tab) × (length (now b) ≤ 65536) × (0 < used) × (used ≤ 32) × ((t : ℕ) × ScopesStand (now s) (now b) (now ent) list used t) × Holds (param d) (bits (now b)) p ⌝ }
+    requires { ⌜ Accepted (now s) (now tab) × (length (now b) ≤ 65536) × (0 < used) × (used ≤ 32) × ((t : ℕ) × ScopesStand (now s) (now b) (now ent) (scopes-of (now sc)) used t) × Holds (param d) (bits (now b)) p × (length (now sc) ≡ 96) ⌝ }
     ensures { λ r. ⌜ GotKnown (now (s .entry)) (now (b .entry)) r ⌝ }
 {
-    expand::expand_as_name(s, tab, b, ent, list, used, options, p, d)
+    expand::expand_as_name(s, tab, b, ent, sc, used, options, p, d)
 }
 
 // The same as a value.
@@ -103,16 +105,16 @@ fn param_value(
     tab: &[u64],
     b: &[u8],
     ent: &[u64],
-    list: [Scope; 32],
+    sc: &[u64],
     used: usize,
     options: Options,
     p: usize,
     d: usize,
 ) -> Got
-    requires { ⌜ Accepted (now s) (now tab) × (length (now b) ≤ 65536) × (0 < used) × (used ≤ 32) × ((t : ℕ) × ScopesStand (now s) (now b) (now ent) list used t) × Holds (param d) (bits (now b)) p ⌝ }
+    requires { ⌜ Accepted (now s) (now tab) × (length (now b) ≤ 65536) × (0 < used) × (used ≤ 32) × ((t : ℕ) × ScopesStand (now s) (now b) (now ent) (scopes-of (now sc)) used t) × Holds (param d) (bits (now b)) p × (length (now sc) ≡ 96) ⌝ }
     ensures { λ r. ⌜ GotKnown (now (s .entry)) (now (b .entry)) r ⌝ }
 {
-    expand::expand(s, tab, b, ent, list, used, options, p, d)
+    expand::expand(s, tab, b, ent, sc, used, options, p, d)
 }
 
 // The call at p.
@@ -121,15 +123,15 @@ fn show_call(
     tab: &[u64],
     b: &[u8],
     ent: &[u64],
-    list: [Scope; 32],
+    sc: &[u64],
     used: usize,
     options: Options,
     p: usize,
     d: usize,
 )
-    requires { ⌜ Accepted (now s) (now tab) × (length (now b) ≤ 65536) × (0 < used) × (used ≤ 32) × ((t : ℕ) × ScopesStand (now s) (now b) (now ent) list used t) × Holds (call-of (param d)) (bits (now b)) p ⌝ }
+    requires { ⌜ Accepted (now s) (now tab) × (length (now b) ≤ 65536) × (0 < used) × (used ≤ 32) × ((t : ℕ) × ScopesStand (now s) (now b) (now ent) (scopes-of (now sc)) used t) × Holds (call-of (param d)) (bits (now b)) p × (length (now sc) ≡ 96) ⌝ }
 {
-    let w = expand::try_from_template(s, tab, b, ent, list, used, options, p, d);
+    let w = expand::try_from_template(s, tab, b, ent, sc, used, options, p, d);
     if w.bad != 0 {
         print(b"refused ");
         print_number(w.bad as u64);
@@ -141,7 +143,7 @@ fn show_call(
         s,
         tab,
         b,
-        call_value(s, tab, b, ent, list, used, options, p, d),
+        call_value(s, tab, b, ent, sc, used, options, p, d),
     );
 }
 
@@ -151,25 +153,25 @@ fn show_name(
     tab: &[u64],
     b: &[u8],
     ent: &[u64],
-    list: [Scope; 32],
+    sc: &[u64],
     used: usize,
     options: Options,
     p: usize,
     d: usize,
 )
-    requires { ⌜ Accepted (now s) (now tab) × (length (now b) ≤ 65536) × (0 < used) × (used ≤ 32) × ((t : ℕ) × ScopesStand (now s) (now b) (now ent) list used t) × Holds (param d) (bits (now b)) p ⌝ }
+    requires { ⌜ Accepted (now s) (now tab) × (length (now b) ≤ 65536) × (0 < used) × (used ≤ 32) × ((t : ℕ) × ScopesStand (now s) (now b) (now ent) (scopes-of (now sc)) used t) × Holds (param d) (bits (now b)) p × (length (now sc) ≡ 96) ⌝ }
 {
     print_got(
         s,
         tab,
         b,
-        name_value(s, tab, b, ent, list, used, options, p, d),
+        name_value(s, tab, b, ent, sc, used, options, p, d),
     );
     print_got(
         s,
         tab,
         b,
-        param_value(s, tab, b, ent, list, used, options, p, d),
+        param_value(s, tab, b, ent, sc, used, options, p, d),
     );
 }
 
@@ -178,19 +180,19 @@ fn show_element(
     tab: &[u64],
     b: &[u8],
     ent: &[u64],
-    list: [Scope; 32],
+    sc: &[u64],
     used: usize,
     options: Options,
     e: Element,
     d: usize,
 )
-    requires { ⌜ Accepted (now s) (now tab) × (length (now b) ≤ 65536) × (0 < used) × (used ≤ 32) × ((t : ℕ) × ScopesStand (now s) (now b) (now ent) list used t) × ElementHolds 16 d (bits (now b)) e ⌝ }
+    requires { ⌜ Accepted (now s) (now tab) × (length (now b) ≤ 65536) × (0 < used) × (used ≤ 32) × ((t : ℕ) × ScopesStand (now s) (now b) (now ent) (scopes-of (now sc)) used t) × ElementHolds 16 d (bits (now b)) e × (length (now sc) ≡ 96) ⌝ }
 {
     let Element::Expression(c, _) = e else {
         return;
     };
-    show_name(s, tab, b, ent, list, used, options, c, d);
-    show_call(s, tab, b, ent, list, used, options, c, d);
+    show_name(s, tab, b, ent, sc, used, options, c, d);
+    show_call(s, tab, b, ent, sc, used, options, c, d);
     print(b"\n");
 }
 
@@ -200,13 +202,13 @@ fn show_body(
     tab: &[u64],
     b: &[u8],
     ent: &[u64],
-    list: [Scope; 32],
+    sc: &[u64],
     used: usize,
     options: Options,
     p: usize,
     d: usize,
 )
-    requires { ⌜ Accepted (now s) (now tab) × (length (now b) ≤ 65536) × (0 < used) × (used ≤ 32) × ((t : ℕ) × ScopesStand (now s) (now b) (now ent) list used t) × Holds (body 16 d) (bits (now b)) p ⌝ }
+    requires { ⌜ Accepted (now s) (now tab) × (length (now b) ≤ 65536) × (0 < used) × (used ≤ 32) × ((t : ℕ) × ScopesStand (now s) (now b) (now ent) (scopes-of (now sc)) used t) × Holds (body 16 d) (bits (now b)) p × (length (now sc) ≡ 96) ⌝ }
 {
     let v = template::body_at(b, p);
     let count = v.count;
@@ -215,8 +217,20 @@ fn show_body(
     while i < count {
         let e = template::element_at(b, cur, 16, d - 1);
         let element = e.element;
-        show_element(s, tab, b, ent, list, used, options, element, d - 1);
+        show_element(s, tab, b, ent, sc, used, options, element, d - 1);
         cur = e.next;
+        i += 1;
+    }
+}
+
+// So many scopes of the plan.
+fn open_roots(sc: &mut [u64], n: usize)
+    requires { ⌜ (length (now sc) ≡ 96) × (n ≤ 32) ⌝ }
+    ensures { λ _. ⌜ ((i : ℕ) → i < n → getD (scopes-of (now (sc .exit))) i blank ≡ child 5 0) ⌝ }
+{
+    let mut i: usize = 0;
+    while i < n {
+        scope::put_scope(sc, i, scope::child(5, 0));
         i += 1;
     }
 }
@@ -230,13 +244,14 @@ fn show_main(s: &[u8], tab: &[u64], b: &[u8], used: usize, strict: bool)
         return;
     };
     let ent: [u64; 2] = [0, 0];
-    let list = [scope::child(5, 0); 32];
+    let mut sc: [u64; 96] = [0; 96];
+    open_roots(&mut sc, used);
     let options = Options {
         strict,
         recursive_lookup: false,
         guide_truth: false,
     };
-    show_body(s, tab, b, &ent, list, used, options, p, 16);
+    show_body(s, tab, b, &ent, &sc, used, options, p, 16);
     print(b"\n");
 }
 

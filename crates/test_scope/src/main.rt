@@ -1,9 +1,11 @@
 // Scopes by fixed cases: first what three names stand for, then local variables by level, then scopes by level.
+ghost use mathlib.Core.Path.{_≡_};
 ghost use Prim.Native.Nat.{_≤_};
 ghost use lib.ListN.{length};
 ghost use Rattle.rules.specs.Bits.{bits};
 ghost use Rattle.rules.specs.Bundle.{string};
 ghost use Rattle.parts.specs.Holds.{Holds};
+ghost use Rattle.scope.specs.Words.{scopes-of};
 ghost use Rattle.scope.specs.Names.{AllReadable};
 use libc::STDOUT_FILENO;
 use scope::Param;
@@ -41,25 +43,25 @@ fn print_param(r: Param) {
     }
 }
 
-// Three names in the first scopes of a list.
-fn print_names(b: &[u8], ent: &[u64], list: [Scope; 32], used: usize)
-    requires { ⌜ (length (now b) ≤ 65536) × (Holds string (bits (now b)) 0 × Holds string (bits (now b)) 24 × Holds string (bits (now b)) 48) × (used ≤ 32) × AllReadable (now b) (now ent) list used ⌝ }
+// Three names in the first scopes of the buffer.
+fn print_names(b: &[u8], ent: &[u64], sc: &[u64], used: usize)
+    requires { ⌜ (length (now b) ≤ 65536) × (Holds string (bits (now b)) 0 × Holds string (bits (now b)) 24 × Holds string (bits (now b)) 48) × (used ≤ 32) × AllReadable (now b) (now ent) (scopes-of (now sc)) used × (length (now sc) ≡ 96) ⌝ }
 {
-    print_param(scope::get_in_block_params(b, ent, list, used, 0));
-    print_param(scope::get_in_block_params(b, ent, list, used, 24));
-    print_param(scope::get_in_block_params(b, ent, list, used, 48));
+    print_param(scope::get_in_block_params(b, ent, sc, used, 0));
+    print_param(scope::get_in_block_params(b, ent, sc, used, 24));
+    print_param(scope::get_in_block_params(b, ent, sc, used, 48));
     print(b"\n");
 }
 
 // The local variables of one level.
-fn print_locals(b: &[u8], list: [Scope; 32], used: usize, level: usize)
-    requires { ⌜ used ≤ 32 ⌝ }
+fn print_locals(b: &[u8], sc: &[u64], used: usize, level: usize)
+    requires { ⌜ (used ≤ 32) × (length (now sc) ≡ 96) ⌝ }
 {
-    print_param(scope::local_value(b, list, used, level, 72));
-    print_param(scope::local_value(b, list, used, level, 128));
-    print_param(scope::local_value(b, list, used, level, 176));
-    print_param(scope::local_value(b, list, used, level, 232));
-    print_param(scope::local_value(b, list, used, level, 272));
+    print_param(scope::local_value(b, sc, used, level, 72));
+    print_param(scope::local_value(b, sc, used, level, 128));
+    print_param(scope::local_value(b, sc, used, level, 176));
+    print_param(scope::local_value(b, sc, used, level, 232));
+    print_param(scope::local_value(b, sc, used, level, 272));
     print(b"\n");
 }
 
@@ -69,6 +71,27 @@ fn print_base(c: Scope) {
     print_place(b"entry ", c.inline as usize);
     print_place(b"count ", c.count as usize);
     print(b"\n");
+}
+
+// The local variables of four scopes, and of one beyond.
+fn print_levels(b: &[u8], sc: &[u64])
+    requires { ⌜ length (now sc) ≡ 96 ⌝ }
+{
+    print_locals(b, sc, 4, 0);
+    print_locals(b, sc, 4, 1);
+    print_locals(b, sc, 4, 2);
+    print_locals(b, sc, 4, 3);
+    print_locals(b, sc, 4, 4);
+}
+
+// Scopes by their levels.
+fn print_fronts(sc: &[u64])
+    requires { ⌜ length (now sc) ≡ 96 ⌝ }
+{
+    print_base(scope::get_or_front(sc, 4, 0));
+    print_base(scope::get_or_front(sc, 4, 1));
+    print_base(scope::get_or_front(sc, 4, 3));
+    print_base(scope::get_or_front(sc, 4, 4));
 }
 
 // Names of a turn over an object with two names, a and b, over the plan's place 6, with @key a text of the bundle.
@@ -87,7 +110,9 @@ fn print_two() {
         locals: 6,
         block: 0,
     };
-    print_names(b, &ent, [two; 32], 1);
+    let mut sc: [u64; 96] = [0; 96];
+    scope::put_scope(&mut sc, 0, two);
+    print_names(b, &ent, &sc, 1);
 }
 
 // Names of a partial whose hash has a for the number of a turn, and c for the plan's place 9, whose path is forgotten.
@@ -106,7 +131,9 @@ fn print_hash() {
         locals: 0,
         block: 0,
     };
-    print_names(b, &ent, [hash; 32], 1);
+    let mut sc: [u64; 96] = [0; 96];
+    scope::put_scope(&mut sc, 0, hash);
+    print_names(b, &ent, &sc, 1);
 }
 
 fn main() {
@@ -126,18 +153,12 @@ fn main() {
         true,
         true,
     );
-    let mut list = [root; 32];
-    list[1] = one;
-    list[2] = two;
-    list[3] = scope::with_locals(scope::child(6, 2), two);
-    print_locals(b, list, 4, 0);
-    print_locals(b, list, 4, 1);
-    print_locals(b, list, 4, 2);
-    print_locals(b, list, 4, 3);
-    print_locals(b, list, 4, 4);
-    print_base(scope::get_or_front(list, 4, 0));
-    print_base(scope::get_or_front(list, 4, 1));
-    print_base(scope::get_or_front(list, 4, 3));
-    print_base(scope::get_or_front(list, 4, 4));
+    let mut sc: [u64; 96] = [0; 96];
+    scope::put_scope(&mut sc, 0, root);
+    scope::put_scope(&mut sc, 1, one);
+    scope::put_scope(&mut sc, 2, two);
+    scope::put_scope(&mut sc, 3, scope::with_locals(scope::child(6, 2), two));
+    print_levels(b, &sc);
+    print_fronts(&sc);
     print_base(scope::with_count(two, 2));
 }

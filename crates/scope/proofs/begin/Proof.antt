@@ -40,10 +40,12 @@ loop-less c = search needs
 
 -- src/lib.rt:368:5
 loop-again : tie.Need-loop-again Inv-loop μ-loop
-loop-again c = 
-    let l = c .before .before .before .before .before .loop in
-    (omega (arith, c .before .before .before .before .loop-test .taken), c .before .before .put-scope .kept .0 ∙ l .inv .1,
-    begun-more (scopes-of (l .sc)) _ (l .i) (omega (arith, scopes-length (l .sc), c .before .before .before .before .loop-test .taken)) (c .before .before .put-scope .ensures ∙ ap (set (scopes-of (l .sc)) (l .i)) (c .before .before .before .before .before .before .child .ensures)) (l .inv .2))
+loop-again c =
+    let l = c .before .before .before .before .before .loop in (
+      omega (arith, c .before .before .before .before .loop-test .taken),
+      c .before .before .put-scope .kept .0 ∙ l .inv .1,
+      begun-more (scopes-of (l .sc)) _ (l .i) (omega (arith, scopes-length (l .sc), c .before .before .before .before .loop-test .taken)) (c .before .before .put-scope .ensures ∙ ap (set (scopes-of (l .sc)) (l .i)) (c .before .before .before .before .before .before .child .ensures)) (l .inv .2),
+    )
 
 -- src/lib.rt:362:1
 same-length : tie.Need-same-length Inv-loop μ-loop

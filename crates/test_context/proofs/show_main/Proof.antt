@@ -1,11 +1,9 @@
 use Rattle.settings.specs.Settings.{roots-stand}
-use Rattle.scope.specs.Scopes.{blank}
+use Rattle.scope.specs.Words.{scopes-length}
 use Rattle.registry.specs.Templates.{accepted-holds, FoundHolds, found-stands}
 use Rattle.rules.specs.Bundle.{body}
 use Rattle.rules.specs.Bits.{bits}
-use lib.ListN.{length-replicate, getD-replicate}
 use mathlib.Core.Path.{sym, _∙_, subst}
-use native.Mathlib.Omega.{arith}
 use Prim.Native.Nat.{ℕ, _≤_}
 use borrow.Author.Needs.{needs}
 use Rattle.test_context.proofs.show_main.Statement.{statement}
@@ -13,7 +11,6 @@ use Rattle.test_context.proofs.show_main.Tie as tie
 use Rattle.test_context.proofs.show_main.Reads as reads
 use Rattle.test_context.proofs.show_main.Lts as lts
 use Rattle.registry.proofs.get_template.Reads as get-template-reads
-use Rattle.scope.proofs.child.Reads as child-reads
 use Rattle.test_context.proofs.print.Reads as print-reads
 use Rattle.test_context.proofs.show_body.Reads as show-body-reads
 
@@ -37,17 +34,22 @@ enum-told c = search needs
 returns : tie.Need-returns
 returns c = search needs
 
--- src/main.rt:218:17
-child-requires : tie.Need-child-requires
-child-requires c κs = search needs
+slice-aggregate-open-roots : tie.Need-slice-aggregate-open-roots
+slice-aggregate-open-roots c = search needs
+
+open-roots-requires : tie.Need-open-roots-requires
+open-roots-requires c κs = search needs
 
 -- src/main.rt:224:26
 slice-aggregate-show-body : tie.Need-slice-aggregate-show-body
 slice-aggregate-show-body c = search needs
 
+slice-aggregate-show-body-2 : tie.Need-slice-aggregate-show-body-2
+slice-aggregate-show-body-2 c = search needs
+
 -- src/main.rt:224:5
 show-body-requires : tie.Need-show-body-requires
-show-body-requires c κs = let z = (c .before .before .before .before .before .before .before .before .before .before) in let s = z .args .s .now in let b = z .args .b .now in let a = accepted-holds b (z .pre .1) in (z .pre .0, a .small, z .pre .2, z .pre .3, (0, roots-stand s b _ _ (z .args .used) (subst (λ (n : ℕ). z .args .used ≤ n) (sym (length-replicate 32 ((c .before) .child .result))) (z .pre .3)) (λ i lt. getD-replicate 32 i ((c .before) .child .result) blank (omega (arith, lt, z .pre .3)) ∙ (c .before) .child .ensures)), subst (FoundHolds (body 16 16) (bits b) _ _) (sym ((c .before .before .before .before .before) .get-template .ensures) ∙ (c .before .before .before) .f .given .1) (found-stands 16 (bits b) (a .templates) _ .parts) .3)
+show-body-requires c κs = let z = (c .before .before .before .before .before .before .before .before .before .before .before .before .before) in let s = z .args .s .now in let b = z .args .b .now in let a = accepted-holds b (z .pre .1) in (z .pre .0, a .small, z .pre .2, z .pre .3, (0, roots-stand s b _ _ (z .args .used) (subst (λ (n : ℕ). z .args .used ≤ n) (sym (scopes-length _)) (z .pre .3)) (c .before .before .before .open-roots .ensures)), subst (FoundHolds (body 16 16) (bits b) _ _) (sym ((c .before .before .before .before .before .before .before .before) .get-template .ensures) ∙ (c .before .before .before .before .before .before) .f .given .1) (found-stands 16 (bits b) (a .templates) _ .parts) .3, c .before .before .before .open-roots .kept .0)
 
 -- src/main.rt:225:11
 slice-aggregate-print : tie.Need-slice-aggregate-print
@@ -70,8 +72,10 @@ show-main-spec =
     enum-known-f
     enum-told
     returns
-    child-requires
+    slice-aggregate-open-roots
+    open-roots-requires
     slice-aggregate-show-body
+    slice-aggregate-show-body-2
     show-body-requires
     slice-aggregate-print
     print-requires

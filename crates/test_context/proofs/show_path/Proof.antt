@@ -3,6 +3,7 @@ use mathlib.Core.Path.{subst}
 use Rattle.meaning.specs.Means.{stands-known}
 use Rattle.context.specs.Evaluated.{Evaluates}
 use Rattle.settings.specs.Settings.{some-setting}
+use Rattle.scope.specs.Words.{scopes-of}
 use borrow.Author.Needs.{needs}
 use Rattle.test_context.proofs.show_path.Statement.{statement}
 use Rattle.test_context.proofs.show_path.Tie as tie
@@ -17,7 +18,7 @@ enum-known-found c = search needs
 
 -- src/main.rt:47:25
 print-value-requires : tie.Need-print-value-requires
-print-value-requires c κs = let z = (c .before .before .before .before .before .before .before .before) in let s = z .args .s .now in let b = z .args .b .now in let ent = z .args .ent .now in let t = z .pre .4 .0 in let w = some-setting s b ent (z .args .list) (z .args .used) (record { strict = false; «recursive_lookup» = z .args .recursive; «guide_truth» = false }) t (z .pre .2) (z .pre .4 .1) in let h = w .setting in (z .pre .0, z .pre .1, stands-known s b ent t _ (subst (Evaluates s b ent t _) ((c .before) .found .given .1) ((c .before .before .before) .evaluate2 .ensures (w .g) (w .st) t (h .plan) (h .recursive) (h .open-scopes) (h .stand)) .1))
+print-value-requires c κs = let z = (c .before .before .before .before .before .before .before .before .before) in let s = z .args .s .now in let b = z .args .b .now in let ent = z .args .ent .now in let t = z .pre .4 .0 in let w = some-setting s b ent (scopes-of (z .args .sc .now)) (z .args .used) (record { strict = false; «recursive_lookup» = z .args .recursive; «guide_truth» = false }) t (z .pre .2) (z .pre .4 .1) in let h = w .setting in (z .pre .0, z .pre .1, stands-known s b ent t _ (subst (Evaluates s b ent t _) ((c .before) .found .given .1) ((c .before .before .before) .evaluate2 .ensures (w .g) (w .st) t (h .plan) (h .recursive) (h .open-scopes) (h .stand)) .1))
 
 -- src/main.rt:48:33
 enum-told : tie.Need-enum-told

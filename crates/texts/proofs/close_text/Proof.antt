@@ -50,9 +50,11 @@ returns c =
     let w : RenderContext = whole (a .rc) (a .sc .now) in
     let k = a .rc .writer .low - a .begin in
     let closed : _ =
-        c .before .before .before .set-block .ensures ∙ ap (turned w) (c .before .before .before .before .before .with-block .ensures ∙ ap (λ (x : Scope). with-block x 2 k) (c .before .before .before .before .before .before .front .ensures)) in
-    (c .set-writer .ensures _ ∙ ap (λ (x : RenderContext). with-writer x (with-texts (a .rc .writer) (a .begin) (m .result) (a .block-text))) closed
-    ∙ ap (λ (h : ℕ). with-writer (turned w (with-block (newest w) 2 k)) (with-texts (a .rc .writer) (a .begin) h (a .block-text))) (m .ensures .0), rw (m .ensures .1, m .ensures .0))
+    c .before .before .before .set-block .ensures ∙ ap (turned w) (c .before .before .before .before .before .with-block .ensures ∙ ap (λ (x : Scope). with-block x 2 k) (c .before .before .before .before .before .before .front .ensures)) in (
+      c .set-writer .ensures _ ∙ ap (λ (x : RenderContext). with-writer x (with-texts (a .rc .writer) (a .begin) (m .result) (a .block-text))) closed
+          ∙ ap (λ (h : ℕ). with-writer (turned w (with-block (newest w) 2 k)) (with-texts (a .rc .writer) (a .begin) h (a .block-text))) (m .ensures .0),
+      rw (m .ensures .1, m .ensures .0),
+    )
 
 pub close-text-spec : {M : Type 1} → statement M
 close-text-spec =
