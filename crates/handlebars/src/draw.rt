@@ -1,7 +1,7 @@
 // Past the first ten checks: the drawing, and the answer that it leaves.
-ghost use mathlib.Core.List.{[]};
+ghost use mathlib.Core.List.{List, []};
 ghost use mathlib.Core.Path.{_≡_};
-ghost use Prim.Native.Nat.{_≤_};
+ghost use Prim.Native.Nat.{ℕ, _≤_};
 ghost use lib.ListN.{length};
 ghost use Rattle.rules.specs.Bits.{bits};
 ghost use Rattle.rules.specs.Bundle.{string, body};
@@ -12,6 +12,7 @@ ghost use Rattle.layout.specs.Text.{text-at};
 ghost use Rattle.parts.specs.Holds.{Holds};
 ghost use Rattle.places.specs.Accepted.{Accepted};
 ghost use Rattle.template.specs.Views.{template-at};
+ghost use Rattle.state.specs.Context.{whole};
 ghost use Rattle.state.specs.World.{reason-of};
 ghost use Rattle.drawing.specs.Renders.{registry-of};
 ghost use Rattle.handlebars.specs.Answers.{answer-of, Shown};
@@ -35,7 +36,7 @@ fn number_of(bad: u8) -> u32
 
 // The answer that a context stands for. (A context holds a position only where one was met.)
 fn answered(rc: RenderContext) -> Answer
-    ensures { λ r. ⌜ r ≡ answer-of rc ⌝ }
+    ensures { λ r. ⌜ ((l : List ℕ) → r ≡ answer-of (whole rc l)) ⌝ }
 {
     if rc.bad == 0 {
         let w = rc.writer;

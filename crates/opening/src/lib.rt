@@ -7,6 +7,7 @@ ghost use Rattle.rules.specs.Bits.{bits};
 ghost use Rattle.rules.specs.Bundle.{param, call-of};
 ghost use Rattle.parts.specs.Holds.{Holds};
 ghost use Rattle.places.specs.Accepted.{Accepted};
+ghost use Rattle.state.specs.Context.{whole};
 ghost use Rattle.inlining.specs.Decorated.{SomeReady};
 ghost use Rattle.opening.specs.Scoped.{end-of, SomeWorked, ScopeOpened};
 use expand::Expanded;
@@ -14,11 +15,11 @@ use expand::Options;
 use state::RenderContext;
 
 // Where the entries in use end.
-fn end_of(rc: RenderContext) -> usize
-    requires { ⌜ (0 < rc .used) × (rc .used ≤ 32) × (length (rc .scopes) ≡ 32) × (end-of rc ≤ 4096) ⌝ }
-    ensures { λ r. ⌜ r ≡ end-of rc ⌝ }
+fn end_of(sc: &[u64], rc: RenderContext) -> usize
+    requires { ⌜ (0 < rc .used) × (rc .used ≤ 32) × (end-of (whole rc (now sc)) ≤ 4096) × (length (now sc) ≡ 96) ⌝ }
+    ensures { λ r. ⌜ r ≡ end-of (whole rc (now (sc .entry))) ⌝ }
 {
-    let c = state::front(rc);
+    let c = state::front(sc, rc);
     c.inline as usize + c.count as usize
 }
 
@@ -28,21 +29,21 @@ pub fn open_scope(
     tab: &[u64],
     b: &[u8],
     ent: &mut [u64],
+    sc: &mut [u64],
     options: Options,
     p: usize,
     w: Expanded,
     d: usize,
     rc: RenderContext,
 ) -> RenderContext
-    requires { ⌜ Accepted (now s) (now tab) × (length (now b) ≤ 65536) × SomeReady (now s) (now b) rc (now ent) × Holds (call-of (param d)) (bits (now b)) p × SomeWorked (now s) (now b) (now ent) options rc d p w ⌝ }
-    ensures { λ r. ⌜ ScopeOpened (now (s .entry)) (now (b .entry)) (now (ent .entry)) (now (ent .exit)) options rc r d p w ⌝ }
+    requires { ⌜ Accepted (now s) (now tab) × (length (now b) ≤ 65536) × SomeReady (now s) (now b) (whole rc (now sc)) (now ent) × Holds (call-of (param d)) (bits (now b)) p × SomeWorked (now s) (now b) (now ent) options (whole rc (now sc)) d p w × (length (now sc) ≡ 96) ⌝ }
+    ensures { λ r. ⌜ ScopeOpened (now (s .entry)) (now (b .entry)) (now (ent .entry)) (now (ent .exit)) options (whole rc (now (sc .entry))) (whole r (now (sc .exit))) d p w ⌝ }
 {
-    let list = rc.scopes;
-    let base = including::partial_context(list, rc.used, w);
+    let base = including::partial_context(sc, rc.used, w);
     let call = calls::call_at(b, p, d);
     let n = call.pairs as usize;
-    let t = end_of(rc);
-    let values = including::hash_values(s, tab, b, ent, list, rc.used, options, call.pair, n, d);
+    let t = end_of(sc, rc);
+    let values = including::hash_values(s, tab, b, ent, sc, rc.used, options, call.pair, n, d);
     if 4096 < t + n {
         return state::failed(rc, 22);
     }
@@ -54,6 +55,6 @@ pub fn open_scope(
     if 32 <= rc.used {
         return state::failed(rc, 23);
     }
-    let c = including::scope_of(base, t, n, state::front(rc));
-    state::push_block(state::set_total(rc, rc.total + m), c)
+    let c = including::scope_of(base, t, n, state::front(sc, rc));
+    state::push_block(sc, state::set_total(rc, rc.total + m), c)
 }

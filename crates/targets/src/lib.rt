@@ -7,6 +7,8 @@ ghost use lib.ListN.{length};
 ghost use Rattle.rules.specs.Bits.{bits};
 ghost use Rattle.rules.specs.Bundle.{body};
 ghost use Rattle.parts.specs.Says.{MaybeHolds};
+ghost use Rattle.scope.specs.Words.{scopes-of};
+ghost use Rattle.state.specs.Context.{whole};
 ghost use Rattle.state.specs.World.{sizes-of};
 ghost use Rattle.meaning.specs.Standing.{Stands};
 ghost use Rattle.inlining.specs.Decorated.{SomeReady};
@@ -41,11 +43,11 @@ fn fallback(own: Maybe) -> Target
 }
 
 // `@partial-block`: its text, or the fallback.
-fn block_target(own: Maybe, rc: RenderContext) -> Target
-    requires { ⌜ (rc .used ≤ 32) × (length (rc .scopes) ≡ 32) × (rc .writer .high + sizes-of (rc .scopes) (rc .used) < 2 ^ 64) ⌝ }
-    ensures { λ r. ⌜ r ≡ block-target own rc ⌝ }
+fn block_target(sc: &[u64], own: Maybe, rc: RenderContext) -> Target
+    requires { ⌜ (rc .used ≤ 32) × (rc .writer .high + sizes-of (scopes-of (now sc)) (rc .used) < 2 ^ 64) × (length (now sc) ≡ 96) ⌝ }
+    ensures { λ r. ⌜ r ≡ block-target own (whole rc (now (sc .entry))) ⌝ }
 {
-    match texts::peek_partial_block(rc) {
+    match texts::peek_partial_block(sc, rc) {
         Peek::Absent => fallback(own),
         Peek::Nothing => fallback(own),
         Peek::Text(from, n) => Target::Text(from, n),
@@ -69,22 +71,22 @@ pub fn expand_partial(
     b: &[u8],
     index: &[u32],
     ent: &[u64],
+    sc: &[u64],
     name: Value,
     own: Maybe,
     d: usize,
     rc: RenderContext,
 ) -> Target
-    requires { ⌜ Checked (now s) (now tab) (now b) (now index) × SomeReady (now s) (now b) rc (now ent) × (d ≤ 16) × MaybeHolds (body 16 d) (bits (now b)) own × ((t : ℕ) × Stands (now s) (now b) (now ent) t name) × (rc .writer .high + sizes-of (rc .scopes) (rc .used) < 2 ^ 64) ⌝ }
-    ensures { λ r. ⌜ Decided (now (s .entry)) (now (b .entry)) (now (ent .entry)) rc d name own r ⌝ }
+    requires { ⌜ Checked (now s) (now tab) (now b) (now index) × SomeReady (now s) (now b) (whole rc (now sc)) (now ent) × (d ≤ 16) × MaybeHolds (body 16 d) (bits (now b)) own × ((t : ℕ) × Stands (now s) (now b) (now ent) t name) × (rc .writer .high + sizes-of (scopes-of (now sc)) (rc .used) < 2 ^ 64) × (length (now sc) ≡ 96) ⌝ }
+    ensures { λ r. ⌜ Decided (now (s .entry)) (now (b .entry)) (now (ent .entry)) (whole rc (now (sc .entry))) d name own r ⌝ }
 {
     if partials::is_current_template(s, tab, b, rc.template, name) {
         return Target::Bad(17);
     }
     if print::text_is(s, tab, b, name, b"@partial-block") {
-        return block_target(own, rc);
+        return block_target(sc, own, rc);
     }
-    let list = rc.scopes;
-    match partials::find_partial(s, tab, b, index, ent, list, rc.used, name) {
+    match partials::find_partial(s, tab, b, index, ent, sc, rc.used, name) {
         Found::Inline(q, e) => Target::Body(q, e, 0, own),
         Found::Template(n, q) => Target::Body(q, 16, n + 1, own),
         Found::Nothing => own_target(own, d),

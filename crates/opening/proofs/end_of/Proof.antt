@@ -1,3 +1,5 @@
+use Rattle.state.specs.Context.{whole}
+use Rattle.scope.specs.Words.{scopes-of}
 use Rattle.scope.specs.declared.Scope.{Scope}
 use Prim.Native.Nat.{_+_}
 use mathlib.Core.Path.{_∙_, ap, ap₂}
@@ -30,4 +32,5 @@ returns : tie.Need-returns
 returns c = ap (λ (x : Scope). x .inline + x .count) ((c .before .before .front) .ensures)
 
 pub end-of-spec : {M : Type 1} → statement M
-end-of-spec = tie.close (tie.spec front-requires cast-result cast-result-2 add-result returns)
+end-of-spec =
+    tie.close (tie.spec front-requires cast-result cast-result-2 add-result returns)

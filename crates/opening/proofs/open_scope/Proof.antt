@@ -1,3 +1,5 @@
+use Rattle.state.specs.Context.{whole}
+use Rattle.scope.specs.Words.{scopes-of}
 use Rattle.opening.specs.Scoped.{end-of, ScopeOpened, scope-base, scope-pairs, scope-full, scope-deep, scope-parts, scope-opened}
 use Rattle.state.specs.World.{world, Ready}
 use Rattle.state.specs.Setters.{failed, counted, pushed}
@@ -37,7 +39,7 @@ use Rattle.state.proofs.set_total.Reads as set-total-reads
 
 -- src/lib.rt:52:9
 partial-context-requires : tie.Need-partial-context-requires
-partial-context-requires c κs = ((c .before .before .before .before .before .pre) .2 .ready .one, (c .before .before .before .before .before .pre) .2 .ready .most)
+partial-context-requires c κs = ((c .before .before .before .before .before .before .pre) .2 .ready .one, (c .before .before .before .before .before .before .pre) .2 .ready .most, (c .before .before .before .before .before .before .pre) .5)
 
 -- src/lib.rt:53:9
 call-at-requires : tie.Need-call-at-requires
@@ -45,19 +47,19 @@ call-at-requires c κs = search needs
 
 -- src/lib.rt:55:9
 end-of-requires : tie.Need-end-of-requires
-end-of-requires c κs = let r = (c .before .before .before .before .before .before .before .pre) .2 .ready in (r .one, r .most, r .sized, omega (arith, r .enough, r .few))
+end-of-requires c κs = let r = (c .before .before .before .before .before .before .before .before .before .pre) .2 .ready in (r .one, r .most, omega (arith, r .enough, r .few), (c .before .before .before .before .before .before .before .before .before .pre) .5)
 
 -- src/lib.rt:56:9
 hash-values-requires : tie.Need-hash-values-requires
 hash-values-requires c κs =
-    let r = (c .before .before .before .before .before .before .before .before .before .pre) .2 .ready in
-    let v = (c .before .before .call-at) .result in
-    let H = call-pairs-stand ((c .before .before .before .before .before .before .before .before .before .args) .d) (bits ((c .before .before .before .before .before .before .before .before .before .args) .b .now)) ((c .before .before .before .before .before .before .before .before .before .args) .p) ((c .before .before .call-at) .result) (bits-binary ((c .before .before .before .before .before .before .before .before .before .args) .b .now)) ((c .before .before .before .before .before .before .before .before .before .pre) .3) ((c .before .before .call-at) .ensures) in
-    ((c .before .before .before .before .before .before .before .before .before .pre) .0, (c .before .before .before .before .before .before .before .before .before .pre) .1, r .one, r .most, (_, r .scopes, omega (arith, r .enough, r .few)), H .few, H .holds)
+    let r = (c .before .before .before .before .before .before .before .before .before .before .before .before .pre) .2 .ready in
+    let v = (c .before .before .before .before .call-at) .result in
+    let H = call-pairs-stand ((c .before .before .before .before .before .before .before .before .before .before .before .before .args) .d) (bits ((c .before .before .before .before .before .before .before .before .before .before .before .before .args) .b .now)) ((c .before .before .before .before .before .before .before .before .before .before .before .before .args) .p) ((c .before .before .before .before .call-at) .result) (bits-binary ((c .before .before .before .before .before .before .before .before .before .before .before .before .args) .b .now)) ((c .before .before .before .before .before .before .before .before .before .before .before .before .pre) .3) ((c .before .before .before .before .call-at) .ensures) in
+    ((c .before .before .before .before .before .before .before .before .before .before .before .before .pre) .0, (c .before .before .before .before .before .before .before .before .before .before .before .before .pre) .1, r .one, r .most, (_, r .scopes, omega (arith, r .enough, r .few)), H .few, H .holds, (c .before .before .before .before .before .before .before .before .before .before .before .before .pre) .5)
 
 -- src/lib.rt:57:15
 add-if1 : tie.Need-add-if1
-add-if1 c = let few = call-pairs-stand ((c .before .before .before .before .before .before .before .before .before .before .args) .d) (bits ((c .before .before .before .before .before .before .before .before .before .before .args) .b .now)) ((c .before .before .before .before .before .before .before .before .before .before .args) .p) ((c .before .before .before .call-at) .result) (bits-binary ((c .before .before .before .before .before .before .before .before .before .before .args) .b .now)) ((c .before .before .before .before .before .before .before .before .before .before .pre) .3) ((c .before .before .before .call-at) .ensures) .few in let e = (c .before .before .end-of) .ensures in let le : end-of ((c .before .before .before .before .before .before .before .before .before .before .args) .rc) ≤ 4096 = omega (arith, (c .before .before .before .before .before .before .before .before .before .before .pre) .2 .ready .enough, (c .before .before .before .before .before .before .before .before .before .before .pre) .2 .ready .few) in search needs
+add-if1 c = let few = call-pairs-stand ((c .before .before .before .before .before .before .before .before .before .before .before .before .before .args) .d) (bits ((c .before .before .before .before .before .before .before .before .before .before .before .before .before .args) .b .now)) ((c .before .before .before .before .before .before .before .before .before .before .before .before .before .args) .p) ((c .before .before .before .before .before .call-at) .result) (bits-binary ((c .before .before .before .before .before .before .before .before .before .before .before .before .before .args) .b .now)) ((c .before .before .before .before .before .before .before .before .before .before .before .before .before .pre) .3) ((c .before .before .before .before .before .call-at) .ensures) .few in let e = (c .before .before .before .end-of) .ensures in let le : end-of (whole ((c .before .before .before .before .before .before .before .before .before .before .before .before .before .args) .rc) ((c .before .before .before .before .before .before .before .before .before .before .before .before .before .args) .sc .now)) ≤ 4096 = omega (arith, (c .before .before .before .before .before .before .before .before .before .before .before .before .before .pre) .2 .ready .enough, (c .before .before .before .before .before .before .before .before .before .before .before .before .before .pre) .2 .ready .few) in search needs
 
 -- src/lib.rt:58:9
 failed-requires : tie.Need-failed-requires
@@ -67,103 +69,113 @@ failed-requires c κs = search needs
 same-length : tie.Need-same-length
 same-length c = search needs
 
+-- src/lib.rt:63:9
+same-length-2 : tie.Need-same-length-2
+same-length-2 c = search needs
+
 -- src/lib.rt:58:9
 returns : tie.Need-returns
 returns c =
-    let a = (c .before .before .before .before .before .before .before .before .before .before .before .before .args) in
-    let v = (c .before .before .before .before .before .call-at) .result in
-    let e : (c .before .before .before .before .end-of) .result ≡ end-of (a .rc) = (c .before .before .before .before .end-of) .ensures in
-    subst (λ (r : RenderContext). ScopeOpened (a .s .now) (a .b .now) (a .ent .now) (a .ent .now) (a .options) (a .rc) r (a .d) (a .p) (a .w)) (sym ((c .failed) .ensures))
-    (scope-pairs ((c .before .before .before .before .before .before .before .before .before .before .before .before .args) .s .now) ((c .before .before .before .before .before .before .before .before .before .before .before .before .args) .b .now) ((c .before .before .before .before .before .before .before .before .before .before .before .before .args) .ent .now) ((c .before .before .before .before .before .before .before .before .before .before .before .before .args) .options) ((c .before .before .before .before .before .before .before .before .before .before .before .before .args) .rc) ((c .before .before .before .before .before .before .before .before .before .before .before .before .args) .d) ((c .before .before .before .before .before .before .before .before .before .before .before .before .args) .p) ((c .before .before .before .before .before .before .before .before .before .before .before .before .args) .w) ((c .before .before .before .before .before .before .before .before .before .before .before .before .pre) .0 .answers) ((c .before .before .before .before .before .before .before .before .before .before .before .before .pre) .1) ((c .before .before .before .before .before .before .before .before .before .before .before .before .pre) .3) ((c .before .before .before .before .before .call-at) .result) ((c .before .before .before .before .before .call-at) .ensures) ((c .before .before .before .before .before .before .partial-context) .result) ((c .before .before .before .before .before .before .partial-context) .ensures) ((c .before .before .hash-values) .result) ((c .before .before .hash-values) .ensures) (omega (arith, e, (c .before .if1) .taken)))
+    let a = (c .before .before .before .before .before .before .before .before .before .before .before .before .before .before .before .args) in
+    let v = (c .before .before .before .before .before .before .before .call-at) .result in
+    let e : (c .before .before .before .before .before .end-of) .result ≡ end-of (whole (a .rc) (a .sc .now)) = (c .before .before .before .before .before .end-of) .ensures in
+    subst (λ (r : RenderContext). ScopeOpened (a .s .now) (a .b .now) (a .ent .now) (a .ent .now) (a .options) (whole (a .rc) (a .sc .now)) r (a .d) (a .p) (a .w)) (sym ((c .failed) .ensures _))
+    (scope-pairs ((c .before .before .before .before .before .before .before .before .before .before .before .before .before .before .before .args) .s .now) ((c .before .before .before .before .before .before .before .before .before .before .before .before .before .before .before .args) .b .now) ((c .before .before .before .before .before .before .before .before .before .before .before .before .before .before .before .args) .ent .now) ((c .before .before .before .before .before .before .before .before .before .before .before .before .before .before .before .args) .options) (whole ((c .before .before .before .before .before .before .before .before .before .before .before .before .before .before .before .args) .rc) ((c .before .before .before .before .before .before .before .before .before .before .before .before .before .before .before .args) .sc .now)) ((c .before .before .before .before .before .before .before .before .before .before .before .before .before .before .before .args) .d) ((c .before .before .before .before .before .before .before .before .before .before .before .before .before .before .before .args) .p) ((c .before .before .before .before .before .before .before .before .before .before .before .before .before .before .before .args) .w) ((c .before .before .before .before .before .before .before .before .before .before .before .before .before .before .before .pre) .0 .answers) ((c .before .before .before .before .before .before .before .before .before .before .before .before .before .before .before .pre) .1) ((c .before .before .before .before .before .before .before .before .before .before .before .before .before .before .before .pre) .3) ((c .before .before .before .before .before .before .before .call-at) .result) ((c .before .before .before .before .before .before .before .call-at) .ensures) ((c .before .before .before .before .before .before .before .before .partial-context) .result) ((c .before .before .before .before .before .before .before .before .partial-context) .ensures) ((c .before .before .hash-values) .result) ((c .before .before .hash-values) .ensures) (omega (arith, e, (c .before .if1) .taken)))
 
 -- src/lib.rt:60:5
 merge-requires : tie.Need-merge-requires
 merge-requires c κs =
-    let a = (c .before .before .before .before .before .before .before .before .before .before .before .before .args) in
-    let v = (c .before .before .before .before .before .call-at) .result in
-    let e : (c .before .before .before .before .end-of) .result ≡ end-of (a .rc) = (c .before .before .before .before .end-of) .ensures in
-    let H = call-pairs-stand (a .d) (bits (a .b .now)) (a .p) v (bits-binary (a .b .now)) ((c .before .before .before .before .before .before .before .before .before .before .before .before .pre) .3) ((c .before .before .before .before .before .call-at) .ensures) in
-    let few : end-of (a .rc) + v .pairs ≤ 4096 = omega (arith, e, (c .before .if1) .left) in
-    ((c .before .before .before .before .before .before .before .before .before .before .before .before .pre) .1, scope-base ((c .before .before .before .before .before .before .before .before .before .before .before .before .args) .s .now) ((c .before .before .before .before .before .before .before .before .before .before .before .before .args) .b .now) ((c .before .before .before .before .before .before .before .before .before .before .before .before .args) .ent .now) ((c .before .before .before .before .before .before .before .before .before .before .before .before .args) .options) ((c .before .before .before .before .before .before .before .before .before .before .before .before .args) .rc) ((c .before .before .before .before .before .before .before .before .before .before .before .before .args) .d) ((c .before .before .before .before .before .before .before .before .before .before .before .before .args) .p) ((c .before .before .before .before .before .before .before .before .before .before .before .before .args) .w) ((c .before .before .before .before .before .before .before .before .before .before .before .before .pre) .0 .answers) ((c .before .before .before .before .before .before .before .before .before .before .before .before .pre) .1) ((c .before .before .before .before .before .before .before .before .before .before .before .before .pre) .3) ((c .before .before .before .before .before .call-at) .result) ((c .before .before .before .before .before .call-at) .ensures) ((c .before .before .before .before .before .before .partial-context) .result) ((c .before .before .before .before .before .before .partial-context) .ensures) ((c .before .before .hash-values) .result) ((c .before .before .hash-values) .ensures) ((c .before .before .before .before .before .before .before .before .before .before .before .before .pre) .4), H .few, omega (arith, e), omega (arith, e, (c .before .before .before .before .before .before .before .before .before .before .before .before .pre) .2 .ready .table), H .holds)
+    let a = (c .before .before .before .before .before .before .before .before .before .before .before .before .before .before .before .args) in
+    let v = (c .before .before .before .before .before .before .before .call-at) .result in
+    let e : (c .before .before .before .before .before .end-of) .result ≡ end-of (whole (a .rc) (a .sc .now)) = (c .before .before .before .before .before .end-of) .ensures in
+    let H = call-pairs-stand (a .d) (bits (a .b .now)) (a .p) v (bits-binary (a .b .now)) ((c .before .before .before .before .before .before .before .before .before .before .before .before .before .before .before .pre) .3) ((c .before .before .before .before .before .before .before .call-at) .ensures) in
+    let few : end-of (whole (a .rc) (a .sc .now)) + v .pairs ≤ 4096 = omega (arith, e, (c .before .if1) .left) in
+    ((c .before .before .before .before .before .before .before .before .before .before .before .before .before .before .before .pre) .1, scope-base ((c .before .before .before .before .before .before .before .before .before .before .before .before .before .before .before .args) .s .now) ((c .before .before .before .before .before .before .before .before .before .before .before .before .before .before .before .args) .b .now) ((c .before .before .before .before .before .before .before .before .before .before .before .before .before .before .before .args) .ent .now) ((c .before .before .before .before .before .before .before .before .before .before .before .before .before .before .before .args) .options) (whole ((c .before .before .before .before .before .before .before .before .before .before .before .before .before .before .before .args) .rc) ((c .before .before .before .before .before .before .before .before .before .before .before .before .before .before .before .args) .sc .now)) ((c .before .before .before .before .before .before .before .before .before .before .before .before .before .before .before .args) .d) ((c .before .before .before .before .before .before .before .before .before .before .before .before .before .before .before .args) .p) ((c .before .before .before .before .before .before .before .before .before .before .before .before .before .before .before .args) .w) ((c .before .before .before .before .before .before .before .before .before .before .before .before .before .before .before .pre) .0 .answers) ((c .before .before .before .before .before .before .before .before .before .before .before .before .before .before .before .pre) .1) ((c .before .before .before .before .before .before .before .before .before .before .before .before .before .before .before .pre) .3) ((c .before .before .before .before .before .before .before .call-at) .result) ((c .before .before .before .before .before .before .before .call-at) .ensures) ((c .before .before .before .before .before .before .before .before .partial-context) .result) ((c .before .before .before .before .before .before .before .before .partial-context) .ensures) ((c .before .before .hash-values) .result) ((c .before .before .hash-values) .ensures) ((c .before .before .before .before .before .before .before .before .before .before .before .before .before .before .before .pre) .4), H .few, omega (arith, e), omega (arith, e, (c .before .before .before .before .before .before .before .before .before .before .before .before .before .before .before .pre) .2 .ready .table), H .holds)
 
 -- src/lib.rt:61:9
 merged-entries-requires : tie.Need-merged-entries-requires
 merged-entries-requires c κs =
-    let a = (c .before .before .before .before .before .before .before .before .before .before .before .before .before .before .before .before .args) in
-    let v = (c .before .before .before .before .before .before .before .before .before .call-at) .result in
-    let e : (c .before .before .before .before .before .before .before .before .end-of) .result ≡ end-of (a .rc) = (c .before .before .before .before .before .before .before .before .end-of) .ensures in
-    let t : ℕ = end-of (a .rc) in
-    let ent′ : List ℕ = with-pairs (a .ent .now) (bits (a .b .now)) t (encoded ((c .before .before .before .before .before .before .before .before .before .before .partial-context) .result)) ((c .before .before .before .before .before .before .hash-values) .result) (a .d) (v .pair) (v .pairs) in
+    let a = (c .before .before .before .before .before .before .before .before .before .before .before .before .before .before .before .before .before .before .before .args) in
+    let v = (c .before .before .before .before .before .before .before .before .before .before .before .call-at) .result in
+    let e : (c .before .before .before .before .before .before .before .before .before .end-of) .result ≡ end-of (whole (a .rc) (a .sc .now)) = (c .before .before .before .before .before .before .before .before .before .end-of) .ensures in
+    let t : ℕ = end-of (whole (a .rc) (a .sc .now)) in
+    let ent′ : List ℕ = with-pairs (a .ent .now) (bits (a .b .now)) t (encoded ((c .before .before .before .before .before .before .before .before .before .before .before .before .partial-context) .result)) ((c .before .before .before .before .before .before .hash-values) .result) (a .d) (v .pair) (v .pairs) in
     let few : t + v .pairs ≤ 4096 = omega (arith, e, (c .before .before .before .before .before .if1) .left) in
-    let is : (c .before .before .before .merge) .last .0 ≡ ent′ = (c .before .before .before .merge) .ensures ∙ ap (λ (k : ℕ). with-pairs (a .ent .now) (bits (a .b .now)) k (encoded ((c .before .before .before .before .before .before .before .before .before .before .partial-context) .result)) ((c .before .before .before .before .before .before .hash-values) .result) (a .d) (v .pair) (v .pairs)) e in
-    ((c .before .before .before .before .before .before .before .before .before .before .before .before .before .before .before .before .pre) .0, (c .before .before .before .before .before .before .before .before .before .before .before .before .before .before .before .before .pre) .1, λ lt. subst (λ (l : List ℕ). Parts (a .s .now) (a .b .now) l ((c .before .before .before .before .before .before .before .before .end-of) .result) (v .pairs)) (sym is) (subst (λ (k : ℕ). Parts (a .s .now) (a .b .now) ent′ k (v .pairs)) (sym e) (scope-parts ((c .before .before .before .before .before .before .before .before .before .before .before .before .before .before .before .before .args) .s .now) ((c .before .before .before .before .before .before .before .before .before .before .before .before .before .before .before .before .args) .b .now) ((c .before .before .before .before .before .before .before .before .before .before .before .before .before .before .before .before .args) .ent .now) ((c .before .before .before .before .before .before .before .before .before .before .before .before .before .before .before .before .args) .options) ((c .before .before .before .before .before .before .before .before .before .before .before .before .before .before .before .before .args) .rc) ((c .before .before .before .before .before .before .before .before .before .before .before .before .before .before .before .before .args) .d) ((c .before .before .before .before .before .before .before .before .before .before .before .before .before .before .before .before .args) .p) ((c .before .before .before .before .before .before .before .before .before .before .before .before .before .before .before .before .args) .w) ((c .before .before .before .before .before .before .before .before .before .before .before .before .before .before .before .before .pre) .0 .answers) ((c .before .before .before .before .before .before .before .before .before .before .before .before .before .before .before .before .pre) .1) ((c .before .before .before .before .before .before .before .before .before .before .before .before .before .before .before .before .pre) .3) ((c .before .before .before .before .before .before .before .before .before .call-at) .result) ((c .before .before .before .before .before .before .before .before .before .call-at) .ensures) ((c .before .before .before .before .before .before .before .before .before .before .partial-context) .result) ((c .before .before .before .before .before .before .before .before .before .before .partial-context) .ensures) ((c .before .before .before .before .before .before .hash-values) .result) ((c .before .before .before .before .before .before .hash-values) .ensures) few ((c .before .before .before .before .before .before .before .before .before .before .before .before .before .before .before .before .pre) .4) lt)))
+    let is : (c .before .before .before .merge) .last .0 ≡ ent′ = (c .before .before .before .merge) .ensures ∙ ap (λ (k : ℕ). with-pairs (a .ent .now) (bits (a .b .now)) k (encoded ((c .before .before .before .before .before .before .before .before .before .before .before .before .partial-context) .result)) ((c .before .before .before .before .before .before .hash-values) .result) (a .d) (v .pair) (v .pairs)) e in
+    ((c .before .before .before .before .before .before .before .before .before .before .before .before .before .before .before .before .before .before .before .pre) .0, (c .before .before .before .before .before .before .before .before .before .before .before .before .before .before .before .before .before .before .before .pre) .1, λ lt. subst (λ (l : List ℕ). Parts (a .s .now) (a .b .now) l ((c .before .before .before .before .before .before .before .before .before .end-of) .result) (v .pairs)) (sym is) (subst (λ (k : ℕ). Parts (a .s .now) (a .b .now) ent′ k (v .pairs)) (sym e) (scope-parts ((c .before .before .before .before .before .before .before .before .before .before .before .before .before .before .before .before .before .before .before .args) .s .now) ((c .before .before .before .before .before .before .before .before .before .before .before .before .before .before .before .before .before .before .before .args) .b .now) ((c .before .before .before .before .before .before .before .before .before .before .before .before .before .before .before .before .before .before .before .args) .ent .now) ((c .before .before .before .before .before .before .before .before .before .before .before .before .before .before .before .before .before .before .before .args) .options) (whole ((c .before .before .before .before .before .before .before .before .before .before .before .before .before .before .before .before .before .before .before .args) .rc) ((c .before .before .before .before .before .before .before .before .before .before .before .before .before .before .before .before .before .before .before .args) .sc .now)) ((c .before .before .before .before .before .before .before .before .before .before .before .before .before .before .before .before .before .before .before .args) .d) ((c .before .before .before .before .before .before .before .before .before .before .before .before .before .before .before .before .before .before .before .args) .p) ((c .before .before .before .before .before .before .before .before .before .before .before .before .before .before .before .before .before .before .before .args) .w) ((c .before .before .before .before .before .before .before .before .before .before .before .before .before .before .before .before .before .before .before .pre) .0 .answers) ((c .before .before .before .before .before .before .before .before .before .before .before .before .before .before .before .before .before .before .before .pre) .1) ((c .before .before .before .before .before .before .before .before .before .before .before .before .before .before .before .before .before .before .before .pre) .3) ((c .before .before .before .before .before .before .before .before .before .before .before .call-at) .result) ((c .before .before .before .before .before .before .before .before .before .before .before .call-at) .ensures) ((c .before .before .before .before .before .before .before .before .before .before .before .before .partial-context) .result) ((c .before .before .before .before .before .before .before .before .before .before .before .before .partial-context) .ensures) ((c .before .before .before .before .before .before .hash-values) .result) ((c .before .before .before .before .before .before .hash-values) .ensures) few ((c .before .before .before .before .before .before .before .before .before .before .before .before .before .before .before .before .before .before .before .pre) .4) lt)))
 
 -- src/lib.rt:62:8
 sub-if2 : tie.Need-sub-if2
-sub-if2 c = let few = (c .before .before .before .before .before .before .before .before .before .before .before .before .before .before .before .before .before .before .pre) .2 .ready .few in search needs
+sub-if2 c = let few = (c .before .before .before .before .before .before .before .before .before .before .before .before .before .before .before .before .before .before .before .before .before .pre) .2 .ready .few in search needs
 
 -- src/lib.rt:63:9
 failed-requires-2 : tie.Need-failed-requires-2
 failed-requires-2 c κs = search needs
 
--- src/lib.rt:63:9
-same-length-2 : tie.Need-same-length-2
-same-length-2 c = search needs
+-- src/lib.rt:66:9
+same-length-3 : tie.Need-same-length-3
+same-length-3 c = search needs
+
+-- src/lib.rt:37:1
+same-length-4 : tie.Need-same-length-4
+same-length-4 c = search needs
 
 -- src/lib.rt:63:9
 returns-2 : tie.Need-returns-2
 returns-2 c =
-    let a = (c .before .before .before .before .before .before .before .before .before .before .before .before .before .before .before .before .before .before .before .before .args) in
-    let v = (c .before .before .before .before .before .before .before .before .before .before .before .before .before .call-at) .result in
-    let e : (c .before .before .before .before .before .before .before .before .before .before .before .before .end-of) .result ≡ end-of (a .rc) = (c .before .before .before .before .before .before .before .before .before .before .before .before .end-of) .ensures in
-    let t : ℕ = end-of (a .rc) in
-    let ent′ : List ℕ = with-pairs (a .ent .now) (bits (a .b .now)) t (encoded ((c .before .before .before .before .before .before .before .before .before .before .before .before .before .before .partial-context) .result)) ((c .before .before .before .before .before .before .before .before .before .before .hash-values) .result) (a .d) (v .pair) (v .pairs) in
+    let a = (c .before .before .before .before .before .before .before .before .before .before .before .before .before .before .before .before .before .before .before .before .before .before .before .args) in
+    let v = (c .before .before .before .before .before .before .before .before .before .before .before .before .before .before .before .call-at) .result in
+    let e : (c .before .before .before .before .before .before .before .before .before .before .before .before .before .end-of) .result ≡ end-of (whole (a .rc) (a .sc .now)) = (c .before .before .before .before .before .before .before .before .before .before .before .before .before .end-of) .ensures in
+    let t : ℕ = end-of (whole (a .rc) (a .sc .now)) in
+    let ent′ : List ℕ = with-pairs (a .ent .now) (bits (a .b .now)) t (encoded ((c .before .before .before .before .before .before .before .before .before .before .before .before .before .before .before .before .partial-context) .result)) ((c .before .before .before .before .before .before .before .before .before .before .hash-values) .result) (a .d) (v .pair) (v .pairs) in
     let few : t + v .pairs ≤ 4096 = omega (arith, e, (c .before .before .before .before .before .before .before .before .before .if1) .left) in
-    let is : (c .before .before .before .before .before .before .before .merge) .last .0 ≡ ent′ = (c .before .before .before .before .before .before .before .merge) .ensures ∙ ap (λ (k : ℕ). with-pairs (a .ent .now) (bits (a .b .now)) k (encoded ((c .before .before .before .before .before .before .before .before .before .before .before .before .before .before .partial-context) .result)) ((c .before .before .before .before .before .before .before .before .before .before .hash-values) .result) (a .d) (v .pair) (v .pairs)) e in
+    let is : (c .before .before .before .before .before .before .before .merge) .last .0 ≡ ent′ = (c .before .before .before .before .before .before .before .merge) .ensures ∙ ap (λ (k : ℕ). with-pairs (a .ent .now) (bits (a .b .now)) k (encoded ((c .before .before .before .before .before .before .before .before .before .before .before .before .before .before .before .before .partial-context) .result)) ((c .before .before .before .before .before .before .before .before .before .before .hash-values) .result) (a .d) (v .pair) (v .pairs)) e in
     let n : (c .before .before .before .merged-entries) .result ≡ entries-of (v .pairs) (json-of (a .s .now) (a .b .now) ent′ (Merged t (v .pairs))) = (c .before .before .before .merged-entries) .ensures ∙ ap₂ (λ (l : List ℕ) (k : ℕ). entries-of (v .pairs) (json-of (a .s .now) (a .b .now) l (Merged k (v .pairs)))) is e in
-    subst (λ (l : List ℕ). ScopeOpened (a .s .now) (a .b .now) (a .ent .now) l (a .options) (a .rc) ((c .failed2) .result) (a .d) (a .p) (a .w)) (sym is)
-    (subst (λ (r : RenderContext). ScopeOpened (a .s .now) (a .b .now) (a .ent .now) ent′ (a .options) (a .rc) r (a .d) (a .p) (a .w)) (sym ((c .failed2) .ensures))
-    (scope-full ((c .before .before .before .before .before .before .before .before .before .before .before .before .before .before .before .before .before .before .before .before .args) .s .now) ((c .before .before .before .before .before .before .before .before .before .before .before .before .before .before .before .before .before .before .before .before .args) .b .now) ((c .before .before .before .before .before .before .before .before .before .before .before .before .before .before .before .before .before .before .before .before .args) .ent .now) ((c .before .before .before .before .before .before .before .before .before .before .before .before .before .before .before .before .before .before .before .before .args) .options) ((c .before .before .before .before .before .before .before .before .before .before .before .before .before .before .before .before .before .before .before .before .args) .rc) ((c .before .before .before .before .before .before .before .before .before .before .before .before .before .before .before .before .before .before .before .before .args) .d) ((c .before .before .before .before .before .before .before .before .before .before .before .before .before .before .before .before .before .before .before .before .args) .p) ((c .before .before .before .before .before .before .before .before .before .before .before .before .before .before .before .before .before .before .before .before .args) .w) ((c .before .before .before .before .before .before .before .before .before .before .before .before .before .before .before .before .before .before .before .before .pre) .0 .answers) ((c .before .before .before .before .before .before .before .before .before .before .before .before .before .before .before .before .before .before .before .before .pre) .1) ((c .before .before .before .before .before .before .before .before .before .before .before .before .before .before .before .before .before .before .before .before .pre) .3) ((c .before .before .before .before .before .before .before .before .before .before .before .before .before .call-at) .result) ((c .before .before .before .before .before .before .before .before .before .before .before .before .before .call-at) .ensures) ((c .before .before .before .before .before .before .before .before .before .before .before .before .before .before .partial-context) .result) ((c .before .before .before .before .before .before .before .before .before .before .before .before .before .before .partial-context) .ensures) ((c .before .before .before .before .before .before .before .before .before .before .hash-values) .result) ((c .before .before .before .before .before .before .before .before .before .before .hash-values) .ensures) few (omega (arith, n, (c .before .if2) .taken, (c .before .before .before .before .before .before .before .before .before .before .before .before .before .before .before .before .before .before .before .before .pre) .2 .ready .few))))
+    subst (λ (l : List ℕ). ScopeOpened (a .s .now) (a .b .now) (a .ent .now) l (a .options) (whole (a .rc) (a .sc .now)) (whole ((c .failed2) .result) (a .sc .now)) (a .d) (a .p) (a .w)) (sym is)
+    (subst (λ (r : RenderContext). ScopeOpened (a .s .now) (a .b .now) (a .ent .now) ent′ (a .options) (whole (a .rc) (a .sc .now)) r (a .d) (a .p) (a .w)) (sym ((c .failed2) .ensures _))
+    (scope-full ((c .before .before .before .before .before .before .before .before .before .before .before .before .before .before .before .before .before .before .before .before .before .before .before .args) .s .now) ((c .before .before .before .before .before .before .before .before .before .before .before .before .before .before .before .before .before .before .before .before .before .before .before .args) .b .now) ((c .before .before .before .before .before .before .before .before .before .before .before .before .before .before .before .before .before .before .before .before .before .before .before .args) .ent .now) ((c .before .before .before .before .before .before .before .before .before .before .before .before .before .before .before .before .before .before .before .before .before .before .before .args) .options) (whole ((c .before .before .before .before .before .before .before .before .before .before .before .before .before .before .before .before .before .before .before .before .before .before .before .args) .rc) ((c .before .before .before .before .before .before .before .before .before .before .before .before .before .before .before .before .before .before .before .before .before .before .before .args) .sc .now)) ((c .before .before .before .before .before .before .before .before .before .before .before .before .before .before .before .before .before .before .before .before .before .before .before .args) .d) ((c .before .before .before .before .before .before .before .before .before .before .before .before .before .before .before .before .before .before .before .before .before .before .before .args) .p) ((c .before .before .before .before .before .before .before .before .before .before .before .before .before .before .before .before .before .before .before .before .before .before .before .args) .w) ((c .before .before .before .before .before .before .before .before .before .before .before .before .before .before .before .before .before .before .before .before .before .before .before .pre) .0 .answers) ((c .before .before .before .before .before .before .before .before .before .before .before .before .before .before .before .before .before .before .before .before .before .before .before .pre) .1) ((c .before .before .before .before .before .before .before .before .before .before .before .before .before .before .before .before .before .before .before .before .before .before .before .pre) .3) ((c .before .before .before .before .before .before .before .before .before .before .before .before .before .before .before .call-at) .result) ((c .before .before .before .before .before .before .before .before .before .before .before .before .before .before .before .call-at) .ensures) ((c .before .before .before .before .before .before .before .before .before .before .before .before .before .before .before .before .partial-context) .result) ((c .before .before .before .before .before .before .before .before .before .before .before .before .before .before .before .before .partial-context) .ensures) ((c .before .before .before .before .before .before .before .before .before .before .hash-values) .result) ((c .before .before .before .before .before .before .before .before .before .before .hash-values) .ensures) few (omega (arith, n, (c .before .if2) .taken, (c .before .before .before .before .before .before .before .before .before .before .before .before .before .before .before .before .before .before .before .before .before .before .before .pre) .2 .ready .few))))
 
 -- src/lib.rt:66:9
 failed-requires-3 : tie.Need-failed-requires-3
 failed-requires-3 c κs = search needs
 
--- src/lib.rt:66:9
-same-length-3 : tie.Need-same-length-3
-same-length-3 c = search needs
+same-length-5 : tie.Need-same-length-5
+same-length-5 c = search needs
+
+same-length-6 : tie.Need-same-length-6
+same-length-6 c = search needs
 
 -- src/lib.rt:66:9
 returns-3 : tie.Need-returns-3
 returns-3 c =
-    let a = (c .before .before .before .before .before .before .before .before .before .before .before .before .before .before .before .before .before .before .before .before .before .before .args) in
-    let v = (c .before .before .before .before .before .before .before .before .before .before .before .before .before .before .before .call-at) .result in
-    let e : (c .before .before .before .before .before .before .before .before .before .before .before .before .before .before .end-of) .result ≡ end-of (a .rc) = (c .before .before .before .before .before .before .before .before .before .before .before .before .before .before .end-of) .ensures in
-    let t : ℕ = end-of (a .rc) in
-    let ent′ : List ℕ = with-pairs (a .ent .now) (bits (a .b .now)) t (encoded ((c .before .before .before .before .before .before .before .before .before .before .before .before .before .before .before .before .partial-context) .result)) ((c .before .before .before .before .before .before .before .before .before .before .before .before .hash-values) .result) (a .d) (v .pair) (v .pairs) in
+    let a = (c .before .before .before .before .before .before .before .before .before .before .before .before .before .before .before .before .before .before .before .before .before .before .before .before .before .args) in
+    let v = (c .before .before .before .before .before .before .before .before .before .before .before .before .before .before .before .before .before .call-at) .result in
+    let e : (c .before .before .before .before .before .before .before .before .before .before .before .before .before .before .before .end-of) .result ≡ end-of (whole (a .rc) (a .sc .now)) = (c .before .before .before .before .before .before .before .before .before .before .before .before .before .before .before .end-of) .ensures in
+    let t : ℕ = end-of (whole (a .rc) (a .sc .now)) in
+    let ent′ : List ℕ = with-pairs (a .ent .now) (bits (a .b .now)) t (encoded ((c .before .before .before .before .before .before .before .before .before .before .before .before .before .before .before .before .before .before .partial-context) .result)) ((c .before .before .before .before .before .before .before .before .before .before .before .before .hash-values) .result) (a .d) (v .pair) (v .pairs) in
     let few : t + v .pairs ≤ 4096 = omega (arith, e, (c .before .before .before .before .before .before .before .before .before .before .before .if1) .left) in
-    let is : (c .before .before .before .before .before .before .before .before .before .merge) .last .0 ≡ ent′ = (c .before .before .before .before .before .before .before .before .before .merge) .ensures ∙ ap (λ (k : ℕ). with-pairs (a .ent .now) (bits (a .b .now)) k (encoded ((c .before .before .before .before .before .before .before .before .before .before .before .before .before .before .before .before .partial-context) .result)) ((c .before .before .before .before .before .before .before .before .before .before .before .before .hash-values) .result) (a .d) (v .pair) (v .pairs)) e in
+    let is : (c .before .before .before .before .before .before .before .before .before .merge) .last .0 ≡ ent′ = (c .before .before .before .before .before .before .before .before .before .merge) .ensures ∙ ap (λ (k : ℕ). with-pairs (a .ent .now) (bits (a .b .now)) k (encoded ((c .before .before .before .before .before .before .before .before .before .before .before .before .before .before .before .before .before .before .partial-context) .result)) ((c .before .before .before .before .before .before .before .before .before .before .before .before .hash-values) .result) (a .d) (v .pair) (v .pairs)) e in
     let n : (c .before .before .before .before .before .merged-entries) .result ≡ entries-of (v .pairs) (json-of (a .s .now) (a .b .now) ent′ (Merged t (v .pairs))) = (c .before .before .before .before .before .merged-entries) .ensures ∙ ap₂ (λ (l : List ℕ) (k : ℕ). entries-of (v .pairs) (json-of (a .s .now) (a .b .now) l (Merged k (v .pairs)))) is e in
-    subst (λ (l : List ℕ). ScopeOpened (a .s .now) (a .b .now) (a .ent .now) l (a .options) (a .rc) ((c .failed3) .result) (a .d) (a .p) (a .w)) (sym is)
-    (subst (λ (r : RenderContext). ScopeOpened (a .s .now) (a .b .now) (a .ent .now) ent′ (a .options) (a .rc) r (a .d) (a .p) (a .w)) (sym ((c .failed3) .ensures))
-    (scope-deep ((c .before .before .before .before .before .before .before .before .before .before .before .before .before .before .before .before .before .before .before .before .before .before .args) .s .now) ((c .before .before .before .before .before .before .before .before .before .before .before .before .before .before .before .before .before .before .before .before .before .before .args) .b .now) ((c .before .before .before .before .before .before .before .before .before .before .before .before .before .before .before .before .before .before .before .before .before .before .args) .ent .now) ((c .before .before .before .before .before .before .before .before .before .before .before .before .before .before .before .before .before .before .before .before .before .before .args) .options) ((c .before .before .before .before .before .before .before .before .before .before .before .before .before .before .before .before .before .before .before .before .before .before .args) .rc) ((c .before .before .before .before .before .before .before .before .before .before .before .before .before .before .before .before .before .before .before .before .before .before .args) .d) ((c .before .before .before .before .before .before .before .before .before .before .before .before .before .before .before .before .before .before .before .before .before .before .args) .p) ((c .before .before .before .before .before .before .before .before .before .before .before .before .before .before .before .before .before .before .before .before .before .before .args) .w) ((c .before .before .before .before .before .before .before .before .before .before .before .before .before .before .before .before .before .before .before .before .before .before .pre) .0 .answers) ((c .before .before .before .before .before .before .before .before .before .before .before .before .before .before .before .before .before .before .before .before .before .before .pre) .1) ((c .before .before .before .before .before .before .before .before .before .before .before .before .before .before .before .before .before .before .before .before .before .before .pre) .3) ((c .before .before .before .before .before .before .before .before .before .before .before .before .before .before .before .call-at) .result) ((c .before .before .before .before .before .before .before .before .before .before .before .before .before .before .before .call-at) .ensures) ((c .before .before .before .before .before .before .before .before .before .before .before .before .before .before .before .before .partial-context) .result) ((c .before .before .before .before .before .before .before .before .before .before .before .before .before .before .before .before .partial-context) .ensures) ((c .before .before .before .before .before .before .before .before .before .before .before .before .hash-values) .result) ((c .before .before .before .before .before .before .before .before .before .before .before .before .hash-values) .ensures) few (omega (arith, n, (c .before .before .before .if2) .left, (c .before .before .before .before .before .before .before .before .before .before .before .before .before .before .before .before .before .before .before .before .before .before .pre) .2 .ready .few)) ((c .before .if3) .taken)))
+    subst (λ (l : List ℕ). ScopeOpened (a .s .now) (a .b .now) (a .ent .now) l (a .options) (whole (a .rc) (a .sc .now)) (whole ((c .failed3) .result) (a .sc .now)) (a .d) (a .p) (a .w)) (sym is)
+    (subst (λ (r : RenderContext). ScopeOpened (a .s .now) (a .b .now) (a .ent .now) ent′ (a .options) (whole (a .rc) (a .sc .now)) r (a .d) (a .p) (a .w)) (sym ((c .failed3) .ensures _))
+    (scope-deep ((c .before .before .before .before .before .before .before .before .before .before .before .before .before .before .before .before .before .before .before .before .before .before .before .before .before .args) .s .now) ((c .before .before .before .before .before .before .before .before .before .before .before .before .before .before .before .before .before .before .before .before .before .before .before .before .before .args) .b .now) ((c .before .before .before .before .before .before .before .before .before .before .before .before .before .before .before .before .before .before .before .before .before .before .before .before .before .args) .ent .now) ((c .before .before .before .before .before .before .before .before .before .before .before .before .before .before .before .before .before .before .before .before .before .before .before .before .before .args) .options) (whole ((c .before .before .before .before .before .before .before .before .before .before .before .before .before .before .before .before .before .before .before .before .before .before .before .before .before .args) .rc) ((c .before .before .before .before .before .before .before .before .before .before .before .before .before .before .before .before .before .before .before .before .before .before .before .before .before .args) .sc .now)) ((c .before .before .before .before .before .before .before .before .before .before .before .before .before .before .before .before .before .before .before .before .before .before .before .before .before .args) .d) ((c .before .before .before .before .before .before .before .before .before .before .before .before .before .before .before .before .before .before .before .before .before .before .before .before .before .args) .p) ((c .before .before .before .before .before .before .before .before .before .before .before .before .before .before .before .before .before .before .before .before .before .before .before .before .before .args) .w) ((c .before .before .before .before .before .before .before .before .before .before .before .before .before .before .before .before .before .before .before .before .before .before .before .before .before .pre) .0 .answers) ((c .before .before .before .before .before .before .before .before .before .before .before .before .before .before .before .before .before .before .before .before .before .before .before .before .before .pre) .1) ((c .before .before .before .before .before .before .before .before .before .before .before .before .before .before .before .before .before .before .before .before .before .before .before .before .before .pre) .3) ((c .before .before .before .before .before .before .before .before .before .before .before .before .before .before .before .before .before .call-at) .result) ((c .before .before .before .before .before .before .before .before .before .before .before .before .before .before .before .before .before .call-at) .ensures) ((c .before .before .before .before .before .before .before .before .before .before .before .before .before .before .before .before .before .before .partial-context) .result) ((c .before .before .before .before .before .before .before .before .before .before .before .before .before .before .before .before .before .before .partial-context) .ensures) ((c .before .before .before .before .before .before .before .before .before .before .before .before .hash-values) .result) ((c .before .before .before .before .before .before .before .before .before .before .before .before .hash-values) .ensures) few (omega (arith, n, (c .before .before .before .if2) .left, (c .before .before .before .before .before .before .before .before .before .before .before .before .before .before .before .before .before .before .before .before .before .before .before .before .before .pre) .2 .ready .few)) ((c .before .if3) .taken)))
 
 -- src/lib.rt:68:45
 front-requires : tie.Need-front-requires
-front-requires c κs = let r = (c .before .before .before .before .before .before .before .before .before .before .before .before .before .before .before .before .before .before .before .before .before .pre) .2 .ready in (r .one, r .most, r .sized)
+front-requires c κs = let r = (c .before .before .before .before .before .before .before .before .before .before .before .before .before .before .before .before .before .before .before .before .before .before .before .before .before .pre) .2 .ready in ((c .before .before .before .before .before .before .before .before .before .before .before .before .before .before .before .before .before .before .before .before .before .before .before .before .before .pre) .5, r .one, r .most)
 
 -- src/lib.rt:68:9
 scope-of-requires : tie.Need-scope-of-requires
 scope-of-requires c κs =
-    let a = (c .before .before .before .before .before .before .before .before .before .before .before .before .before .before .before .before .before .before .before .before .before .before .args) in
-    let v = (c .before .before .before .before .before .before .before .before .before .before .before .before .before .before .before .call-at) .result in
-    let e : (c .before .before .before .before .before .before .before .before .before .before .before .before .before .before .end-of) .result ≡ end-of (a .rc) = (c .before .before .before .before .before .before .before .before .before .before .before .before .before .before .end-of) .ensures in
-    let H = call-pairs-stand (a .d) (bits (a .b .now)) (a .p) v (bits-binary (a .b .now)) ((c .before .before .before .before .before .before .before .before .before .before .before .before .before .before .before .before .before .before .before .before .before .before .pre) .3) ((c .before .before .before .before .before .before .before .before .before .before .before .before .before .before .before .call-at) .ensures) in
-    (scope-base ((c .before .before .before .before .before .before .before .before .before .before .before .before .before .before .before .before .before .before .before .before .before .before .args) .s .now) ((c .before .before .before .before .before .before .before .before .before .before .before .before .before .before .before .before .before .before .before .before .before .before .args) .b .now) ((c .before .before .before .before .before .before .before .before .before .before .before .before .before .before .before .before .before .before .before .before .before .before .args) .ent .now) ((c .before .before .before .before .before .before .before .before .before .before .before .before .before .before .before .before .before .before .before .before .before .before .args) .options) ((c .before .before .before .before .before .before .before .before .before .before .before .before .before .before .before .before .before .before .before .before .before .before .args) .rc) ((c .before .before .before .before .before .before .before .before .before .before .before .before .before .before .before .before .before .before .before .before .before .before .args) .d) ((c .before .before .before .before .before .before .before .before .before .before .before .before .before .before .before .before .before .before .before .before .before .before .args) .p) ((c .before .before .before .before .before .before .before .before .before .before .before .before .before .before .before .before .before .before .before .before .before .before .args) .w) ((c .before .before .before .before .before .before .before .before .before .before .before .before .before .before .before .before .before .before .before .before .before .before .pre) .0 .answers) ((c .before .before .before .before .before .before .before .before .before .before .before .before .before .before .before .before .before .before .before .before .before .before .pre) .1) ((c .before .before .before .before .before .before .before .before .before .before .before .before .before .before .before .before .before .before .before .before .before .before .pre) .3) ((c .before .before .before .before .before .before .before .before .before .before .before .before .before .before .before .call-at) .result) ((c .before .before .before .before .before .before .before .before .before .before .before .before .before .before .before .call-at) .ensures) ((c .before .before .before .before .before .before .before .before .before .before .before .before .before .before .before .before .partial-context) .result) ((c .before .before .before .before .before .before .before .before .before .before .before .before .before .before .before .before .partial-context) .ensures) ((c .before .before .before .before .before .before .before .before .before .before .before .before .hash-values) .result) ((c .before .before .before .before .before .before .before .before .before .before .before .before .hash-values) .ensures) ((c .before .before .before .before .before .before .before .before .before .before .before .before .before .before .before .before .before .before .before .before .before .before .pre) .4), H .few, omega (arith, (c .before .before .before .before .before .before .before .before .before .before .before .if1) .left))
+    let a = (c .before .before .before .before .before .before .before .before .before .before .before .before .before .before .before .before .before .before .before .before .before .before .before .before .before .before .args) in
+    let v = (c .before .before .before .before .before .before .before .before .before .before .before .before .before .before .before .before .before .before .call-at) .result in
+    let e : (c .before .before .before .before .before .before .before .before .before .before .before .before .before .before .before .before .end-of) .result ≡ end-of (whole (a .rc) (a .sc .now)) = (c .before .before .before .before .before .before .before .before .before .before .before .before .before .before .before .before .end-of) .ensures in
+    let H = call-pairs-stand (a .d) (bits (a .b .now)) (a .p) v (bits-binary (a .b .now)) ((c .before .before .before .before .before .before .before .before .before .before .before .before .before .before .before .before .before .before .before .before .before .before .before .before .before .before .pre) .3) ((c .before .before .before .before .before .before .before .before .before .before .before .before .before .before .before .before .before .before .call-at) .ensures) in
+    (scope-base ((c .before .before .before .before .before .before .before .before .before .before .before .before .before .before .before .before .before .before .before .before .before .before .before .before .before .before .args) .s .now) ((c .before .before .before .before .before .before .before .before .before .before .before .before .before .before .before .before .before .before .before .before .before .before .before .before .before .before .args) .b .now) ((c .before .before .before .before .before .before .before .before .before .before .before .before .before .before .before .before .before .before .before .before .before .before .before .before .before .before .args) .ent .now) ((c .before .before .before .before .before .before .before .before .before .before .before .before .before .before .before .before .before .before .before .before .before .before .before .before .before .before .args) .options) (whole ((c .before .before .before .before .before .before .before .before .before .before .before .before .before .before .before .before .before .before .before .before .before .before .before .before .before .before .args) .rc) ((c .before .before .before .before .before .before .before .before .before .before .before .before .before .before .before .before .before .before .before .before .before .before .before .before .before .before .args) .sc .now)) ((c .before .before .before .before .before .before .before .before .before .before .before .before .before .before .before .before .before .before .before .before .before .before .before .before .before .before .args) .d) ((c .before .before .before .before .before .before .before .before .before .before .before .before .before .before .before .before .before .before .before .before .before .before .before .before .before .before .args) .p) ((c .before .before .before .before .before .before .before .before .before .before .before .before .before .before .before .before .before .before .before .before .before .before .before .before .before .before .args) .w) ((c .before .before .before .before .before .before .before .before .before .before .before .before .before .before .before .before .before .before .before .before .before .before .before .before .before .before .pre) .0 .answers) ((c .before .before .before .before .before .before .before .before .before .before .before .before .before .before .before .before .before .before .before .before .before .before .before .before .before .before .pre) .1) ((c .before .before .before .before .before .before .before .before .before .before .before .before .before .before .before .before .before .before .before .before .before .before .before .before .before .before .pre) .3) ((c .before .before .before .before .before .before .before .before .before .before .before .before .before .before .before .before .before .before .call-at) .result) ((c .before .before .before .before .before .before .before .before .before .before .before .before .before .before .before .before .before .before .call-at) .ensures) ((c .before .before .before .before .before .before .before .before .before .before .before .before .before .before .before .before .before .before .before .partial-context) .result) ((c .before .before .before .before .before .before .before .before .before .before .before .before .before .before .before .before .before .before .before .partial-context) .ensures) ((c .before .before .before .before .before .before .before .before .before .before .before .before .before .hash-values) .result) ((c .before .before .before .before .before .before .before .before .before .before .before .before .before .hash-values) .ensures) ((c .before .before .before .before .before .before .before .before .before .before .before .before .before .before .before .before .before .before .before .before .before .before .before .before .before .before .pre) .4), H .few, omega (arith, (c .before .before .before .before .before .before .before .before .before .before .before .before .if1) .left))
 
 -- src/lib.rt:69:44
 add-set-total : tie.Need-add-set-total
-add-set-total c = let few = (c .before .before .before .before .before .before .before .before .before .before .before .before .before .before .before .before .before .before .before .before .before .before .before .before .pre) .2 .ready .few in let le = (c .before .before .before .before .before .if2) .left in search needs
+add-set-total c = let few = (c .before .before .before .before .before .before .before .before .before .before .before .before .before .before .before .before .before .before .before .before .before .before .before .before .before .before .before .before .before .pre) .2 .ready .few in let le = (c .before .before .before .before .before .before .before .if2) .left in search needs
 
 -- src/lib.rt:69:23
 set-total-requires : tie.Need-set-total-requires
@@ -171,28 +183,30 @@ set-total-requires c κs = search needs
 
 -- src/lib.rt:69:5
 push-block-requires : tie.Need-push-block-requires
-push-block-requires c κs = subst (λ (x : RenderContext). x .used < 32) (sym ((c .set-total) .ensures)) (omega (arith, (c .before .before .before .before .if3) .left))
+push-block-requires c κs = let z = c .before .before .before .before .before .before .before .before .before .before .before .before .before .before .before .before .before .before .before .before .before .before .before .before .before .before .before .before .before .before in (z .pre .5, subst (λ (x : RenderContext). x .used < 32) (sym ((c .set-total) .ensures (z .args .sc .now))) (omega (arith, (c .before .before .before .before .before .before .if3) .left)))
 
--- src/lib.rt:37:1
-same-length-4 : tie.Need-same-length-4
-same-length-4 c = let y = (c .before .before .before .before .before .before .before .before .before .before .before .before .before .merge) in let z = (c .before .before .before .before .before .before .before .before .before .before .before .before .ent) in let x = (c .before .before .before .before .before .before .before .before .before .before .before .before .before .before .before .before .before .before .before .before .before .before .slice-known) in search needs
+same-length-7 : tie.Need-same-length-7
+same-length-7 c = let y = c .before .before .before .before .before .before .before .before .before .before .before .before .before .before .before .before .before .merge in let z = c .before .before .before .before .before .before .before .before .before .before .before .before .before .before .before .before .ent in let x = c .before .before .before .before .before .before .before .before .before .before .before .before .before .before .before .before .before .before .before .before .before .before .before .before .before .before .before .before .before .slice-known in search needs
+
+same-length-8 : tie.Need-same-length-8
+same-length-8 c = search needs
 
 -- src/lib.rt:37:1
 returns-4 : tie.Need-returns-4
 returns-4 c =
-    let a = (c .before .before .before .before .before .before .before .before .before .before .before .before .before .before .before .before .before .before .before .before .before .before .before .before .before .before .args) in
-    let v = (c .before .before .before .before .before .before .before .before .before .before .before .before .before .before .before .before .before .before .before .call-at) .result in
-    let e : (c .before .before .before .before .before .before .before .before .before .before .before .before .before .before .before .before .before .before .end-of) .result ≡ end-of (a .rc) = (c .before .before .before .before .before .before .before .before .before .before .before .before .before .before .before .before .before .before .end-of) .ensures in
-    let t : ℕ = end-of (a .rc) in
-    let ent′ : List ℕ = with-pairs (a .ent .now) (bits (a .b .now)) t (encoded ((c .before .before .before .before .before .before .before .before .before .before .before .before .before .before .before .before .before .before .before .before .partial-context) .result)) ((c .before .before .before .before .before .before .before .before .before .before .before .before .before .before .before .before .hash-values) .result) (a .d) (v .pair) (v .pairs) in
-    let few : t + v .pairs ≤ 4096 = omega (arith, e, (c .before .before .before .before .before .before .before .before .before .before .before .before .before .before .before .if1) .left) in
-    let is : (c .before .before .before .before .before .before .before .before .before .before .before .before .before .merge) .last .0 ≡ ent′ = (c .before .before .before .before .before .before .before .before .before .before .before .before .before .merge) .ensures ∙ ap (λ (k : ℕ). with-pairs (a .ent .now) (bits (a .b .now)) k (encoded ((c .before .before .before .before .before .before .before .before .before .before .before .before .before .before .before .before .before .before .before .before .partial-context) .result)) ((c .before .before .before .before .before .before .before .before .before .before .before .before .before .before .before .before .hash-values) .result) (a .d) (v .pair) (v .pairs)) e in
-    let n : (c .before .before .before .before .before .before .before .before .before .merged-entries) .result ≡ entries-of (v .pairs) (json-of (a .s .now) (a .b .now) ent′ (Merged t (v .pairs))) = (c .before .before .before .before .before .before .before .before .before .merged-entries) .ensures ∙ ap₂ (λ (l : List ℕ) (k : ℕ). entries-of (v .pairs) (json-of (a .s .now) (a .b .now) l (Merged k (v .pairs)))) is e in
-    let sc : (c .before .before .before .scope-of) .result ≡ included ((c .before .before .before .before .before .before .before .before .before .before .before .before .before .before .before .before .before .before .before .before .partial-context) .result) t (v .pairs) (getD (a .rc .scopes) (a .rc .used - 1) blank) = (c .before .before .before .scope-of) .ensures ∙ ap₂ (λ (k : ℕ) (x : Scope). included ((c .before .before .before .before .before .before .before .before .before .before .before .before .before .before .before .before .before .before .before .before .partial-context) .result) k (v .pairs) x) e ((c .before .before .before .before .front) .ensures) in
-    let pr = (c .push-block) .ensures ∙ ap₂ pushed ((c .before .set-total) .ensures ∙ ap (λ (k : ℕ). counted (a .rc) (a .rc .total + k)) n) sc in
-    subst (λ (l : List ℕ). ScopeOpened (a .s .now) (a .b .now) (a .ent .now) l (a .options) (a .rc) ((c .push-block) .result) (a .d) (a .p) (a .w)) (sym is)
-    (subst (λ (r : RenderContext). ScopeOpened (a .s .now) (a .b .now) (a .ent .now) ent′ (a .options) (a .rc) r (a .d) (a .p) (a .w)) (sym pr)
-    (scope-opened ((c .before .before .before .before .before .before .before .before .before .before .before .before .before .before .before .before .before .before .before .before .before .before .before .before .before .before .args) .s .now) ((c .before .before .before .before .before .before .before .before .before .before .before .before .before .before .before .before .before .before .before .before .before .before .before .before .before .before .args) .b .now) ((c .before .before .before .before .before .before .before .before .before .before .before .before .before .before .before .before .before .before .before .before .before .before .before .before .before .before .args) .ent .now) ((c .before .before .before .before .before .before .before .before .before .before .before .before .before .before .before .before .before .before .before .before .before .before .before .before .before .before .args) .options) ((c .before .before .before .before .before .before .before .before .before .before .before .before .before .before .before .before .before .before .before .before .before .before .before .before .before .before .args) .rc) ((c .before .before .before .before .before .before .before .before .before .before .before .before .before .before .before .before .before .before .before .before .before .before .before .before .before .before .args) .d) ((c .before .before .before .before .before .before .before .before .before .before .before .before .before .before .before .before .before .before .before .before .before .before .before .before .before .before .args) .p) ((c .before .before .before .before .before .before .before .before .before .before .before .before .before .before .before .before .before .before .before .before .before .before .before .before .before .before .args) .w) ((c .before .before .before .before .before .before .before .before .before .before .before .before .before .before .before .before .before .before .before .before .before .before .before .before .before .before .pre) .0 .answers) ((c .before .before .before .before .before .before .before .before .before .before .before .before .before .before .before .before .before .before .before .before .before .before .before .before .before .before .pre) .1) ((c .before .before .before .before .before .before .before .before .before .before .before .before .before .before .before .before .before .before .before .before .before .before .before .before .before .before .pre) .3) ((c .before .before .before .before .before .before .before .before .before .before .before .before .before .before .before .before .before .before .before .call-at) .result) ((c .before .before .before .before .before .before .before .before .before .before .before .before .before .before .before .before .before .before .before .call-at) .ensures) ((c .before .before .before .before .before .before .before .before .before .before .before .before .before .before .before .before .before .before .before .before .partial-context) .result) ((c .before .before .before .before .before .before .before .before .before .before .before .before .before .before .before .before .before .before .before .before .partial-context) .ensures) ((c .before .before .before .before .before .before .before .before .before .before .before .before .before .before .before .before .hash-values) .result) ((c .before .before .before .before .before .before .before .before .before .before .before .before .before .before .before .before .hash-values) .ensures) few (omega (arith, n, (c .before .before .before .before .before .before .before .if2) .left, (c .before .before .before .before .before .before .before .before .before .before .before .before .before .before .before .before .before .before .before .before .before .before .before .before .before .before .pre) .2 .ready .few)) (omega (arith, (c .before .before .before .before .before .if3) .left))))
+    let a = (c .before .before .before .before .before .before .before .before .before .before .before .before .before .before .before .before .before .before .before .before .before .before .before .before .before .before .before .before .before .before .before .before .before .args) in
+    let v = (c .before .before .before .before .before .before .before .before .before .before .before .before .before .before .before .before .before .before .before .before .before .before .before .before .before .call-at) .result in
+    let e : (c .before .before .before .before .before .before .before .before .before .before .before .before .before .before .before .before .before .before .before .before .before .before .before .end-of) .result ≡ end-of (whole (a .rc) (a .sc .now)) = (c .before .before .before .before .before .before .before .before .before .before .before .before .before .before .before .before .before .before .before .before .before .before .before .end-of) .ensures in
+    let t : ℕ = end-of (whole (a .rc) (a .sc .now)) in
+    let ent′ : List ℕ = with-pairs (a .ent .now) (bits (a .b .now)) t (encoded ((c .before .before .before .before .before .before .before .before .before .before .before .before .before .before .before .before .before .before .before .before .before .before .before .before .before .before .partial-context) .result)) ((c .before .before .before .before .before .before .before .before .before .before .before .before .before .before .before .before .before .before .before .before .hash-values) .result) (a .d) (v .pair) (v .pairs) in
+    let few : t + v .pairs ≤ 4096 = omega (arith, e, (c .before .before .before .before .before .before .before .before .before .before .before .before .before .before .before .before .before .before .before .if1) .left) in
+    let is : (c .before .before .before .before .before .before .before .before .before .before .before .before .before .before .before .before .before .merge) .last .0 ≡ ent′ = (c .before .before .before .before .before .before .before .before .before .before .before .before .before .before .before .before .before .merge) .ensures ∙ ap (λ (k : ℕ). with-pairs (a .ent .now) (bits (a .b .now)) k (encoded ((c .before .before .before .before .before .before .before .before .before .before .before .before .before .before .before .before .before .before .before .before .before .before .before .before .before .before .partial-context) .result)) ((c .before .before .before .before .before .before .before .before .before .before .before .before .before .before .before .before .before .before .before .before .hash-values) .result) (a .d) (v .pair) (v .pairs)) e in
+    let n : (c .before .before .before .before .before .before .before .before .before .before .before .before .before .merged-entries) .result ≡ entries-of (v .pairs) (json-of (a .s .now) (a .b .now) ent′ (Merged t (v .pairs))) = (c .before .before .before .before .before .before .before .before .before .before .before .before .before .merged-entries) .ensures ∙ ap₂ (λ (l : List ℕ) (k : ℕ). entries-of (v .pairs) (json-of (a .s .now) (a .b .now) l (Merged k (v .pairs)))) is e in
+    let sc : (c .before .before .before .before .before .before .scope-of) .result ≡ included ((c .before .before .before .before .before .before .before .before .before .before .before .before .before .before .before .before .before .before .before .before .before .before .before .before .before .before .partial-context) .result) t (v .pairs) (getD (scopes-of (a .sc .now)) (a .rc .used - 1) blank) = (c .before .before .before .before .before .before .scope-of) .ensures ∙ ap₂ (λ (k : ℕ) (x : Scope). included ((c .before .before .before .before .before .before .before .before .before .before .before .before .before .before .before .before .before .before .before .before .before .before .before .before .before .before .partial-context) .result) k (v .pairs) x) e ((c .before .before .before .before .before .before .before .front) .ensures) in
+    let pr = (c .before .before .push-block) .ensures ∙ ap₂ pushed ((c .before .before .before .set-total) .ensures _ ∙ ap (λ (k : ℕ). counted (whole (a .rc) (a .sc .now)) (a .rc .total + k)) n) sc in
+    subst (λ (l : List ℕ). ScopeOpened (a .s .now) (a .b .now) (a .ent .now) l (a .options) (whole (a .rc) (a .sc .now)) (whole ((c .before .before .push-block) .result) ((c .before .before .push-block) .last .0)) (a .d) (a .p) (a .w)) (sym is)
+    (subst (λ (r : RenderContext). ScopeOpened (a .s .now) (a .b .now) (a .ent .now) ent′ (a .options) (whole (a .rc) (a .sc .now)) r (a .d) (a .p) (a .w)) (sym pr)
+    (scope-opened ((c .before .before .before .before .before .before .before .before .before .before .before .before .before .before .before .before .before .before .before .before .before .before .before .before .before .before .before .before .before .before .before .before .before .args) .s .now) ((c .before .before .before .before .before .before .before .before .before .before .before .before .before .before .before .before .before .before .before .before .before .before .before .before .before .before .before .before .before .before .before .before .before .args) .b .now) ((c .before .before .before .before .before .before .before .before .before .before .before .before .before .before .before .before .before .before .before .before .before .before .before .before .before .before .before .before .before .before .before .before .before .args) .ent .now) ((c .before .before .before .before .before .before .before .before .before .before .before .before .before .before .before .before .before .before .before .before .before .before .before .before .before .before .before .before .before .before .before .before .before .args) .options) (whole ((c .before .before .before .before .before .before .before .before .before .before .before .before .before .before .before .before .before .before .before .before .before .before .before .before .before .before .before .before .before .before .before .before .before .args) .rc) ((c .before .before .before .before .before .before .before .before .before .before .before .before .before .before .before .before .before .before .before .before .before .before .before .before .before .before .before .before .before .before .before .before .before .args) .sc .now)) ((c .before .before .before .before .before .before .before .before .before .before .before .before .before .before .before .before .before .before .before .before .before .before .before .before .before .before .before .before .before .before .before .before .before .args) .d) ((c .before .before .before .before .before .before .before .before .before .before .before .before .before .before .before .before .before .before .before .before .before .before .before .before .before .before .before .before .before .before .before .before .before .args) .p) ((c .before .before .before .before .before .before .before .before .before .before .before .before .before .before .before .before .before .before .before .before .before .before .before .before .before .before .before .before .before .before .before .before .before .args) .w) ((c .before .before .before .before .before .before .before .before .before .before .before .before .before .before .before .before .before .before .before .before .before .before .before .before .before .before .before .before .before .before .before .before .before .pre) .0 .answers) ((c .before .before .before .before .before .before .before .before .before .before .before .before .before .before .before .before .before .before .before .before .before .before .before .before .before .before .before .before .before .before .before .before .before .pre) .1) ((c .before .before .before .before .before .before .before .before .before .before .before .before .before .before .before .before .before .before .before .before .before .before .before .before .before .before .before .before .before .before .before .before .before .pre) .3) ((c .before .before .before .before .before .before .before .before .before .before .before .before .before .before .before .before .before .before .before .before .before .before .before .before .before .call-at) .result) ((c .before .before .before .before .before .before .before .before .before .before .before .before .before .before .before .before .before .before .before .before .before .before .before .before .before .call-at) .ensures) ((c .before .before .before .before .before .before .before .before .before .before .before .before .before .before .before .before .before .before .before .before .before .before .before .before .before .before .partial-context) .result) ((c .before .before .before .before .before .before .before .before .before .before .before .before .before .before .before .before .before .before .before .before .before .before .before .before .before .before .partial-context) .ensures) ((c .before .before .before .before .before .before .before .before .before .before .before .before .before .before .before .before .before .before .before .before .hash-values) .result) ((c .before .before .before .before .before .before .before .before .before .before .before .before .before .before .before .before .before .before .before .before .hash-values) .ensures) few (omega (arith, n, (c .before .before .before .before .before .before .before .before .before .before .before .if2) .left, (c .before .before .before .before .before .before .before .before .before .before .before .before .before .before .before .before .before .before .before .before .before .before .before .before .before .before .before .before .before .before .before .before .before .pre) .2 .ready .few)) (omega (arith, (c .before .before .before .before .before .before .before .before .before .if3) .left))))
 
 pub open-scope-spec : {M : Type 1} → statement M
 open-scope-spec =
@@ -205,20 +219,24 @@ open-scope-spec =
     add-if1
     failed-requires
     same-length
+    same-length-2
     returns
     merge-requires
     merged-entries-requires
     sub-if2
     failed-requires-2
-    same-length-2
+    same-length-3
+    same-length-4
     returns-2
     failed-requires-3
-    same-length-3
+    same-length-5
+    same-length-6
     returns-3
     front-requires
     scope-of-requires
     add-set-total
     set-total-requires
     push-block-requires
-    same-length-4
+    same-length-7
+    same-length-8
     returns-4)

@@ -1,3 +1,5 @@
+use Rattle.state.specs.Context.{whole}
+use Rattle.scope.specs.Words.{scopes-of}
 use Rattle.targets.specs.Target.{by-peek}
 use mathlib.Core.Path.{_∙_, ap, sym}
 use borrow.Author.Needs.{needs}
@@ -34,15 +36,15 @@ enum-known-from c = search needs
 
 -- src/lib.rt:52:1
 returns : tie.Need-returns
-returns c = (c .fallback) .ensures ∙ sym (ap (by-peek ((c .before .before .before .before .args) .own)) (sym ((c .before .before .before .peek-partial-block) .ensures) ∙ (c .before .enum-told) .given .1))
+returns c = (c .fallback) .ensures ∙ sym (ap (by-peek ((c .before .before .before .before .before .args) .own)) (sym ((c .before .before .before .peek-partial-block) .ensures) ∙ (c .before .enum-told) .given .1))
 
 -- src/lib.rt:52:1
 returns-2 : tie.Need-returns-2
-returns-2 c = (c .fallback2) .ensures ∙ sym (ap (by-peek ((c .before .before .before .before .args) .own)) (sym ((c .before .before .before .peek-partial-block) .ensures) ∙ (c .before .enum-told2) .given .1))
+returns-2 c = (c .fallback2) .ensures ∙ sym (ap (by-peek ((c .before .before .before .before .before .args) .own)) (sym ((c .before .before .before .peek-partial-block) .ensures) ∙ (c .before .enum-told2) .given .1))
 
 -- src/lib.rt:52:1
 returns-3 : tie.Need-returns-3
-returns-3 c = sym (ap (by-peek ((c .before .before .before .before .args) .own)) (sym ((c .before .before .before .peek-partial-block) .ensures) ∙ (c .before .from) .given .1))
+returns-3 c = sym (ap (by-peek ((c .before .before .before .before .before .args) .own)) (sym ((c .before .before .before .peek-partial-block) .ensures) ∙ (c .before .from) .given .1))
 
 pub block-target-spec : {M : Type 1} → statement M
 block-target-spec =

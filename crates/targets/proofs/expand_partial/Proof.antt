@@ -1,3 +1,5 @@
+use Rattle.state.specs.Context.{whole}
+use Rattle.scope.specs.Words.{scopes-of}
 use Rattle.partials.specs.Finding.{FoundIs}
 use Rattle.expand.specs.Answers.{name-of}
 use Rattle.scope.specs.NamesLaws.{string-near}
@@ -25,11 +27,11 @@ use Rattle.print.proofs.text_is.Reads as text-is-reads
 
 -- src/lib.rt:80:8
 is-current-template-requires : tie.Need-is-current-template-requires
-is-current-template-requires c κs = ((c .before .before .before .before .before .pre) .0 .plan, (c .before .before .before .before .before .pre) .0 .small, (c .before .before .before .before .before .pre) .1 .ready .template, stands-known ((c .before .before .before .before .before .args) .s .now) ((c .before .before .before .before .before .args) .b .now) ((c .before .before .before .before .before .args) .ent .now) _ _ ((c .before .before .before .before .before .pre) .4 .1))
+is-current-template-requires c κs = ((c .before .before .before .before .before .before .pre) .0 .plan, (c .before .before .before .before .before .before .pre) .0 .small, (c .before .before .before .before .before .before .pre) .1 .ready .template, stands-known ((c .before .before .before .before .before .before .args) .s .now) ((c .before .before .before .before .before .before .args) .b .now) ((c .before .before .before .before .before .before .args) .ent .now) _ _ ((c .before .before .before .before .before .before .pre) .4 .1))
 
 -- src/lib.rt:81:9
 returns : tie.Need-returns
-returns c = decided-self ((c .before .before .before .before .before .before .before .args) .s .now) ((c .before .before .before .before .before .before .before .args) .b .now) ((c .before .before .before .before .before .before .before .args) .ent .now) ((c .before .before .before .before .before .before .before .args) .rc) ((c .before .before .before .before .before .before .before .args) .d) ((c .before .before .before .before .before .before .before .args) .name) ((c .before .before .before .before .before .before .before .args) .own) ((c .before .is-current-template) .result) ((c .before .is-current-template) .ensures) ((c .if1) .taken)
+returns c = decided-self ((c .before .before .before .before .before .before .before .before .args) .s .now) ((c .before .before .before .before .before .before .before .before .args) .b .now) ((c .before .before .before .before .before .before .before .before .args) .ent .now) (whole ((c .before .before .before .before .before .before .before .before .args) .rc) ((c .before .before .before .before .before .before .before .before .args) .sc .now)) ((c .before .before .before .before .before .before .before .before .args) .d) ((c .before .before .before .before .before .before .before .before .args) .name) ((c .before .before .before .before .before .before .before .before .args) .own) ((c .before .is-current-template) .result) ((c .before .is-current-template) .ensures) ((c .if1) .taken)
 
 -- src/lib.rt:83:40
 slice-aggregate-text-is : tie.Need-slice-aggregate-text-is
@@ -37,22 +39,22 @@ slice-aggregate-text-is c = search needs
 
 -- src/lib.rt:83:8
 text-is-requires : tie.Need-text-is-requires
-text-is-requires c κs = ((c .before .before .before .before .before .before .before .before .pre) .0 .plan, (c .before .before .before .before .before .before .before .before .pre) .0 .small, stands-known ((c .before .before .before .before .before .before .before .before .args) .s .now) ((c .before .before .before .before .before .before .before .before .args) .b .now) ((c .before .before .before .before .before .before .before .before .args) .ent .now) _ _ ((c .before .before .before .before .before .before .before .before .pre) .4 .1))
+text-is-requires c κs = ((c .before .before .before .before .before .before .before .before .before .pre) .0 .plan, (c .before .before .before .before .before .before .before .before .before .pre) .0 .small, stands-known ((c .before .before .before .before .before .before .before .before .before .args) .s .now) ((c .before .before .before .before .before .before .before .before .before .args) .b .now) ((c .before .before .before .before .before .before .before .before .before .args) .ent .now) _ _ ((c .before .before .before .before .before .before .before .before .before .pre) .4 .1))
 
 -- src/lib.rt:84:9
 block-target-requires : tie.Need-block-target-requires
-block-target-requires c κs = let r = (c .before .before .before .before .before .before .before .before .before .before .pre) .1 .ready in (r .most, r .sized, (c .before .before .before .before .before .before .before .before .before .before .pre) .5)
+block-target-requires c κs = let r = (c .before .before .before .before .before .before .before .before .before .before .before .pre) .1 .ready in (r .most, (c .before .before .before .before .before .before .before .before .before .before .before .pre) .5, (c .before .before .before .before .before .before .before .before .before .before .before .pre) .6)
 
 -- src/lib.rt:84:9
 returns-2 : tie.Need-returns-2
 returns-2 c =
-    let a = (c .before .before .before .before .before .before .before .before .before .before .before .args) in
-    subst (Decided (a .s .now) (a .b .now) (a .ent .now) (a .rc) (a .d) (a .name) (a .own)) (sym ((c .block-target) .ensures))
-    (decided-block (a .s .now) (a .b .now) (a .ent .now) (a .rc) (a .d) (a .name) (a .own) ((c .before .before .before .before .before .is-current-template) .result) ((c .before .before .before .before .before .is-current-template) .ensures) ((c .before .before .before .before .if1) .left) ((c .before .before .text-is) .result) ((c .before .before .text-is) .ensures) ((c .before .if2) .taken) ((c .before .before .before .before .before .before .before .before .before .before .before .pre) .3))
+    let a = (c .before .before .before .before .before .before .before .before .before .before .before .before .args) in
+    subst (Decided (a .s .now) (a .b .now) (a .ent .now) (whole (a .rc) (a .sc .now)) (a .d) (a .name) (a .own)) (sym ((c .block-target) .ensures))
+    (decided-block (a .s .now) (a .b .now) (a .ent .now) (whole (a .rc) (a .sc .now)) (a .d) (a .name) (a .own) ((c .before .before .before .before .before .is-current-template) .result) ((c .before .before .before .before .before .is-current-template) .ensures) ((c .before .before .before .before .if1) .left) ((c .before .before .text-is) .result) ((c .before .before .text-is) .ensures) ((c .before .if2) .taken) ((c .before .before .before .before .before .before .before .before .before .before .before .before .pre) .3))
 
 -- src/lib.rt:87:11
 find-partial-requires : tie.Need-find-partial-requires
-find-partial-requires c κs = let g = (c .before .before .before .before .before .before .before .before .before .before .before .pre) .0 in (g .plan, g .small, g .bundle, g .listed, g .indexed, (c .before .before .before .before .before .before .before .before .before .before .before .pre) .1 .ready .most, (_, (c .before .before .before .before .before .before .before .before .before .before .before .pre) .1 .ready .scopes), (c .before .before .before .before .before .before .before .before .before .before .before .pre) .4)
+find-partial-requires c κs = let g = (c .before .before .before .before .before .before .before .before .before .before .before .pre) .0 in (g .plan, g .small, g .bundle, g .listed, g .indexed, (c .before .before .before .before .before .before .before .before .before .before .before .pre) .1 .ready .most, (_, (c .before .before .before .before .before .before .before .before .before .before .before .pre) .1 .ready .scopes), (c .before .before .before .before .before .before .before .before .before .before .before .pre) .4, (c .before .before .before .before .before .before .before .before .before .before .before .pre) .6)
 
 -- src/lib.rt:88:23
 enum-known-q : tie.Need-enum-known-q
@@ -67,7 +69,7 @@ add-t22 : tie.Need-add-t22
 add-t22 c =
     let a = (c .before .before .before .before .before .before .before .before .before .before .before .before .before .before .before .args) in
     let nm = name-of (a .s .now) (a .b .now) (a .ent .now) (a .name) in
-    let f = subst (FoundIs (bits (a .b .now)) nm (get-partial (blocks-of (a .s .now) (a .b .now) (a .ent .now) (a .rc .scopes) (a .rc .used)) nm) (get-template (templates-at 16 (bits (a .b .now))) nm)) ((c .before .n) .given .1) ((c .before .before .before .find-partial) .ensures) in
+    let f = subst (FoundIs (bits (a .b .now)) nm (get-partial (blocks-of (a .s .now) (a .b .now) (a .ent .now) (scopes-of (a .sc .now)) (a .rc .used)) nm) (get-template (templates-at 16 (bits (a .b .now))) nm)) ((c .before .n) .given .1) ((c .before .before .before .find-partial) .ensures) in
     let near = string-near (a .b .now) ((c .before .n) .given .0 .0) ((c .before .before .before .before .before .before .before .before .before .before .before .before .before .before .before .pre) .0 .small) (f .name) in
     search needs
 
@@ -83,20 +85,20 @@ own-target-requires c κs = search needs
 returns-3 : tie.Need-returns-3
 returns-3 c =
     let a = (c .before .before .before .before .before .before .before .before .before .before .before .before .before .before .before .args) in
-    decided-inline (a .s .now) (a .b .now) (a .ent .now) (a .rc) (a .d) (a .name) (a .own) ((c .before .before .before .before .before .before .before .before .before .is-current-template) .result) ((c .before .before .before .before .before .before .before .before .before .is-current-template) .ensures) ((c .before .before .before .before .before .before .before .before .if1) .left) ((c .before .before .before .before .before .before .text-is) .result) ((c .before .before .before .before .before .before .text-is) .ensures) ((c .before .before .before .before .before .if2) .left) ((c .before .before .before .find-partial) .result) ((c .before .before .before .find-partial) .ensures) ((c .before .before .before .before .before .before .before .before .before .before .before .before .before .before .before .pre) .3) ((c .before .before .before .before .before .before .before .before .before .before .before .before .before .before .before .pre) .2) ((c .before .q) .given .0 .0) ((c .before .q) .given .0 .1 .0) ((c .before .q) .given .1)
+    decided-inline (a .s .now) (a .b .now) (a .ent .now) (whole (a .rc) (a .sc .now)) (a .d) (a .name) (a .own) ((c .before .before .before .before .before .before .before .before .is-current-template) .result) ((c .before .before .before .before .before .before .before .before .is-current-template) .ensures) ((c .before .before .before .before .before .before .before .if1) .left) ((c .before .before .before .before .before .text-is) .result) ((c .before .before .before .before .before .text-is) .ensures) ((c .before .before .before .before .if2) .left) ((c .before .before .before .find-partial) .result) ((c .before .before .before .find-partial) .ensures) ((c .before .before .before .before .before .before .before .before .before .before .before .before .before .before .before .pre) .3) ((c .before .before .before .before .before .before .before .before .before .before .before .before .before .before .before .pre) .2) ((c .before .q) .given .0 .0) ((c .before .q) .given .0 .1 .0) ((c .before .q) .given .1)
 
 -- src/lib.rt:66:1
 returns-4 : tie.Need-returns-4
 returns-4 c =
     let a = (c .before .before .before .before .before .before .before .before .before .before .before .before .before .before .before .args) in
-    decided-template (a .s .now) (a .b .now) (a .ent .now) (a .rc) (a .d) (a .name) (a .own) ((c .before .before .before .before .before .before .before .before .before .is-current-template) .result) ((c .before .before .before .before .before .before .before .before .before .is-current-template) .ensures) ((c .before .before .before .before .before .before .before .before .if1) .left) ((c .before .before .before .before .before .before .text-is) .result) ((c .before .before .before .before .before .before .text-is) .ensures) ((c .before .before .before .before .before .if2) .left) ((c .before .before .before .find-partial) .result) ((c .before .before .before .find-partial) .ensures) ((c .before .before .before .before .before .before .before .before .before .before .before .before .before .before .before .pre) .3) ((c .before .before .before .before .before .before .before .before .before .before .before .before .before .before .before .pre) .2) ((c .before .n) .given .0 .0) ((c .before .n) .given .0 .1 .0) ((c .before .n) .given .1)
+    decided-template (a .s .now) (a .b .now) (a .ent .now) (whole (a .rc) (a .sc .now)) (a .d) (a .name) (a .own) ((c .before .before .before .before .before .before .before .before .is-current-template) .result) ((c .before .before .before .before .before .before .before .before .is-current-template) .ensures) ((c .before .before .before .before .before .before .before .if1) .left) ((c .before .before .before .before .before .text-is) .result) ((c .before .before .before .before .before .text-is) .ensures) ((c .before .before .before .before .if2) .left) ((c .before .before .before .find-partial) .result) ((c .before .before .before .find-partial) .ensures) ((c .before .before .before .before .before .before .before .before .before .before .before .before .before .before .before .pre) .3) ((c .before .before .before .before .before .before .before .before .before .before .before .before .before .before .before .pre) .2) ((c .before .n) .given .0 .0) ((c .before .n) .given .0 .1 .0) ((c .before .n) .given .1)
 
 -- src/lib.rt:66:1
 returns-5 : tie.Need-returns-5
 returns-5 c =
     let a = (c .before .before .before .before .before .before .before .before .before .before .before .before .before .before .before .args) in
-    subst (Decided (a .s .now) (a .b .now) (a .ent .now) (a .rc) (a .d) (a .name) (a .own)) (sym ((c .own-target) .ensures))
-    (decided-nothing (a .s .now) (a .b .now) (a .ent .now) (a .rc) (a .d) (a .name) (a .own) ((c .before .before .before .before .before .before .before .before .before .is-current-template) .result) ((c .before .before .before .before .before .before .before .before .before .is-current-template) .ensures) ((c .before .before .before .before .before .before .before .before .if1) .left) ((c .before .before .before .before .before .before .text-is) .result) ((c .before .before .before .before .before .before .text-is) .ensures) ((c .before .before .before .before .before .if2) .left) ((c .before .before .before .find-partial) .result) ((c .before .before .before .find-partial) .ensures) ((c .before .before .before .before .before .before .before .before .before .before .before .before .before .before .before .pre) .3) ((c .before .before .before .before .before .before .before .before .before .before .before .before .before .before .before .pre) .2) ((c .before .enum-told) .given .1))
+    subst (Decided (a .s .now) (a .b .now) (a .ent .now) (whole (a .rc) (a .sc .now)) (a .d) (a .name) (a .own)) (sym ((c .own-target) .ensures))
+    (decided-nothing (a .s .now) (a .b .now) (a .ent .now) (whole (a .rc) (a .sc .now)) (a .d) (a .name) (a .own) ((c .before .before .before .before .before .before .before .before .is-current-template) .result) ((c .before .before .before .before .before .before .before .before .is-current-template) .ensures) ((c .before .before .before .before .before .before .before .if1) .left) ((c .before .before .before .before .before .text-is) .result) ((c .before .before .before .before .before .text-is) .ensures) ((c .before .before .before .before .if2) .left) ((c .before .before .before .find-partial) .result) ((c .before .before .before .find-partial) .ensures) ((c .before .before .before .before .before .before .before .before .before .before .before .before .before .before .before .pre) .3) ((c .before .before .before .before .before .before .before .before .before .before .before .before .before .before .before .pre) .2) ((c .before .enum-told) .given .1))
 
 pub expand-partial-spec : {M : Type 1} → statement M
 expand-partial-spec =

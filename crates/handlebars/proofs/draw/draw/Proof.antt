@@ -41,7 +41,7 @@ same-length-4 c = search needs
 
 returns : tie.Need-returns
 unfolding render-call
-returns c = shown _ _ _ _ _ _ _ _ _ _ _ _ (c .before .before .before .before .before .before .before .before .before .render-template .ensures) _ (c .answered .ensures)
+returns c = shown _ _ _ _ _ _ _ _ _ _ _ _ (c .before .before .before .before .before .before .before .before .before .render-template .ensures) _ (c .answered .ensures _)
 
 pub draw-spec : {M : Type 1} → statement M
 draw-spec =
