@@ -20,7 +20,7 @@ use Rattle.calls.specs.Calls.{call-at}
 use Rattle.template.specs.Views.{body-says}
 use Rattle.decorators.specs.Indents.{bytes-of}
 use Rattle.expand.specs.declared.Options.{Options}
-use Rattle.state.specs.Context.{RenderContext}
+use Rattle.state.specs.Context.{RenderContext, whole}
 use Rattle.state.specs.Setters.{with-template, finished-named}
 use Rattle.state.specs.World.{World, world, Ready}
 use Rattle.texts.specs.Setters.{text-closed, text-place, indented, concluded}
@@ -30,7 +30,17 @@ use Rattle.drawing.specs.Continues.{Continues}
 use Rattle.drawing.specs.Renders.{body-rule}
 use Rattle.beginning.specs.declared.Next.{Next}
 use Rattle.beginning.specs.declared.Next.the-variants.{Done, Fallback, Body, Text}
-use Rattle.beginning.specs.declared.Begun.{Begun}
+use Rattle.beginning.specs.declared.Begun as code
+
+-- The code's answer together with its scopes, which lie in a lent buffer
+
+pub record Begun : Type 0 where
+  pub rc : RenderContext
+  pub next : Next
+
+-- l is the buffer
+abbrev pub whole-begun : code.Begun → List ℕ → Begun
+whole-begun r l = record { rc = whole (r .rc) l; next = r .next }
 
 abbrev pub done : RenderContext → Begun
 done c = record { rc = c; next = Done }

@@ -3,18 +3,20 @@
 // d is the number of depths left for the call and the body of the element.
 ghost use mathlib.Core.Bool.{_&&_, _||_};
 ghost use mathlib.Core.Path.{_≡_};
+ghost use mathlib.Core.List.{List};
 ghost use Prim.Native.Nat.{ℕ, _+_, _^_, _≤_, _<_};
 ghost use lib.ListN.{length};
 ghost use Rattle.rules.specs.Bits.{bits};
 ghost use Rattle.rules.specs.Bundle.{string, body, param, call-of};
 ghost use Rattle.parts.specs.Holds.{Holds};
 ghost use Rattle.parts.specs.Says.{MaybeHolds};
+ghost use Rattle.state.specs.Context.{whole};
 ghost use Rattle.state.specs.Setters.{failed, marked};
 ghost use Rattle.state.specs.World.{world, Ready};
 ghost use Rattle.inlining.specs.Decorated.{is-at};
 ghost use Rattle.drawing.specs.Parts.{before-partial};
 ghost use Rattle.drawing.specs.Renders.{Checked, Named, Worked, Joins};
-ghost use Rattle.beginning.specs.Opened.{done, BodyFits, body-context, body-buffer, TextEnds, text-context, text-buffer, partial-rule, PartialBegun};
+ghost use Rattle.beginning.specs.Opened.{done, whole-begun, BodyFits, body-context, body-buffer, TextEnds, text-context, text-buffer, partial-rule, PartialBegun};
 ghost use Rattle.beginning.specs.Entering.{Enterable, Enters};
 use expand::Expanded;
 use expand::Options;
@@ -40,8 +42,8 @@ fn begin_body(
     name: usize,
     rc: RenderContext,
 ) -> RenderContext
-    requires { ⌜ (length (now b) ≤ 65536) × BodyFits (bits (now b)) at rc (length (now indent)) ⌝ }
-    ensures { λ r. ⌜ (r ≡ body-context (bits (now (b .entry))) at name rc) × (now (indent .exit) ≡ body-buffer (bits (now (b .entry))) at rc (now (indent .entry))) ⌝ }
+    requires { ⌜ (length (now b) ≤ 65536) × ((l : List ℕ) → BodyFits (bits (now b)) at (whole rc l) (length (now indent))) ⌝ }
+    ensures { λ r. ⌜ ((l : List ℕ) → whole r l ≡ body-context (bits (now (b .entry))) at name (whole rc l)) × ((l : List ℕ) → now (indent .exit) ≡ body-buffer (bits (now (b .entry))) at (whole rc l) (now (indent .entry))) ⌝ }
 {
     let w = rc.writer;
     let n = decorators::append_indent(indent, b, w.indent, at);
@@ -53,6 +55,7 @@ fn begin_body(
 pub fn end_text(
     texts: &mut [u8],
     indent: &mut [u8],
+    sc: &mut [u64],
     b: &[u8],
     at: Maybe,
     name: usize,
@@ -60,10 +63,10 @@ pub fn end_text(
     block_text: bool,
     rc: RenderContext,
 ) -> RenderContext
-    requires { ⌜ (length (now b) ≤ 65536) × TextEnds (bits (now b)) at begin rc (length (now texts)) (length (now indent)) ⌝ }
-    ensures { λ r. ⌜ (r ≡ text-context (bits (now (b .entry))) at name begin «block_text» rc) × (now (texts .exit) ≡ text-buffer begin rc (now (texts .entry))) × (now (indent .exit) ≡ body-buffer (bits (now (b .entry))) at rc (now (indent .entry))) ⌝ }
+    requires { ⌜ (length (now b) ≤ 65536) × TextEnds (bits (now b)) at begin (whole rc (now sc)) (length (now texts)) (length (now indent)) × (length (now sc) ≡ 96) ⌝ }
+    ensures { λ r. ⌜ (whole r (now (sc .exit)) ≡ text-context (bits (now (b .entry))) at name begin «block_text» (whole rc (now (sc .entry)))) × (now (texts .exit) ≡ text-buffer begin (whole rc (now (sc .entry))) (now (texts .entry))) × (now (indent .exit) ≡ body-buffer (bits (now (b .entry))) at (whole rc (now (sc .entry))) (now (indent .entry))) ⌝ }
 {
-    let u = texts::close_text(texts, rc, begin, block_text);
+    let u = texts::close_text(texts, sc, rc, begin, block_text);
     begin_body(indent, b, at, name, u)
 }
 
@@ -85,7 +88,7 @@ pub struct Begun {
 }
 
 fn done(rc: RenderContext) -> Begun
-    ensures { λ r. ⌜ r ≡ done rc ⌝ }
+    ensures { λ r. ⌜ ((l : List ℕ) → whole-begun r l ≡ done (whole rc l)) ⌝ }
 {
     Begun {
         rc,
@@ -100,6 +103,7 @@ fn enter(
     b: &[u8],
     ent: &mut [u64],
     indent: &mut [u8],
+    sc: &mut [u64],
     options: Options,
     p: usize,
     w: Expanded,
@@ -111,10 +115,10 @@ fn enter(
     d: usize,
     rc: RenderContext,
 ) -> Begun
-    requires { ⌜ Enterable (now s) (now tab) (now b) (now ent) (now indent) options rc d p w q e name own at ⌝ }
-    ensures { λ r. ⌜ Enters (now (s .entry)) (now (b .entry)) (now (ent .entry)) (now (ent .exit)) (now (indent .entry)) (now (indent .exit)) options rc (r .rc) d p w q e name own at (r .next) ⌝ }
+    requires { ⌜ Enterable (now s) (now tab) (now b) (now ent) (now indent) options (whole rc (now sc)) d p w q e name own at × (length (now sc) ≡ 96) ⌝ }
+    ensures { λ r. ⌜ Enters (now (s .entry)) (now (b .entry)) (now (ent .entry)) (now (ent .exit)) (now (indent .entry)) (now (indent .exit)) options (whole rc (now (sc .entry))) (whole (r .rc) (now (sc .exit))) d p w q e name own at (r .next) ⌝ }
 {
-    let u = opening::open_scope(s, tab, b, ent, options, p, w, d, rc);
+    let u = opening::open_scope(s, tab, b, ent, sc, options, p, w, d, rc);
     if u.bad != 0 {
         return done(u);
     }
@@ -127,7 +131,7 @@ fn enter(
         }
         Maybe::Nothing => {
             Begun {
-                rc: begin_body(indent, b, at, name, texts::no_text(u)),
+                rc: begin_body(indent, b, at, name, texts::no_text(sc, u)),
                 next: Next::Body(q, e, name),
             }
         }
@@ -157,6 +161,7 @@ pub fn begin(
     page: &mut [u8],
     texts: &mut [u8],
     indent: &mut [u8],
+    sc: &mut [u64],
     options: Options,
     p: usize,
     own: Maybe,
@@ -165,11 +170,10 @@ pub fn begin(
     d: usize,
     rc: RenderContext,
 ) -> Begun
-    requires { ⌜ Checked (now s) (now tab) (now b) (now index) × Ready (now s) (now b) (world rc (now page) (now texts) (now indent) (now ent)) × (d ≤ 16) × Holds (call-of (param d)) (bits (now b)) p × MaybeHolds (body 16 d) (bits (now b)) own × MaybeHolds string (bits (now b)) at ⌝ }
-    ensures { λ r. ⌜ PartialBegun (now (s .entry)) (now (b .entry)) options (world rc (now (page .entry)) (now (texts .entry)) (now (indent .entry)) (now (ent .entry))) (world (r .rc) (now (page .exit)) (now (texts .exit)) (now (indent .exit)) (now (ent .exit))) d (partial-rule (now (b .entry)) d p own at before) own at (r .next) ⌝ }
+    requires { ⌜ Checked (now s) (now tab) (now b) (now index) × Ready (now s) (now b) (world (whole rc (now sc)) (now page) (now texts) (now indent) (now ent)) × (d ≤ 16) × Holds (call-of (param d)) (bits (now b)) p × MaybeHolds (body 16 d) (bits (now b)) own × MaybeHolds string (bits (now b)) at × (length (now sc) ≡ 96) ⌝ }
+    ensures { λ r. ⌜ PartialBegun (now (s .entry)) (now (b .entry)) options (world (whole rc (now (sc .entry))) (now (page .entry)) (now (texts .entry)) (now (indent .entry)) (now (ent .entry))) (world (whole (r .rc) (now (sc .exit))) (now (page .exit)) (now (texts .exit)) (now (indent .exit)) (now (ent .exit))) d (partial-rule (now (b .entry)) d p own at before) own at (r .next) ⌝ }
 {
-    let list = rc.scopes;
-    let w = expand::try_from_template(s, tab, b, ent, list, rc.used, options, p, d);
+    let w = expand::try_from_template(s, tab, b, ent, sc, rc.used, options, p, d);
     if w.bad != 0 {
         return done(state::failed(rc, w.bad));
     }
@@ -179,7 +183,7 @@ pub fn begin(
     }
     let name = w.name;
     let q = state::begin_aware(rc, before_partial(marks, at, before));
-    match targets::expand_partial(s, tab, b, index, ent, name, own, d, q) {
+    match targets::expand_partial(s, tab, b, index, ent, sc, name, own, d, q) {
         Target::Bad(n) => done(state::failed(q, n)),
         Target::Text(from, n) => done(state::finish(
             writing::partial_block_text(page, texts, q, from, n),
@@ -197,6 +201,7 @@ pub fn begin(
             b,
             ent,
             indent,
+            sc,
             options,
             p,
             w,

@@ -1,10 +1,11 @@
+use Rattle.state.specs.Context.{whole}
+use Rattle.scope.specs.Words.{scopes-of}
 use Rattle.inlining.specs.Decorated.{SomeReady}
 use Rattle.beginning.specs.Laws.{fits-is, fits-joins, begun-stop, begun-long, marks-ready, worked-there, name-there, begun-bad, begun-text, begun-fallback, begun-entered}
 use Rattle.beginning.specs.Entering.{Enterable, Enters}
-use Rattle.beginning.specs.Opened.{done, partial-rule, PartialBegun}
+use Rattle.beginning.specs.Opened.{Begun, done, partial-rule, PartialBegun}
 use Rattle.beginning.specs.declared.Next.the-variants.{Fallback}
 use Rattle.beginning.specs.declared.Next.{Next}
-use Rattle.beginning.specs.declared.Begun.{Begun}
 use Rattle.targets.specs.Target.{Leads, Decided}
 use Rattle.drawing.specs.Members.{setting}
 use Rattle.drawing.specs.Renders.{registry-of}
@@ -41,7 +42,7 @@ use Rattle.writing.proofs.partial_block_text.Reads as partial-block-text-reads
 
 -- src/lib.rt:171:9
 try-from-template-requires : tie.Need-try-from-template-requires
-try-from-template-requires c κs = let r = (c .before .before .before .before .before .before .before .before .before .before .pre) .1 in ((c .before .before .before .before .before .before .before .before .before .before .pre) .0 .plan, (c .before .before .before .before .before .before .before .before .before .before .pre) .0 .small, r .one, r .most, (_, r .scopes), (c .before .before .before .before .before .before .before .before .before .before .pre) .3)
+try-from-template-requires c κs = let r = (c .before .before .before .before .before .before .before .before .before .before .before .pre) .1 in ((c .before .before .before .before .before .before .before .before .before .before .before .pre) .0 .plan, (c .before .before .before .before .before .before .before .before .before .before .before .pre) .0 .small, r .one, r .most, (_, r .scopes), (c .before .before .before .before .before .before .before .before .before .before .before .pre) .3, (c .before .before .before .before .before .before .before .before .before .before .before .pre) .6)
 
 -- src/lib.rt:173:21
 failed-requires : tie.Need-failed-requires
@@ -55,19 +56,23 @@ done-requires c κs = search needs
 same-length : tie.Need-same-length
 same-length c = search needs
 
+-- src/lib.rt:177:9
+same-length-2 : tie.Need-same-length-2
+same-length-2 c = search needs
+
 -- src/lib.rt:173:9
 returns : tie.Need-returns
 returns c =
-    let a = (c .before .before .before .before .before .before .before .before .before .before .before .before .before .before .before .args) in
-    let w : World = world (a .rc) (a .page .now) (a .texts .now) (a .indent .now) (a .ent .now) in
+    let a = (c .before .before .before .before .before .before .before .before .before .before .before .before .before .before .before .before .args) in
+    let w : World = world (whole (a .rc) (a .sc .now)) (a .page .now) (a .texts .now) (a .indent .now) (a .ent .now) in
     let x = (c .before .before .before .before .try-from-template) .result in
-    let k = (c .before .before .before .before .try-from-template) .ensures (registry-of (a .s .now) (a .b .now) (a .options) (length (a .page .now))) (abs (a .s .now) (a .b .now) w) (top w) (setting (a .s .now) (a .b .now) (a .options) w ((c .before .before .before .before .before .before .before .before .before .before .before .before .before .before .before .pre) .1) (length (a .page .now))) in
-    subst (λ (y : Begun). PartialBegun (a .s .now) (a .b .now) (a .options) w (over (y .rc) w) (a .d) (partial-rule (a .b .now) (a .d) (a .p) (a .own) (a .at) (a .before)) (a .own) (a .at) (y .next)) (sym ((c .done) .ensures ∙ ap done ((c .before .failed) .ensures)))
-    (begun-stop (a .s .now) (a .b .now) (a .options) w (a .d) (a .p) (a .own) (a .at) (a .before) ((c .before .before .before .before .before .before .before .before .before .before .before .before .before .before .before .pre) .1) x k ((c .before .before .if1) .taken))
+    let k = (c .before .before .before .before .try-from-template) .ensures (registry-of (a .s .now) (a .b .now) (a .options) (length (a .page .now))) (abs (a .s .now) (a .b .now) w) (top w) (setting (a .s .now) (a .b .now) (a .options) w ((c .before .before .before .before .before .before .before .before .before .before .before .before .before .before .before .before .pre) .1) (length (a .page .now))) in
+    subst (λ (y : Begun). PartialBegun (a .s .now) (a .b .now) (a .options) w (over (y .rc) w) (a .d) (partial-rule (a .b .now) (a .d) (a .p) (a .own) (a .at) (a .before)) (a .own) (a .at) (y .next)) (sym ((c .done) .ensures (a .sc .now) ∙ ap done ((c .before .failed) .ensures (a .sc .now))))
+    (begun-stop (a .s .now) (a .b .now) (a .options) w (a .d) (a .p) (a .own) (a .at) (a .before) ((c .before .before .before .before .before .before .before .before .before .before .before .before .before .before .before .before .pre) .1) x k ((c .before .before .if1) .taken))
 
 -- src/lib.rt:176:9
 indent-fits-requires : tie.Need-indent-fits-requires
-indent-fits-requires c κs = ((c .before .before .before .before .before .before .before .before .before .before .before .before .before .before .pre) .0 .small, own-stands (bits ((c .before .before .before .before .before .before .before .before .before .before .before .before .before .before .args) .b .now)) ((c .before .before .before .before .before .before .before .before .before .before .before .before .before .before .args) .at) ((c .before .before .before .before .before .before .before .before .before .before .before .before .before .before .pre) .5))
+indent-fits-requires c κs = ((c .before .before .before .before .before .before .before .before .before .before .before .before .before .before .before .pre) .0 .small, own-stands (bits ((c .before .before .before .before .before .before .before .before .before .before .before .before .before .before .before .args) .b .now)) ((c .before .before .before .before .before .before .before .before .before .before .before .before .before .before .before .args) .at) ((c .before .before .before .before .before .before .before .before .before .before .before .before .before .before .before .pre) .5))
 
 -- src/lib.rt:177:21
 failed-requires-2 : tie.Need-failed-requires-2
@@ -77,20 +82,24 @@ failed-requires-2 c κs = search needs
 done-requires-2 : tie.Need-done-requires-2
 done-requires-2 c κs = search needs
 
--- src/lib.rt:177:9
-same-length-2 : tie.Need-same-length-2
-same-length-2 c = search needs
+-- src/lib.rt:150:1
+same-length-3 : tie.Need-same-length-3
+same-length-3 c = search needs
+
+-- src/lib.rt:150:1
+same-length-4 : tie.Need-same-length-4
+same-length-4 c = search needs
 
 -- src/lib.rt:177:9
 returns-2 : tie.Need-returns-2
 returns-2 c =
-    let a = (c .before .before .before .before .before .before .before .before .before .before .before .before .before .before .before .before .before .before .args) in
-    let w : World = world (a .rc) (a .page .now) (a .texts .now) (a .indent .now) (a .ent .now) in
+    let a = (c .before .before .before .before .before .before .before .before .before .before .before .before .before .before .before .before .before .before .before .args) in
+    let w : World = world (whole (a .rc) (a .sc .now)) (a .page .now) (a .texts .now) (a .indent .now) (a .ent .now) in
     let x = (c .before .before .before .before .before .before .before .try-from-template) .result in
-    let k = (c .before .before .before .before .before .before .before .try-from-template) .ensures (registry-of (a .s .now) (a .b .now) (a .options) (length (a .page .now))) (abs (a .s .now) (a .b .now) w) (top w) (setting (a .s .now) (a .b .now) (a .options) w ((c .before .before .before .before .before .before .before .before .before .before .before .before .before .before .before .before .before .before .pre) .1) (length (a .page .now))) in
-    let long = sym (fits-is (a .s .now) (a .b .now) (a .options) w (a .at) ((c .before .before .before .before .before .before .before .before .before .before .before .before .before .before .before .before .before .before .pre) .1) ((c .before .before .before .indent-fits) .result) ((c .before .before .before .indent-fits) .ensures)) ∙ not-true _ ((c .before .before .if2) .taken) in
-    subst (λ (y : Begun). PartialBegun (a .s .now) (a .b .now) (a .options) w (over (y .rc) w) (a .d) (partial-rule (a .b .now) (a .d) (a .p) (a .own) (a .at) (a .before)) (a .own) (a .at) (y .next)) (sym ((c .done2) .ensures ∙ ap done ((c .before .failed2) .ensures)))
-    (begun-long (a .s .now) (a .b .now) (a .options) w (a .d) (a .p) (a .own) (a .at) (a .before) ((c .before .before .before .before .before .before .before .before .before .before .before .before .before .before .before .before .before .before .pre) .1) x k ((c .before .before .before .before .before .if1) .left) long)
+    let k = (c .before .before .before .before .before .before .before .try-from-template) .ensures (registry-of (a .s .now) (a .b .now) (a .options) (length (a .page .now))) (abs (a .s .now) (a .b .now) w) (top w) (setting (a .s .now) (a .b .now) (a .options) w ((c .before .before .before .before .before .before .before .before .before .before .before .before .before .before .before .before .before .before .before .pre) .1) (length (a .page .now))) in
+    let long = sym (fits-is (a .s .now) (a .b .now) (a .options) w (a .at) ((c .before .before .before .before .before .before .before .before .before .before .before .before .before .before .before .before .before .before .before .pre) .1) ((c .before .before .before .indent-fits) .result) ((c .before .before .before .indent-fits) .ensures)) ∙ not-true _ ((c .before .before .if2) .taken) in
+    subst (λ (y : Begun). PartialBegun (a .s .now) (a .b .now) (a .options) w (over (y .rc) w) (a .d) (partial-rule (a .b .now) (a .d) (a .p) (a .own) (a .at) (a .before)) (a .own) (a .at) (y .next)) (sym ((c .done2) .ensures (a .sc .now) ∙ ap done ((c .before .failed2) .ensures (a .sc .now))))
+    (begun-long (a .s .now) (a .b .now) (a .options) w (a .d) (a .p) (a .own) (a .at) (a .before) ((c .before .before .before .before .before .before .before .before .before .before .before .before .before .before .before .before .before .before .before .pre) .1) x k ((c .before .before .before .before .before .if1) .left) long)
 
 -- src/lib.rt:180:36
 before-partial-requires : tie.Need-before-partial-requires
@@ -103,17 +112,17 @@ begin-aware-requires c κs = search needs
 -- src/lib.rt:181:11
 expand-partial-requires : tie.Need-expand-partial-requires
 expand-partial-requires c κs =
-    let a = (c .before .before .before .before .before .before .before .before .before .before .before .before .before .before .before .before .before .before .before .args) in
-    let w : World = world (a .rc) (a .page .now) (a .texts .now) (a .indent .now) (a .ent .now) in
-    let x = (c .before .before .before .before .before .before .before .before .try-from-template) .result in
-    let k = (c .before .before .before .before .before .before .before .before .try-from-template) .ensures (registry-of (a .s .now) (a .b .now) (a .options) (length (a .page .now))) (abs (a .s .now) (a .b .now) w) (top w) (setting (a .s .now) (a .b .now) (a .options) w ((c .before .before .before .before .before .before .before .before .before .before .before .before .before .before .before .before .before .before .before .pre) .1) (length (a .page .now))) in
-    let fits = sym (fits-is (a .s .now) (a .b .now) (a .options) w (a .at) ((c .before .before .before .before .before .before .before .before .before .before .before .before .before .before .before .before .before .before .before .pre) .1) ((c .before .before .before .before .indent-fits) .result) ((c .before .before .before .before .indent-fits) .ensures)) ∙ not-false _ ((c .before .before .before .if2) .left) in
-    let q : (c .before .begin-aware) .result ≡ marked (a .rc) (before-partial (a .rc .writer) (a .at) (a .before)) = (c .before .begin-aware) .ensures ∙ ap (marked (a .rc)) ((c .before .before .before-partial) .ensures) in
-    let w₁ : World = over (marked (a .rc) (before-partial (a .rc .writer) (a .at) (a .before))) w in
-    let r₁ : Ready (a .s .now) (a .b .now) w₁ = marks-ready (a .s .now) (a .b .now) (a .options) w (a .d) (a .p) (a .own) (a .at) (a .before) ((c .before .before .before .before .before .before .before .before .before .before .before .before .before .before .before .before .before .before .before .pre) .1) x k ((c .before .before .before .before .before .before .if1) .left) in
-    let g = (c .before .before .before .before .before .before .before .before .before .before .before .before .before .before .before .before .before .before .before) .good .1 .1 .1 .1 .1 .1 .0 in
-    let near : a .rc .writer .high + sizes-of (a .rc .scopes) (a .rc .used) < 2 ^ 64 = omega (arith, (c .before .before .before .before .before .before .before .before .before .before .before .before .before .before .before .before .before .before .before .pre) .1 .texts, g) in
-    ((c .before .before .before .before .before .before .before .before .before .before .before .before .before .before .before .before .before .before .before .pre) .0, subst (λ (v : RenderContext). SomeReady (a .s .now) (a .b .now) v (a .ent .now)) (sym q) (record { page = a .page .now; texts = a .texts .now; indent = a .indent .now; ready = r₁ }), (c .before .before .before .before .before .before .before .before .before .before .before .before .before .before .before .before .before .before .before .pre) .2, (c .before .before .before .before .before .before .before .before .before .before .before .before .before .before .before .before .before .before .before .pre) .4, (top w, name-there (a .s .now) (a .b .now) (a .options) w (a .d) (a .p) (a .own) (a .at) (a .before) ((c .before .before .before .before .before .before .before .before .before .before .before .before .before .before .before .before .before .before .before .pre) .1) x k ((c .before .before .before .before .before .before .if1) .left)), subst (λ (v : RenderContext). v .writer .high + sizes-of (v .scopes) (v .used) < 2 ^ 64) (sym q) near)
+    let a = (c .before .before .before .before .before .before .before .before .before .before .before .before .before .before .before .before .before .before .before .before .before .args) in
+    let w : World = world (whole (a .rc) (a .sc .now)) (a .page .now) (a .texts .now) (a .indent .now) (a .ent .now) in
+    let x = (c .before .before .before .before .before .before .before .before .before .try-from-template) .result in
+    let k = (c .before .before .before .before .before .before .before .before .before .try-from-template) .ensures (registry-of (a .s .now) (a .b .now) (a .options) (length (a .page .now))) (abs (a .s .now) (a .b .now) w) (top w) (setting (a .s .now) (a .b .now) (a .options) w ((c .before .before .before .before .before .before .before .before .before .before .before .before .before .before .before .before .before .before .before .before .before .pre) .1) (length (a .page .now))) in
+    let fits = sym (fits-is (a .s .now) (a .b .now) (a .options) w (a .at) ((c .before .before .before .before .before .before .before .before .before .before .before .before .before .before .before .before .before .before .before .before .before .pre) .1) ((c .before .before .before .before .before .indent-fits) .result) ((c .before .before .before .before .before .indent-fits) .ensures)) ∙ not-false _ ((c .before .before .before .before .if2) .left) in
+    let q : whole (c .before .before .begin-aware .result) (a .sc .now) ≡ marked (whole (a .rc) (a .sc .now)) (before-partial (a .rc .writer) (a .at) (a .before)) = (c .before .before .begin-aware) .ensures (a .sc .now) ∙ ap (marked (whole (a .rc) (a .sc .now))) ((c .before .before .before .before-partial) .ensures) in
+    let w₁ : World = over (marked (whole (a .rc) (a .sc .now)) (before-partial (a .rc .writer) (a .at) (a .before))) w in
+    let r₁ : Ready (a .s .now) (a .b .now) w₁ = marks-ready (a .s .now) (a .b .now) (a .options) w (a .d) (a .p) (a .own) (a .at) (a .before) ((c .before .before .before .before .before .before .before .before .before .before .before .before .before .before .before .before .before .before .before .before .before .pre) .1) x k ((c .before .before .before .before .before .before .before .if1) .left) in
+    let g = (c .before .before .before .before .before .before .before .before .before .before .before .before .before .before .before .before .before .before .before .before .before) .good .1 .1 .1 .1 .1 .1 .0 in
+    let near : a .rc .writer .high + sizes-of (scopes-of (a .sc .now)) (a .rc .used) < 2 ^ 64 = omega (arith, (c .before .before .before .before .before .before .before .before .before .before .before .before .before .before .before .before .before .before .before .before .before .pre) .1 .texts, g) in
+    ((c .before .before .before .before .before .before .before .before .before .before .before .before .before .before .before .before .before .before .before .before .before .pre) .0, subst (λ (v : RenderContext). SomeReady (a .s .now) (a .b .now) v (a .ent .now)) (sym q) (record { page = a .page .now; texts = a .texts .now; indent = a .indent .now; ready = r₁ }), (c .before .before .before .before .before .before .before .before .before .before .before .before .before .before .before .before .before .before .before .before .before .pre) .2, (c .before .before .before .before .before .before .before .before .before .before .before .before .before .before .before .before .before .before .before .before .before .pre) .4, (top w, name-there (a .s .now) (a .b .now) (a .options) w (a .d) (a .p) (a .own) (a .at) (a .before) ((c .before .before .before .before .before .before .before .before .before .before .before .before .before .before .before .before .before .before .before .before .before .pre) .1) x k ((c .before .before .before .before .before .before .before .if1) .left)), subst (λ (v : RenderContext). v .writer .high + sizes-of (v .scopes) (v .used) < 2 ^ 64) (sym q) near, (c .before .before .before .before .before .before .before .before .before .before .before .before .before .before .before .before .before .before .before .before .before .pre) .6)
 
 -- src/lib.rt:182:21
 enum-known-n : tie.Need-enum-known-n
@@ -134,14 +143,14 @@ enum-known-from c = search needs
 -- src/lib.rt:184:13
 partial-block-text-requires : tie.Need-partial-block-text-requires
 partial-block-text-requires c κs =
-    let a = (c .before .before .before .before .before .before .before .before .before .before .before .before .before .before .before .before .before .before .before .before .before .before .before .before .before .args) in
-    let w : World = world (a .rc) (a .page .now) (a .texts .now) (a .indent .now) (a .ent .now) in
-    let x = (c .before .before .before .before .before .before .before .before .before .before .before .before .before .before .try-from-template) .result in
-    let k = (c .before .before .before .before .before .before .before .before .before .before .before .before .before .before .try-from-template) .ensures (registry-of (a .s .now) (a .b .now) (a .options) (length (a .page .now))) (abs (a .s .now) (a .b .now) w) (top w) (setting (a .s .now) (a .b .now) (a .options) w ((c .before .before .before .before .before .before .before .before .before .before .before .before .before .before .before .before .before .before .before .before .before .before .before .before .before .pre) .1) (length (a .page .now))) in
-    let fits = sym (fits-is (a .s .now) (a .b .now) (a .options) w (a .at) ((c .before .before .before .before .before .before .before .before .before .before .before .before .before .before .before .before .before .before .before .before .before .before .before .before .before .pre) .1) ((c .before .before .before .before .before .before .before .before .before .before .indent-fits) .result) ((c .before .before .before .before .before .before .before .before .before .before .indent-fits) .ensures)) ∙ not-false _ ((c .before .before .before .before .before .before .before .before .before .if2) .left) in
-    let q : (c .before .before .before .before .before .before .before .begin-aware) .result ≡ marked (a .rc) (before-partial (a .rc .writer) (a .at) (a .before)) = (c .before .before .before .before .before .before .before .begin-aware) .ensures ∙ ap (marked (a .rc)) ((c .before .before .before .before .before .before .before .before .before-partial) .ensures) in
-    let w₁ : World = over (marked (a .rc) (before-partial (a .rc .writer) (a .at) (a .before))) w in
-    let L = subst (Leads (a .s .now) (a .b .now) (a .options) w₁ (a .d) (a .p) x (a .own) (a .at)) ((c .before .before .before .from) .given .1) (subst (λ (v : RenderContext). Decided (a .s .now) (a .b .now) (a .ent .now) v (a .d) (x .name) (a .own) ((c .before .before .before .before .before .expand-partial) .result)) q ((c .before .before .before .before .before .expand-partial) .ensures) .at (a .page .now) (a .texts .now) (a .indent .now) (a .options) (a .p) x (a .at) refl (marks-ready (a .s .now) (a .b .now) (a .options) w (a .d) (a .p) (a .own) (a .at) (a .before) ((c .before .before .before .before .before .before .before .before .before .before .before .before .before .before .before .before .before .before .before .before .before .before .before .before .before .pre) .1) x k ((c .before .before .before .before .before .before .before .before .before .before .before .before .if1) .left))) in
+    let a = (c .before .before .before .before .before .before .before .before .before .before .before .before .before .before .before .before .before .before .before .before .before .before .before .before .before .before .before .args) in
+    let w : World = world (whole (a .rc) (a .sc .now)) (a .page .now) (a .texts .now) (a .indent .now) (a .ent .now) in
+    let x = (c .before .before .before .before .before .before .before .before .before .before .before .before .before .before .before .try-from-template) .result in
+    let k = (c .before .before .before .before .before .before .before .before .before .before .before .before .before .before .before .try-from-template) .ensures (registry-of (a .s .now) (a .b .now) (a .options) (length (a .page .now))) (abs (a .s .now) (a .b .now) w) (top w) (setting (a .s .now) (a .b .now) (a .options) w ((c .before .before .before .before .before .before .before .before .before .before .before .before .before .before .before .before .before .before .before .before .before .before .before .before .before .before .before .pre) .1) (length (a .page .now))) in
+    let fits = sym (fits-is (a .s .now) (a .b .now) (a .options) w (a .at) ((c .before .before .before .before .before .before .before .before .before .before .before .before .before .before .before .before .before .before .before .before .before .before .before .before .before .before .before .pre) .1) ((c .before .before .before .before .before .before .before .before .before .before .before .indent-fits) .result) ((c .before .before .before .before .before .before .before .before .before .before .before .indent-fits) .ensures)) ∙ not-false _ ((c .before .before .before .before .before .before .before .before .before .before .if2) .left) in
+    let q : whole (c .before .before .before .before .before .before .before .before .begin-aware .result) (a .sc .now) ≡ marked (whole (a .rc) (a .sc .now)) (before-partial (a .rc .writer) (a .at) (a .before)) = (c .before .before .before .before .before .before .before .before .begin-aware) .ensures (a .sc .now) ∙ ap (marked (whole (a .rc) (a .sc .now))) ((c .before .before .before .before .before .before .before .before .before .before-partial) .ensures) in
+    let w₁ : World = over (marked (whole (a .rc) (a .sc .now)) (before-partial (a .rc .writer) (a .at) (a .before))) w in
+    let L = subst (Leads (a .s .now) (a .b .now) (a .options) w₁ (a .d) (a .p) x (a .own) (a .at)) ((c .before .before .before .from) .given .1) (subst (λ (v : RenderContext). Decided (a .s .now) (a .b .now) (a .ent .now) v (a .d) (x .name) (a .own) ((c .before .before .before .before .before .expand-partial) .result)) q ((c .before .before .before .before .before .expand-partial) .ensures) .at (a .page .now) (a .texts .now) (a .indent .now) (a .options) (a .p) x (a .at) refl (marks-ready (a .s .now) (a .b .now) (a .options) w (a .d) (a .p) (a .own) (a .at) (a .before) ((c .before .before .before .before .before .before .before .before .before .before .before .before .before .before .before .before .before .before .before .before .before .before .before .before .before .before .before .pre) .1) x k ((c .before .before .before .before .before .before .before .before .before .before .before .before .before .if1) .left))) in
     subst (λ (v : RenderContext). (v .writer .high ≤ (c .before .before .before .from) .given .0 .0) × ((c .before .before .before .from) .given .0 .0 + (c .before .before .before .from) .given .0 .1 .0 ≤ length (a .texts .now))) (sym q) (L .0, L .1)
 
 -- src/lib.rt:183:39
@@ -167,39 +176,19 @@ enum-known-t-2 c = search needs
 -- src/lib.rt:193:37
 enter-requires : tie.Need-enter-requires
 enter-requires c κs =
-    let a = (c .before .before .before .before .before .before .before .before .before .before .before .before .before .before .before .before .before .before .before .before .before .before .before .before .before .args) in
-    let w : World = world (a .rc) (a .page .now) (a .texts .now) (a .indent .now) (a .ent .now) in
-    let x = (c .before .before .before .before .before .before .before .before .before .before .before .before .before .before .try-from-template) .result in
-    let k = (c .before .before .before .before .before .before .before .before .before .before .before .before .before .before .try-from-template) .ensures (registry-of (a .s .now) (a .b .now) (a .options) (length (a .page .now))) (abs (a .s .now) (a .b .now) w) (top w) (setting (a .s .now) (a .b .now) (a .options) w ((c .before .before .before .before .before .before .before .before .before .before .before .before .before .before .before .before .before .before .before .before .before .before .before .before .before .pre) .1) (length (a .page .now))) in
-    let fits = sym (fits-is (a .s .now) (a .b .now) (a .options) w (a .at) ((c .before .before .before .before .before .before .before .before .before .before .before .before .before .before .before .before .before .before .before .before .before .before .before .before .before .pre) .1) ((c .before .before .before .before .before .before .before .before .before .before .indent-fits) .result) ((c .before .before .before .before .before .before .before .before .before .before .indent-fits) .ensures)) ∙ not-false _ ((c .before .before .before .before .before .before .before .before .before .if2) .left) in
-    let q : (c .before .before .before .before .before .before .before .begin-aware) .result ≡ marked (a .rc) (before-partial (a .rc .writer) (a .at) (a .before)) = (c .before .before .before .before .before .before .before .begin-aware) .ensures ∙ ap (marked (a .rc)) ((c .before .before .before .before .before .before .before .before .before-partial) .ensures) in
-    let w₁ : World = over (marked (a .rc) (before-partial (a .rc .writer) (a .at) (a .before))) w in
-    let joins = fits-joins (a .s .now) (a .b .now) (a .options) w (a .at) ((c .before .before .before .before .before .before .before .before .before .before .before .before .before .before .before .before .before .before .before .before .before .before .before .before .before .pre) .1) fits in
-    let W = worked-there (a .s .now) (a .b .now) (a .options) w (a .d) (a .p) (a .own) (a .at) (a .before) ((c .before .before .before .before .before .before .before .before .before .before .before .before .before .before .before .before .before .before .before .before .before .before .before .before .before .pre) .1) x k ((c .before .before .before .before .before .before .before .before .before .before .before .before .if1) .left) in
-    subst (λ (v : RenderContext). Enterable (a .s .now) (a .tab .now) (a .b .now) (a .ent .now) (a .indent .now) (a .options) v (a .d) (a .p) x ((c .before .before .before .t2) .given .0 .0) ((c .before .before .before .t2) .given .0 .1 .0) ((c .before .before .before .t2) .given .0 .1 .1 .0) ((c .before .before .before .t2) .given .0 .1 .1 .1 .0) (a .at)) (sym q)
-    (record { plan = (c .before .before .before .before .before .before .before .before .before .before .before .before .before .before .before .before .before .before .before .before .before .before .before .before .before .pre) .0 .plan; small = (c .before .before .before .before .before .before .before .before .before .before .before .before .before .before .before .before .before .before .before .before .before .before .before .before .before .pre) .0 .small; page = a .page .now; texts = a .texts .now; ready = marks-ready (a .s .now) (a .b .now) (a .options) w (a .d) (a .p) (a .own) (a .at) (a .before) ((c .before .before .before .before .before .before .before .before .before .before .before .before .before .before .before .before .before .before .before .before .before .before .before .before .before .pre) .1) x k ((c .before .before .before .before .before .before .before .before .before .before .before .before .if1) .left); expanded = _; worked = W; call = (c .before .before .before .before .before .before .before .before .before .before .before .before .before .before .before .before .before .before .before .before .before .before .before .before .before .pre) .3; held = (c .before .before .before .before .before .before .before .before .before .before .before .before .before .before .before .before .before .before .before .before .before .before .before .before .before .pre) .5; joins = joins })
-
--- src/lib.rt:150:1
-same-length-3 : tie.Need-same-length-3
-same-length-3 c = search needs
-
--- src/lib.rt:150:1
-returns-3 : tie.Need-returns-3
-returns-3 c =
-    let a = (c .before .before .before .before .before .before .before .before .before .before .before .before .before .before .before .before .before .before .before .before .before .before .before .before .before .args) in
-    let w : World = world (a .rc) (a .page .now) (a .texts .now) (a .indent .now) (a .ent .now) in
-    let x = (c .before .before .before .before .before .before .before .before .before .before .before .before .before .before .try-from-template) .result in
-    let k = (c .before .before .before .before .before .before .before .before .before .before .before .before .before .before .try-from-template) .ensures (registry-of (a .s .now) (a .b .now) (a .options) (length (a .page .now))) (abs (a .s .now) (a .b .now) w) (top w) (setting (a .s .now) (a .b .now) (a .options) w ((c .before .before .before .before .before .before .before .before .before .before .before .before .before .before .before .before .before .before .before .before .before .before .before .before .before .pre) .1) (length (a .page .now))) in
-    let fits = sym (fits-is (a .s .now) (a .b .now) (a .options) w (a .at) ((c .before .before .before .before .before .before .before .before .before .before .before .before .before .before .before .before .before .before .before .before .before .before .before .before .before .pre) .1) ((c .before .before .before .before .before .before .before .before .before .before .indent-fits) .result) ((c .before .before .before .before .before .before .before .before .before .before .indent-fits) .ensures)) ∙ not-false _ ((c .before .before .before .before .before .before .before .before .before .if2) .left) in
-    let q : (c .before .before .before .before .before .before .before .begin-aware) .result ≡ marked (a .rc) (before-partial (a .rc .writer) (a .at) (a .before)) = (c .before .before .before .before .before .before .before .begin-aware) .ensures ∙ ap (marked (a .rc)) ((c .before .before .before .before .before .before .before .before .before-partial) .ensures) in
-    let w₁ : World = over (marked (a .rc) (before-partial (a .rc .writer) (a .at) (a .before))) w in
-    let L = subst (Leads (a .s .now) (a .b .now) (a .options) w₁ (a .d) (a .p) x (a .own) (a .at)) ((c .before .before .before .n) .given .1) (subst (λ (v : RenderContext). Decided (a .s .now) (a .b .now) (a .ent .now) v (a .d) (x .name) (a .own) ((c .before .before .before .before .before .expand-partial) .result)) q ((c .before .before .before .before .before .expand-partial) .ensures) .at (a .page .now) (a .texts .now) (a .indent .now) (a .options) (a .p) x (a .at) refl (marks-ready (a .s .now) (a .b .now) (a .options) w (a .d) (a .p) (a .own) (a .at) (a .before) ((c .before .before .before .before .before .before .before .before .before .before .before .before .before .before .before .before .before .before .before .before .before .before .before .before .before .pre) .1) x k ((c .before .before .before .before .before .before .before .before .before .before .before .before .if1) .left))) in
-    subst (λ (y : Begun). PartialBegun (a .s .now) (a .b .now) (a .options) w (over (y .rc) w₁) (a .d) (partial-rule (a .b .now) (a .d) (a .p) (a .own) (a .at) (a .before)) (a .own) (a .at) (y .next)) (sym ((c .done3) .ensures ∙ ap done ((c .before .failed3) .ensures ∙ ap (λ (v : RenderContext). failed v ((c .before .before .before .n) .given .0 .0)) q)))
-    (begun-bad (a .s .now) (a .b .now) (a .options) w (a .d) (a .p) (a .own) (a .at) (a .before) ((c .before .before .before .before .before .before .before .before .before .before .before .before .before .before .before .before .before .before .before .before .before .before .before .before .before .pre) .1) x k ((c .before .before .before .before .before .before .before .before .before .before .before .before .if1) .left) fits ((c .before .before .before .n) .given .0 .0) L)
-
--- src/lib.rt:150:1
-same-length-4 : tie.Need-same-length-4
-same-length-4 c = search needs
+    let a = (c .before .before .before .before .before .before .before .before .before .before .before .before .before .before .before .before .before .before .before .before .before .before .before .before .before .before .before .before .args) in
+    let w : World = world (whole (a .rc) (a .sc .now)) (a .page .now) (a .texts .now) (a .indent .now) (a .ent .now) in
+    let x = (c .before .before .before .before .before .before .before .before .before .before .before .before .before .before .before .before .try-from-template) .result in
+    let k = (c .before .before .before .before .before .before .before .before .before .before .before .before .before .before .before .before .try-from-template) .ensures (registry-of (a .s .now) (a .b .now) (a .options) (length (a .page .now))) (abs (a .s .now) (a .b .now) w) (top w) (setting (a .s .now) (a .b .now) (a .options) w ((c .before .before .before .before .before .before .before .before .before .before .before .before .before .before .before .before .before .before .before .before .before .before .before .before .before .before .before .before .pre) .1) (length (a .page .now))) in
+    let fits = sym (fits-is (a .s .now) (a .b .now) (a .options) w (a .at) ((c .before .before .before .before .before .before .before .before .before .before .before .before .before .before .before .before .before .before .before .before .before .before .before .before .before .before .before .before .pre) .1) ((c .before .before .before .before .before .before .before .before .before .before .before .before .indent-fits) .result) ((c .before .before .before .before .before .before .before .before .before .before .before .before .indent-fits) .ensures)) ∙ not-false _ ((c .before .before .before .before .before .before .before .before .before .before .before .if2) .left) in
+    let q : whole (c .before .before .before .before .before .before .before .before .before .begin-aware .result) (a .sc .now) ≡ marked (whole (a .rc) (a .sc .now)) (before-partial (a .rc .writer) (a .at) (a .before)) = (c .before .before .before .before .before .before .before .before .before .begin-aware) .ensures (a .sc .now) ∙ ap (marked (whole (a .rc) (a .sc .now))) ((c .before .before .before .before .before .before .before .before .before .before .before-partial) .ensures) in
+    let w₁ : World = over (marked (whole (a .rc) (a .sc .now)) (before-partial (a .rc .writer) (a .at) (a .before))) w in
+    let joins = fits-joins (a .s .now) (a .b .now) (a .options) w (a .at) ((c .before .before .before .before .before .before .before .before .before .before .before .before .before .before .before .before .before .before .before .before .before .before .before .before .before .before .before .before .pre) .1) fits in
+    let W = worked-there (a .s .now) (a .b .now) (a .options) w (a .d) (a .p) (a .own) (a .at) (a .before) ((c .before .before .before .before .before .before .before .before .before .before .before .before .before .before .before .before .before .before .before .before .before .before .before .before .before .before .before .before .pre) .1) x k ((c .before .before .before .before .before .before .before .before .before .before .before .before .before .before .if1) .left) in
+    let y =
+    subst (λ (v : RenderContext). Enterable (a .s .now) (a .tab .now) (a .b .now) (a .ent .now) (a .indent .now) (a .options) v (a .d) (a .p) x ((c .before .before .before .before .t2) .given .0 .0) ((c .before .before .before .before .t2) .given .0 .1 .0) ((c .before .before .before .before .t2) .given .0 .1 .1 .0) ((c .before .before .before .before .t2) .given .0 .1 .1 .1 .0) (a .at)) (sym q)
+    (record { plan = (c .before .before .before .before .before .before .before .before .before .before .before .before .before .before .before .before .before .before .before .before .before .before .before .before .before .before .before .before .pre) .0 .plan; small = (c .before .before .before .before .before .before .before .before .before .before .before .before .before .before .before .before .before .before .before .before .before .before .before .before .before .before .before .before .pre) .0 .small; page = a .page .now; texts = a .texts .now; ready = marks-ready (a .s .now) (a .b .now) (a .options) w (a .d) (a .p) (a .own) (a .at) (a .before) ((c .before .before .before .before .before .before .before .before .before .before .before .before .before .before .before .before .before .before .before .before .before .before .before .before .before .before .before .before .pre) .1) x k ((c .before .before .before .before .before .before .before .before .before .before .before .before .before .before .if1) .left); expanded = _; worked = W; call = (c .before .before .before .before .before .before .before .before .before .before .before .before .before .before .before .before .before .before .before .before .before .before .before .before .before .before .before .before .pre) .3; held = (c .before .before .before .before .before .before .before .before .before .before .before .before .before .before .before .before .before .before .before .before .before .before .before .before .before .before .before .before .pre) .5; joins = joins }) in
+    (y, (c .before .before .before .before .before .before .before .before .before .before .before .before .before .before .before .before .before .before .before .before .before .before .before .before .before .before .before .before .pre) .6)
 
 -- src/lib.rt:150:1
 same-length-5 : tie.Need-same-length-5
@@ -210,42 +199,22 @@ same-length-6 : tie.Need-same-length-6
 same-length-6 c = search needs
 
 -- src/lib.rt:150:1
-returns-4 : tie.Need-returns-4
-returns-4 c =
-    let a = (c .before .before .before .before .before .before .before .before .before .before .before .before .before .before .before .before .before .before .before .before .before .before .before .before .before .before .before .before .before .before .before .before .args) in
-    let w : World = world (a .rc) (a .page .now) (a .texts .now) (a .indent .now) (a .ent .now) in
-    let x = (c .before .before .before .before .before .before .before .before .before .before .before .before .before .before .before .before .before .before .before .before .before .try-from-template) .result in
-    let k = (c .before .before .before .before .before .before .before .before .before .before .before .before .before .before .before .before .before .before .before .before .before .try-from-template) .ensures (registry-of (a .s .now) (a .b .now) (a .options) (length (a .page .now))) (abs (a .s .now) (a .b .now) w) (top w) (setting (a .s .now) (a .b .now) (a .options) w ((c .before .before .before .before .before .before .before .before .before .before .before .before .before .before .before .before .before .before .before .before .before .before .before .before .before .before .before .before .before .before .before .before .pre) .1) (length (a .page .now))) in
-    let fits = sym (fits-is (a .s .now) (a .b .now) (a .options) w (a .at) ((c .before .before .before .before .before .before .before .before .before .before .before .before .before .before .before .before .before .before .before .before .before .before .before .before .before .before .before .before .before .before .before .before .pre) .1) ((c .before .before .before .before .before .before .before .before .before .before .before .before .before .before .before .before .before .indent-fits) .result) ((c .before .before .before .before .before .before .before .before .before .before .before .before .before .before .before .before .before .indent-fits) .ensures)) ∙ not-false _ ((c .before .before .before .before .before .before .before .before .before .before .before .before .before .before .before .before .if2) .left) in
-    let q : (c .before .before .before .before .before .before .before .before .before .before .before .before .before .before .begin-aware) .result ≡ marked (a .rc) (before-partial (a .rc .writer) (a .at) (a .before)) = (c .before .before .before .before .before .before .before .before .before .before .before .before .before .before .begin-aware) .ensures ∙ ap (marked (a .rc)) ((c .before .before .before .before .before .before .before .before .before .before .before .before .before .before .before .before-partial) .ensures) in
-    let w₁ : World = over (marked (a .rc) (before-partial (a .rc .writer) (a .at) (a .before))) w in
-    let L = subst (Leads (a .s .now) (a .b .now) (a .options) w₁ (a .d) (a .p) x (a .own) (a .at)) ((c .before .before .before .before .before .before .before .before .before .before .from) .given .1) (subst (λ (v : RenderContext). Decided (a .s .now) (a .b .now) (a .ent .now) v (a .d) (x .name) (a .own) ((c .before .before .before .before .before .before .before .before .before .before .before .before .expand-partial) .result)) q ((c .before .before .before .before .before .before .before .before .before .before .before .before .expand-partial) .ensures) .at (a .page .now) (a .texts .now) (a .indent .now) (a .options) (a .p) x (a .at) refl (marks-ready (a .s .now) (a .b .now) (a .options) w (a .d) (a .p) (a .own) (a .at) (a .before) ((c .before .before .before .before .before .before .before .before .before .before .before .before .before .before .before .before .before .before .before .before .before .before .before .before .before .before .before .before .before .before .before .before .pre) .1) x k ((c .before .before .before .before .before .before .before .before .before .before .before .before .before .before .before .before .before .before .before .if1) .left))) in
-    let f = (c .before .before .before .before .before .before .before .before .before .before .from) .given .0 .0 in
-    let n = (c .before .before .before .before .before .before .before .before .before .before .from) .given .0 .1 .0 in
-    let w₂ : World = world ((c .before .before .before .before .before .before .partial-block-text) .result) ((c .before .before .before .before .before .before .partial-block-text) .last .0) ((c .before .before .before .before .before .before .partial-block-text) .last .1 .0) (a .indent .now) (a .ent .now) in
-    let D : Draws (a .s .now) (a .b .now) w₁ w₂ (write (take n (drop f (a .texts .now))) (abs (a .s .now) (a .b .now) w₁)) =
-    subst (λ (v : RenderContext). Draws (a .s .now) (a .b .now) (over v w) w₂ (write (take n (drop f (a .texts .now))) (abs (a .s .now) (a .b .now) (over v w)))) q
-    ((c .before .before .before .before .before .before .partial-block-text) .ensures .1 (a .s .now) (a .b .now) (a .indent .now) (a .ent .now) (subst (λ (v : RenderContext). Ready (a .s .now) (a .b .now) (over v w)) (sym q) (marks-ready (a .s .now) (a .b .now) (a .options) w (a .d) (a .p) (a .own) (a .at) (a .before) ((c .before .before .before .before .before .before .before .before .before .before .before .before .before .before .before .before .before .before .before .before .before .before .before .before .before .before .before .before .before .before .before .before .pre) .1) x k ((c .before .before .before .before .before .before .before .before .before .before .before .before .before .before .before .before .before .before .before .if1) .left)))) in
-    subst (λ (y : Begun). PartialBegun (a .s .now) (a .b .now) (a .options) w (over (y .rc) w₂) (a .d) (partial-rule (a .b .now) (a .d) (a .p) (a .own) (a .at) (a .before)) (a .own) (a .at) (y .next)) (sym ((c .done4) .ensures ∙ ap done ((c .before .finish) .ensures)))
-    (begun-text (a .s .now) (a .b .now) (a .options) w (a .d) (a .p) (a .own) (a .at) (a .before) ((c .before .before .before .before .before .before .before .before .before .before .before .before .before .before .before .before .before .before .before .before .before .before .before .before .before .before .before .before .before .before .before .before .pre) .1) x k ((c .before .before .before .before .before .before .before .before .before .before .before .before .before .before .before .before .before .before .before .if1) .left) fits f n L w₂ D)
+returns-3 : tie.Need-returns-3
+returns-3 c =
+    let a = (c .before .before .before .before .before .before .before .before .before .before .before .before .before .before .before .before .before .before .before .before .before .before .before .before .before .before .before .args) in
+    let w : World = world (whole (a .rc) (a .sc .now)) (a .page .now) (a .texts .now) (a .indent .now) (a .ent .now) in
+    let x = (c .before .before .before .before .before .before .before .before .before .before .before .before .before .before .before .try-from-template) .result in
+    let k = (c .before .before .before .before .before .before .before .before .before .before .before .before .before .before .before .try-from-template) .ensures (registry-of (a .s .now) (a .b .now) (a .options) (length (a .page .now))) (abs (a .s .now) (a .b .now) w) (top w) (setting (a .s .now) (a .b .now) (a .options) w ((c .before .before .before .before .before .before .before .before .before .before .before .before .before .before .before .before .before .before .before .before .before .before .before .before .before .before .before .pre) .1) (length (a .page .now))) in
+    let fits = sym (fits-is (a .s .now) (a .b .now) (a .options) w (a .at) ((c .before .before .before .before .before .before .before .before .before .before .before .before .before .before .before .before .before .before .before .before .before .before .before .before .before .before .before .pre) .1) ((c .before .before .before .before .before .before .before .before .before .before .before .indent-fits) .result) ((c .before .before .before .before .before .before .before .before .before .before .before .indent-fits) .ensures)) ∙ not-false _ ((c .before .before .before .before .before .before .before .before .before .before .if2) .left) in
+    let q : whole (c .before .before .before .before .before .before .before .before .begin-aware .result) (a .sc .now) ≡ marked (whole (a .rc) (a .sc .now)) (before-partial (a .rc .writer) (a .at) (a .before)) = (c .before .before .before .before .before .before .before .before .begin-aware) .ensures (a .sc .now) ∙ ap (marked (whole (a .rc) (a .sc .now))) ((c .before .before .before .before .before .before .before .before .before .before-partial) .ensures) in
+    let w₁ : World = over (marked (whole (a .rc) (a .sc .now)) (before-partial (a .rc .writer) (a .at) (a .before))) w in
+    let L = subst (Leads (a .s .now) (a .b .now) (a .options) w₁ (a .d) (a .p) x (a .own) (a .at)) ((c .before .before .before .n) .given .1) (subst (λ (v : RenderContext). Decided (a .s .now) (a .b .now) (a .ent .now) v (a .d) (x .name) (a .own) ((c .before .before .before .before .before .expand-partial) .result)) q ((c .before .before .before .before .before .expand-partial) .ensures) .at (a .page .now) (a .texts .now) (a .indent .now) (a .options) (a .p) x (a .at) refl (marks-ready (a .s .now) (a .b .now) (a .options) w (a .d) (a .p) (a .own) (a .at) (a .before) ((c .before .before .before .before .before .before .before .before .before .before .before .before .before .before .before .before .before .before .before .before .before .before .before .before .before .before .before .pre) .1) x k ((c .before .before .before .before .before .before .before .before .before .before .before .before .before .if1) .left))) in
+    subst (λ (y : Begun). PartialBegun (a .s .now) (a .b .now) (a .options) w (over (y .rc) w₁) (a .d) (partial-rule (a .b .now) (a .d) (a .p) (a .own) (a .at) (a .before)) (a .own) (a .at) (y .next)) (sym ((c .done3) .ensures (a .sc .now) ∙ ap done ((c .before .failed3) .ensures (a .sc .now) ∙ ap (λ (v : RenderContext). failed v ((c .before .before .before .n) .given .0 .0)) q)))
+    (begun-bad (a .s .now) (a .b .now) (a .options) w (a .d) (a .p) (a .own) (a .at) (a .before) ((c .before .before .before .before .before .before .before .before .before .before .before .before .before .before .before .before .before .before .before .before .before .before .before .before .before .before .before .pre) .1) x k ((c .before .before .before .before .before .before .before .before .before .before .before .before .before .if1) .left) fits ((c .before .before .before .n) .given .0 .0) L)
 
 -- src/lib.rt:150:1
 same-length-7 : tie.Need-same-length-7
 same-length-7 c = search needs
-
--- src/lib.rt:150:1
-returns-5 : tie.Need-returns-5
-returns-5 c =
-    let a = (c .before .before .before .before .before .before .before .before .before .before .before .before .before .before .before .before .before .before .before .before .before .before .before .before .args) in
-    let w : World = world (a .rc) (a .page .now) (a .texts .now) (a .indent .now) (a .ent .now) in
-    let x = (c .before .before .before .before .before .before .before .before .before .before .before .before .before .try-from-template) .result in
-    let k = (c .before .before .before .before .before .before .before .before .before .before .before .before .before .try-from-template) .ensures (registry-of (a .s .now) (a .b .now) (a .options) (length (a .page .now))) (abs (a .s .now) (a .b .now) w) (top w) (setting (a .s .now) (a .b .now) (a .options) w ((c .before .before .before .before .before .before .before .before .before .before .before .before .before .before .before .before .before .before .before .before .before .before .before .before .pre) .1) (length (a .page .now))) in
-    let fits = sym (fits-is (a .s .now) (a .b .now) (a .options) w (a .at) ((c .before .before .before .before .before .before .before .before .before .before .before .before .before .before .before .before .before .before .before .before .before .before .before .before .pre) .1) ((c .before .before .before .before .before .before .before .before .before .indent-fits) .result) ((c .before .before .before .before .before .before .before .before .before .indent-fits) .ensures)) ∙ not-false _ ((c .before .before .before .before .before .before .before .before .if2) .left) in
-    let q : (c .before .before .before .before .before .before .begin-aware) .result ≡ marked (a .rc) (before-partial (a .rc .writer) (a .at) (a .before)) = (c .before .before .before .before .before .before .begin-aware) .ensures ∙ ap (marked (a .rc)) ((c .before .before .before .before .before .before .before .before-partial) .ensures) in
-    let w₁ : World = over (marked (a .rc) (before-partial (a .rc .writer) (a .at) (a .before))) w in
-    let L = subst (Leads (a .s .now) (a .b .now) (a .options) w₁ (a .d) (a .p) x (a .own) (a .at)) ((c .before .before .t) .given .1) (subst (λ (v : RenderContext). Decided (a .s .now) (a .b .now) (a .ent .now) v (a .d) (x .name) (a .own) ((c .before .before .before .before .expand-partial) .result)) q ((c .before .before .before .before .expand-partial) .ensures) .at (a .page .now) (a .texts .now) (a .indent .now) (a .options) (a .p) x (a .at) refl (marks-ready (a .s .now) (a .b .now) (a .options) w (a .d) (a .p) (a .own) (a .at) (a .before) ((c .before .before .before .before .before .before .before .before .before .before .before .before .before .before .before .before .before .before .before .before .before .before .before .before .pre) .1) x k ((c .before .before .before .before .before .before .before .before .before .before .before .if1) .left))) in
-    subst (λ (v : RenderContext). PartialBegun (a .s .now) (a .b .now) (a .options) w (over v w) (a .d) (partial-rule (a .b .now) (a .d) (a .p) (a .own) (a .at) (a .before)) (a .own) (a .at) (Fallback ((c .before .before .t) .given .0 .0))) (sym ((c .set-current-template-name) .ensures ∙ ap (λ (v : RenderContext). with-template v 0) q))
-    (begun-fallback (a .s .now) (a .b .now) (a .options) w (a .d) (a .p) (a .own) (a .at) (a .before) ((c .before .before .before .before .before .before .before .before .before .before .before .before .before .before .before .before .before .before .before .before .before .before .before .before .pre) .1) x k ((c .before .before .before .before .before .before .before .before .before .before .before .if1) .left) fits ((c .before .before .t) .given .0 .0) L)
 
 -- src/lib.rt:150:1
 same-length-8 : tie.Need-same-length-8
@@ -255,20 +224,72 @@ same-length-8 c = search needs
 same-length-9 : tie.Need-same-length-9
 same-length-9 c = search needs
 
+same-length-10 : tie.Need-same-length-10
+same-length-10 c = search needs
+
+-- src/lib.rt:150:1
+returns-4 : tie.Need-returns-4
+returns-4 c =
+    let a = (c .before .before .before .before .before .before .before .before .before .before .before .before .before .before .before .before .before .before .before .before .before .before .before .before .before .before .before .before .before .before .before .before .before .before .args) in
+    let w : World = world (whole (a .rc) (a .sc .now)) (a .page .now) (a .texts .now) (a .indent .now) (a .ent .now) in
+    let x = (c .before .before .before .before .before .before .before .before .before .before .before .before .before .before .before .before .before .before .before .before .before .before .try-from-template) .result in
+    let k = (c .before .before .before .before .before .before .before .before .before .before .before .before .before .before .before .before .before .before .before .before .before .before .try-from-template) .ensures (registry-of (a .s .now) (a .b .now) (a .options) (length (a .page .now))) (abs (a .s .now) (a .b .now) w) (top w) (setting (a .s .now) (a .b .now) (a .options) w ((c .before .before .before .before .before .before .before .before .before .before .before .before .before .before .before .before .before .before .before .before .before .before .before .before .before .before .before .before .before .before .before .before .before .before .pre) .1) (length (a .page .now))) in
+    let fits = sym (fits-is (a .s .now) (a .b .now) (a .options) w (a .at) ((c .before .before .before .before .before .before .before .before .before .before .before .before .before .before .before .before .before .before .before .before .before .before .before .before .before .before .before .before .before .before .before .before .before .before .pre) .1) ((c .before .before .before .before .before .before .before .before .before .before .before .before .before .before .before .before .before .before .indent-fits) .result) ((c .before .before .before .before .before .before .before .before .before .before .before .before .before .before .before .before .before .before .indent-fits) .ensures)) ∙ not-false _ ((c .before .before .before .before .before .before .before .before .before .before .before .before .before .before .before .before .before .if2) .left) in
+    let q : whole (c .before .before .before .before .before .before .before .before .before .before .before .before .before .before .before .begin-aware .result) (a .sc .now) ≡ marked (whole (a .rc) (a .sc .now)) (before-partial (a .rc .writer) (a .at) (a .before)) = (c .before .before .before .before .before .before .before .before .before .before .before .before .before .before .before .begin-aware) .ensures (a .sc .now) ∙ ap (marked (whole (a .rc) (a .sc .now))) ((c .before .before .before .before .before .before .before .before .before .before .before .before .before .before .before .before .before-partial) .ensures) in
+    let w₁ : World = over (marked (whole (a .rc) (a .sc .now)) (before-partial (a .rc .writer) (a .at) (a .before))) w in
+    let L = subst (Leads (a .s .now) (a .b .now) (a .options) w₁ (a .d) (a .p) x (a .own) (a .at)) ((c .before .before .before .before .before .before .before .before .before .before .from) .given .1) (subst (λ (v : RenderContext). Decided (a .s .now) (a .b .now) (a .ent .now) v (a .d) (x .name) (a .own) ((c .before .before .before .before .before .before .before .before .before .before .before .before .expand-partial) .result)) q ((c .before .before .before .before .before .before .before .before .before .before .before .before .expand-partial) .ensures) .at (a .page .now) (a .texts .now) (a .indent .now) (a .options) (a .p) x (a .at) refl (marks-ready (a .s .now) (a .b .now) (a .options) w (a .d) (a .p) (a .own) (a .at) (a .before) ((c .before .before .before .before .before .before .before .before .before .before .before .before .before .before .before .before .before .before .before .before .before .before .before .before .before .before .before .before .before .before .before .before .before .before .pre) .1) x k ((c .before .before .before .before .before .before .before .before .before .before .before .before .before .before .before .before .before .before .before .before .if1) .left))) in
+    let f = (c .before .before .before .before .before .before .before .before .before .before .from) .given .0 .0 in
+    let n = (c .before .before .before .before .before .before .before .before .before .before .from) .given .0 .1 .0 in
+    let w₂ : World = world (whole (c .before .before .before .before .before .before .partial-block-text .result) (a .sc .now)) ((c .before .before .before .before .before .before .partial-block-text) .last .0) ((c .before .before .before .before .before .before .partial-block-text) .last .1 .0) (a .indent .now) (a .ent .now) in
+    let D : Draws (a .s .now) (a .b .now) w₁ w₂ (write (take n (drop f (a .texts .now))) (abs (a .s .now) (a .b .now) w₁)) =
+    subst (λ (v : RenderContext). Draws (a .s .now) (a .b .now) (over v w) w₂ (write (take n (drop f (a .texts .now))) (abs (a .s .now) (a .b .now) (over v w)))) q
+    ((c .before .before .before .before .before .before .partial-block-text) .ensures .1 (a .sc .now) (a .s .now) (a .b .now) (a .indent .now) (a .ent .now) (subst (λ (v : RenderContext). Ready (a .s .now) (a .b .now) (over v w)) (sym q) (marks-ready (a .s .now) (a .b .now) (a .options) w (a .d) (a .p) (a .own) (a .at) (a .before) ((c .before .before .before .before .before .before .before .before .before .before .before .before .before .before .before .before .before .before .before .before .before .before .before .before .before .before .before .before .before .before .before .before .before .before .pre) .1) x k ((c .before .before .before .before .before .before .before .before .before .before .before .before .before .before .before .before .before .before .before .before .if1) .left)))) in
+    subst (λ (y : Begun). PartialBegun (a .s .now) (a .b .now) (a .options) w (over (y .rc) w₂) (a .d) (partial-rule (a .b .now) (a .d) (a .p) (a .own) (a .at) (a .before)) (a .own) (a .at) (y .next)) (sym ((c .done4) .ensures (a .sc .now) ∙ ap done ((c .before .finish) .ensures (a .sc .now))))
+    (begun-text (a .s .now) (a .b .now) (a .options) w (a .d) (a .p) (a .own) (a .at) (a .before) ((c .before .before .before .before .before .before .before .before .before .before .before .before .before .before .before .before .before .before .before .before .before .before .before .before .before .before .before .before .before .before .before .before .before .before .pre) .1) x k ((c .before .before .before .before .before .before .before .before .before .before .before .before .before .before .before .before .before .before .before .before .if1) .left) fits f n L w₂ D)
+
+same-length-11 : tie.Need-same-length-11
+same-length-11 c = search needs
+
+same-length-12 : tie.Need-same-length-12
+same-length-12 c = search needs
+
+-- src/lib.rt:150:1
+returns-5 : tie.Need-returns-5
+returns-5 c =
+    let a = (c .before .before .before .before .before .before .before .before .before .before .before .before .before .before .before .before .before .before .before .before .before .before .before .before .before .before .args) in
+    let w : World = world (whole (a .rc) (a .sc .now)) (a .page .now) (a .texts .now) (a .indent .now) (a .ent .now) in
+    let x = (c .before .before .before .before .before .before .before .before .before .before .before .before .before .before .try-from-template) .result in
+    let k = (c .before .before .before .before .before .before .before .before .before .before .before .before .before .before .try-from-template) .ensures (registry-of (a .s .now) (a .b .now) (a .options) (length (a .page .now))) (abs (a .s .now) (a .b .now) w) (top w) (setting (a .s .now) (a .b .now) (a .options) w ((c .before .before .before .before .before .before .before .before .before .before .before .before .before .before .before .before .before .before .before .before .before .before .before .before .before .before .pre) .1) (length (a .page .now))) in
+    let fits = sym (fits-is (a .s .now) (a .b .now) (a .options) w (a .at) ((c .before .before .before .before .before .before .before .before .before .before .before .before .before .before .before .before .before .before .before .before .before .before .before .before .before .before .pre) .1) ((c .before .before .before .before .before .before .before .before .before .before .indent-fits) .result) ((c .before .before .before .before .before .before .before .before .before .before .indent-fits) .ensures)) ∙ not-false _ ((c .before .before .before .before .before .before .before .before .before .if2) .left) in
+    let q : whole (c .before .before .before .before .before .before .before .begin-aware .result) (a .sc .now) ≡ marked (whole (a .rc) (a .sc .now)) (before-partial (a .rc .writer) (a .at) (a .before)) = (c .before .before .before .before .before .before .before .begin-aware) .ensures (a .sc .now) ∙ ap (marked (whole (a .rc) (a .sc .now))) ((c .before .before .before .before .before .before .before .before .before-partial) .ensures) in
+    let w₁ : World = over (marked (whole (a .rc) (a .sc .now)) (before-partial (a .rc .writer) (a .at) (a .before))) w in
+    let L = subst (Leads (a .s .now) (a .b .now) (a .options) w₁ (a .d) (a .p) x (a .own) (a .at)) ((c .before .before .t) .given .1) (subst (λ (v : RenderContext). Decided (a .s .now) (a .b .now) (a .ent .now) v (a .d) (x .name) (a .own) ((c .before .before .before .before .expand-partial) .result)) q ((c .before .before .before .before .expand-partial) .ensures) .at (a .page .now) (a .texts .now) (a .indent .now) (a .options) (a .p) x (a .at) refl (marks-ready (a .s .now) (a .b .now) (a .options) w (a .d) (a .p) (a .own) (a .at) (a .before) ((c .before .before .before .before .before .before .before .before .before .before .before .before .before .before .before .before .before .before .before .before .before .before .before .before .before .before .pre) .1) x k ((c .before .before .before .before .before .before .before .before .before .before .before .before .if1) .left))) in
+    subst (λ (v : RenderContext). PartialBegun (a .s .now) (a .b .now) (a .options) w (over v w) (a .d) (partial-rule (a .b .now) (a .d) (a .p) (a .own) (a .at) (a .before)) (a .own) (a .at) (Fallback ((c .before .before .t) .given .0 .0))) (sym ((c .set-current-template-name) .ensures (a .sc .now) ∙ ap (λ (v : RenderContext). with-template v 0) q))
+    (begun-fallback (a .s .now) (a .b .now) (a .options) w (a .d) (a .p) (a .own) (a .at) (a .before) ((c .before .before .before .before .before .before .before .before .before .before .before .before .before .before .before .before .before .before .before .before .before .before .before .before .before .before .pre) .1) x k ((c .before .before .before .before .before .before .before .before .before .before .before .before .if1) .left) fits ((c .before .before .t) .given .0 .0) L)
+
+same-length-13 : tie.Need-same-length-13
+same-length-13 c = search needs
+
+same-length-14 : tie.Need-same-length-14
+same-length-14 c = search needs
+
+same-length-15 : tie.Need-same-length-15
+same-length-15 c = search needs
+
 -- src/lib.rt:150:1
 returns-6 : tie.Need-returns-6
 returns-6 c =
-    let a = (c .before .before .before .before .before .before .before .before .before .before .before .before .before .before .before .before .before .before .before .before .before .before .before .before .before .before .before .before .before .before .args) in
-    let w : World = world (a .rc) (a .page .now) (a .texts .now) (a .indent .now) (a .ent .now) in
-    let x = (c .before .before .before .before .before .before .before .before .before .before .before .before .before .before .before .before .before .before .before .try-from-template) .result in
-    let k = (c .before .before .before .before .before .before .before .before .before .before .before .before .before .before .before .before .before .before .before .try-from-template) .ensures (registry-of (a .s .now) (a .b .now) (a .options) (length (a .page .now))) (abs (a .s .now) (a .b .now) w) (top w) (setting (a .s .now) (a .b .now) (a .options) w ((c .before .before .before .before .before .before .before .before .before .before .before .before .before .before .before .before .before .before .before .before .before .before .before .before .before .before .before .before .before .before .pre) .1) (length (a .page .now))) in
-    let fits = sym (fits-is (a .s .now) (a .b .now) (a .options) w (a .at) ((c .before .before .before .before .before .before .before .before .before .before .before .before .before .before .before .before .before .before .before .before .before .before .before .before .before .before .before .before .before .before .pre) .1) ((c .before .before .before .before .before .before .before .before .before .before .before .before .before .before .before .indent-fits) .result) ((c .before .before .before .before .before .before .before .before .before .before .before .before .before .before .before .indent-fits) .ensures)) ∙ not-false _ ((c .before .before .before .before .before .before .before .before .before .before .before .before .before .before .if2) .left) in
-    let q : (c .before .before .before .before .before .before .before .before .before .before .before .before .begin-aware) .result ≡ marked (a .rc) (before-partial (a .rc .writer) (a .at) (a .before)) = (c .before .before .before .before .before .before .before .before .before .before .before .before .begin-aware) .ensures ∙ ap (marked (a .rc)) ((c .before .before .before .before .before .before .before .before .before .before .before .before .before .before-partial) .ensures) in
-    let w₁ : World = over (marked (a .rc) (before-partial (a .rc .writer) (a .at) (a .before))) w in
-    let L = subst (Leads (a .s .now) (a .b .now) (a .options) w₁ (a .d) (a .p) x (a .own) (a .at)) ((c .before .before .before .before .before .before .before .before .t2) .given .1) (subst (λ (v : RenderContext). Decided (a .s .now) (a .b .now) (a .ent .now) v (a .d) (x .name) (a .own) ((c .before .before .before .before .before .before .before .before .before .before .expand-partial) .result)) q ((c .before .before .before .before .before .before .before .before .before .before .expand-partial) .ensures) .at (a .page .now) (a .texts .now) (a .indent .now) (a .options) (a .p) x (a .at) refl (marks-ready (a .s .now) (a .b .now) (a .options) w (a .d) (a .p) (a .own) (a .at) (a .before) ((c .before .before .before .before .before .before .before .before .before .before .before .before .before .before .before .before .before .before .before .before .before .before .before .before .before .before .before .before .before .before .pre) .1) x k ((c .before .before .before .before .before .before .before .before .before .before .before .before .before .before .before .before .before .if1) .left))) in
-    let W = worked-there (a .s .now) (a .b .now) (a .options) w (a .d) (a .p) (a .own) (a .at) (a .before) ((c .before .before .before .before .before .before .before .before .before .before .before .before .before .before .before .before .before .before .before .before .before .before .before .before .before .before .before .before .before .before .pre) .1) x k ((c .before .before .before .before .before .before .before .before .before .before .before .before .before .before .before .before .before .if1) .left) in
-    let E = subst (λ (v : RenderContext). Enters (a .s .now) (a .b .now) (a .ent .now) ((c .before .before .before .before .enter) .last .1 .1 .1 .0) (a .indent .now) ((c .before .before .before .before .enter) .last .1 .1 .1 .1 .0) (a .options) v ((c .before .before .before .before .enter) .result .rc) (a .d) (a .p) x ((c .before .before .before .before .before .before .before .before .t2) .given .0 .0) ((c .before .before .before .before .before .before .before .before .t2) .given .0 .1 .0) ((c .before .before .before .before .before .before .before .before .t2) .given .0 .1 .1 .0) ((c .before .before .before .before .before .before .before .before .t2) .given .0 .1 .1 .1 .0) (a .at) ((c .before .before .before .before .enter) .result .next)) q ((c .before .before .before .before .enter) .ensures) .at (L .2) (a .page .now) (a .texts .now) (marks-ready (a .s .now) (a .b .now) (a .options) w (a .d) (a .p) (a .own) (a .at) (a .before) ((c .before .before .before .before .before .before .before .before .before .before .before .before .before .before .before .before .before .before .before .before .before .before .before .before .before .before .before .before .before .before .pre) .1) x k ((c .before .before .before .before .before .before .before .before .before .before .before .before .before .before .before .before .before .if1) .left)) _ W in
-    begun-entered (a .s .now) (a .b .now) (a .options) w (a .d) (a .p) (a .own) (a .at) (a .before) ((c .before .before .before .before .before .before .before .before .before .before .before .before .before .before .before .before .before .before .before .before .before .before .before .before .before .before .before .before .before .before .pre) .1) x k ((c .before .before .before .before .before .before .before .before .before .before .before .before .before .before .before .before .before .if1) .left) fits ((c .before .before .before .before .before .before .before .before .t2) .given .0 .0) ((c .before .before .before .before .before .before .before .before .t2) .given .0 .1 .0) ((c .before .before .before .before .before .before .before .before .t2) .given .0 .1 .1 .0) ((c .before .before .before .before .before .before .before .before .t2) .given .0 .1 .1 .1 .0) L (world ((c .before .before .before .before .enter) .result .rc) (a .page .now) (a .texts .now) ((c .before .before .before .before .enter) .last .1 .1 .1 .1 .0) ((c .before .before .before .before .enter) .last .1 .1 .1 .0)) ((c .before .before .before .before .enter) .result .next) E
+    let a = (c .before .before .before .before .before .before .before .before .before .before .before .before .before .before .before .before .before .before .before .before .before .before .before .before .before .before .before .before .before .before .before .before .before .before .before .args) in
+    let w : World = world (whole (a .rc) (a .sc .now)) (a .page .now) (a .texts .now) (a .indent .now) (a .ent .now) in
+    let x = (c .before .before .before .before .before .before .before .before .before .before .before .before .before .before .before .before .before .before .before .before .before .before .before .try-from-template) .result in
+    let k = (c .before .before .before .before .before .before .before .before .before .before .before .before .before .before .before .before .before .before .before .before .before .before .before .try-from-template) .ensures (registry-of (a .s .now) (a .b .now) (a .options) (length (a .page .now))) (abs (a .s .now) (a .b .now) w) (top w) (setting (a .s .now) (a .b .now) (a .options) w ((c .before .before .before .before .before .before .before .before .before .before .before .before .before .before .before .before .before .before .before .before .before .before .before .before .before .before .before .before .before .before .before .before .before .before .before .pre) .1) (length (a .page .now))) in
+    let fits = sym (fits-is (a .s .now) (a .b .now) (a .options) w (a .at) ((c .before .before .before .before .before .before .before .before .before .before .before .before .before .before .before .before .before .before .before .before .before .before .before .before .before .before .before .before .before .before .before .before .before .before .before .pre) .1) ((c .before .before .before .before .before .before .before .before .before .before .before .before .before .before .before .before .before .before .before .indent-fits) .result) ((c .before .before .before .before .before .before .before .before .before .before .before .before .before .before .before .before .before .before .before .indent-fits) .ensures)) ∙ not-false _ ((c .before .before .before .before .before .before .before .before .before .before .before .before .before .before .before .before .before .before .if2) .left) in
+    let q : whole (c .before .before .before .before .before .before .before .before .before .before .before .before .before .before .before .before .begin-aware .result) (a .sc .now) ≡ marked (whole (a .rc) (a .sc .now)) (before-partial (a .rc .writer) (a .at) (a .before)) = (c .before .before .before .before .before .before .before .before .before .before .before .before .before .before .before .before .begin-aware) .ensures (a .sc .now) ∙ ap (marked (whole (a .rc) (a .sc .now))) ((c .before .before .before .before .before .before .before .before .before .before .before .before .before .before .before .before .before .before-partial) .ensures) in
+    let w₁ : World = over (marked (whole (a .rc) (a .sc .now)) (before-partial (a .rc .writer) (a .at) (a .before))) w in
+    let L = subst (Leads (a .s .now) (a .b .now) (a .options) w₁ (a .d) (a .p) x (a .own) (a .at)) ((c .before .before .before .before .before .before .before .before .before .before .before .t2) .given .1) (subst (λ (v : RenderContext). Decided (a .s .now) (a .b .now) (a .ent .now) v (a .d) (x .name) (a .own) ((c .before .before .before .before .before .before .before .before .before .before .before .before .before .expand-partial) .result)) q ((c .before .before .before .before .before .before .before .before .before .before .before .before .before .expand-partial) .ensures) .at (a .page .now) (a .texts .now) (a .indent .now) (a .options) (a .p) x (a .at) refl (marks-ready (a .s .now) (a .b .now) (a .options) w (a .d) (a .p) (a .own) (a .at) (a .before) ((c .before .before .before .before .before .before .before .before .before .before .before .before .before .before .before .before .before .before .before .before .before .before .before .before .before .before .before .before .before .before .before .before .before .before .before .pre) .1) x k ((c .before .before .before .before .before .before .before .before .before .before .before .before .before .before .before .before .before .before .before .before .before .if1) .left))) in
+    let W = worked-there (a .s .now) (a .b .now) (a .options) w (a .d) (a .p) (a .own) (a .at) (a .before) ((c .before .before .before .before .before .before .before .before .before .before .before .before .before .before .before .before .before .before .before .before .before .before .before .before .before .before .before .before .before .before .before .before .before .before .before .pre) .1) x k ((c .before .before .before .before .before .before .before .before .before .before .before .before .before .before .before .before .before .before .before .before .before .if1) .left) in
+    let E = subst (λ (v : RenderContext). Enters (a .s .now) (a .b .now) (a .ent .now) ((c .before .before .before .before .before .before .enter) .last .1 .1 .1 .0) (a .indent .now) ((c .before .before .before .before .before .before .enter) .last .1 .1 .1 .1 .0) (a .options) v (whole (c .before .before .before .before .before .before .enter .result .rc) (c .before .before .before .before .before .before .enter .last .1 .1 .1 .1 .1 .0)) (a .d) (a .p) x ((c .before .before .before .before .before .before .before .before .before .before .before .t2) .given .0 .0) ((c .before .before .before .before .before .before .before .before .before .before .before .t2) .given .0 .1 .0) ((c .before .before .before .before .before .before .before .before .before .before .before .t2) .given .0 .1 .1 .0) ((c .before .before .before .before .before .before .before .before .before .before .before .t2) .given .0 .1 .1 .1 .0) (a .at) ((c .before .before .before .before .before .before .enter) .result .next)) q ((c .before .before .before .before .before .before .enter) .ensures) .at (L .2) (a .page .now) (a .texts .now) (marks-ready (a .s .now) (a .b .now) (a .options) w (a .d) (a .p) (a .own) (a .at) (a .before) ((c .before .before .before .before .before .before .before .before .before .before .before .before .before .before .before .before .before .before .before .before .before .before .before .before .before .before .before .before .before .before .before .before .before .before .before .pre) .1) x k ((c .before .before .before .before .before .before .before .before .before .before .before .before .before .before .before .before .before .before .before .before .before .if1) .left)) _ W in
+    begun-entered (a .s .now) (a .b .now) (a .options) w (a .d) (a .p) (a .own) (a .at) (a .before) ((c .before .before .before .before .before .before .before .before .before .before .before .before .before .before .before .before .before .before .before .before .before .before .before .before .before .before .before .before .before .before .before .before .before .before .before .pre) .1) x k ((c .before .before .before .before .before .before .before .before .before .before .before .before .before .before .before .before .before .before .before .before .before .if1) .left) fits ((c .before .before .before .before .before .before .before .before .before .before .before .t2) .given .0 .0) ((c .before .before .before .before .before .before .before .before .before .before .before .t2) .given .0 .1 .0) ((c .before .before .before .before .before .before .before .before .before .before .before .t2) .given .0 .1 .1 .0) ((c .before .before .before .before .before .before .before .before .before .before .before .t2) .given .0 .1 .1 .1 .0) L (world (whole (c .before .before .before .before .before .before .enter .result .rc) (c .before .before .before .before .before .before .enter .last .1 .1 .1 .1 .1 .0)) (a .page .now) (a .texts .now) ((c .before .before .before .before .before .before .enter) .last .1 .1 .1 .1 .0) ((c .before .before .before .before .before .before .enter) .last .1 .1 .1 .0)) ((c .before .before .before .before .before .before .enter) .result .next) E
 
 pub begin-spec : {M : Type 1} → statement M
 begin-spec =
@@ -278,11 +299,13 @@ begin-spec =
     failed-requires
     done-requires
     same-length
+    same-length-2
     returns
     indent-fits-requires
     failed-requires-2
     done-requires-2
-    same-length-2
+    same-length-3
+    same-length-4
     returns-2
     before-partial-requires
     begin-aware-requires
@@ -298,14 +321,18 @@ begin-spec =
     set-current-template-name-requires
     enum-known-t-2
     enter-requires
-    same-length-3
-    returns-3
-    same-length-4
     same-length-5
     same-length-6
-    returns-4
+    returns-3
     same-length-7
-    returns-5
     same-length-8
     same-length-9
+    same-length-10
+    returns-4
+    same-length-11
+    same-length-12
+    returns-5
+    same-length-13
+    same-length-14
+    same-length-15
     returns-6)

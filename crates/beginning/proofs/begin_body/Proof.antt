@@ -1,3 +1,4 @@
+use Rattle.state.specs.Context.{whole}
 use Rattle.drawing.specs.Enclosed.{own-says}
 use Rattle.texts.specs.Setters.{indented}
 use Rattle.state.specs.Setters.{with-template}
@@ -9,6 +10,7 @@ use Rattle.rules.specs.Bits.{bits}
 use Rattle.rules.specs.Bytes.{Bytes}
 use lib.Seq.{sets}
 use lib.ListN.{length}
+use mathlib.Core.List.{[]}
 use mathlib.Core.Path.{_∙_, ap, ap₂, sym, subst}
 use mathlib.Core.Option.{Option}
 use Prim.Native.Nat.{ℕ, _+_, _≤_}
@@ -24,7 +26,7 @@ use Rattle.texts.proofs.with_indent.Reads as with-indent-reads
 
 -- src/lib.rt:55:9
 append-indent-requires : tie.Need-append-indent-requires
-append-indent-requires c κs = ((c .before .before .before .before .pre) .0, own-stands (bits ((c .before .before .before .before .args) .b .now)) ((c .before .before .before .before .args) .at) ((c .before .before .before .before .pre) .1 .held), subst (λ (z : Option Bytes). (c .before .before .before .before .args) .rc .writer .indent + text-size z ≤ length ((c .before .before .before .before .args) .indent .now)) (sym (own-says ((c .before .before .before .before .args) .b .now) ((c .before .before .before .before .args) .at))) ((c .before .before .before .before .pre) .1 .fits))
+append-indent-requires c κs = ((c .before .before .before .before .pre) .0, own-stands (bits ((c .before .before .before .before .args) .b .now)) ((c .before .before .before .before .args) .at) ((c .before .before .before .before .pre) .1 [] .held), subst (λ (z : Option Bytes). (c .before .before .before .before .args) .rc .writer .indent + text-size z ≤ length ((c .before .before .before .before .args) .indent .now)) (sym (own-says ((c .before .before .before .before .args) .b .now) ((c .before .before .before .before .args) .at))) ((c .before .before .before .before .pre) .1 [] .fits))
 
 -- src/lib.rt:56:36
 has-indent-requires : tie.Need-has-indent-requires
@@ -44,7 +46,7 @@ same-length c = search needs
 
 -- src/lib.rt:44:1
 returns : tie.Need-returns
-returns c = ((c .set-current-template-name) .ensures ∙ ap (λ (x : RenderContext). with-template x ((c .before .before .before .before .before .before .before .before .before .before .args) .name)) ((c .before .with-indent) .ensures ∙ ap₂ (indented ((c .before .before .before .before .before .before .before .before .before .before .args) .rc)) ((c .before .before .has-indent) .ensures) ((c .before .before .before .before .before .append-indent) .ensures .0 ∙ ap (λ (z : Option Bytes). (c .before .before .before .before .before .before .before .before .before .before .args) .rc .writer .indent + text-size z) (own-says ((c .before .before .before .before .before .before .before .before .before .before .args) .b .now) ((c .before .before .before .before .before .before .before .before .before .before .args) .at)))), (c .before .before .before .before .before .append-indent) .ensures .1 ∙ ap (λ (z : Option Bytes). sets ((c .before .before .before .before .before .before .before .before .before .before .args) .indent .now) ((c .before .before .before .before .before .before .before .before .before .before .args) .rc .writer .indent) (bytes-of z)) (own-says ((c .before .before .before .before .before .before .before .before .before .before .args) .b .now) ((c .before .before .before .before .before .before .before .before .before .before .args) .at)))
+returns c = (λ l. (c .set-current-template-name) .ensures l ∙ ap (λ (x : RenderContext). with-template x ((c .before .before .before .before .before .before .before .before .before .before .args) .name)) ((c .before .with-indent) .ensures l ∙ ap₂ (indented (whole ((c .before .before .before .before .before .before .before .before .before .before .args) .rc) l)) ((c .before .before .has-indent) .ensures) ((c .before .before .before .before .before .append-indent) .ensures .0 ∙ ap (λ (z : Option Bytes). (c .before .before .before .before .before .before .before .before .before .before .args) .rc .writer .indent + text-size z) (own-says ((c .before .before .before .before .before .before .before .before .before .before .args) .b .now) ((c .before .before .before .before .before .before .before .before .before .before .args) .at)))), λ l. (c .before .before .before .before .before .append-indent) .ensures .1 ∙ ap (λ (z : Option Bytes). sets ((c .before .before .before .before .before .before .before .before .before .before .args) .indent .now) ((c .before .before .before .before .before .before .before .before .before .before .args) .rc .writer .indent) (bytes-of z)) (own-says ((c .before .before .before .before .before .before .before .before .before .before .args) .b .now) ((c .before .before .before .before .before .before .before .before .before .before .args) .at)))
 
 pub begin-body-spec : {M : Type 1} → statement M
 begin-body-spec =

@@ -43,121 +43,121 @@ use Rattle.turns.proofs.next_turn.Reads as next-turn-reads
 use Rattle.writing.proofs.raw_string.Reads as raw-string-reads
 use Prim.Native.Nat.{ℕ, _+_, _*_, _-_, _<_}
 
-abbrev pub μ-render-element : Measures 8 render-element-kinds.ps ℕ
-μ-render-element κs a = ((32 - a .1 .1 .1 .1 .1 .1 .1 .1 .1 .1 .1 .0 .used) * 17 + a .1 .1 .1 .1 .1 .1 .1 .1 .1 .1 .0) * 4 + 3
+abbrev pub μ-render-element : Measures 9 render-element-kinds.ps ℕ
+μ-render-element κs a = ((32 - a .1 .1 .1 .1 .1 .1 .1 .1 .1 .1 .1 .1 .0 .used) * 17 + a .1 .1 .1 .1 .1 .1 .1 .1 .1 .1 .1 .0) * 4 + 3
 
-abbrev pub μ-render-elements : Measures 8 render-elements-kinds.ps ℕ
-μ-render-elements κs a = ((32 - a .1 .1 .1 .1 .1 .1 .1 .1 .1 .1 .1 .1 .0 .used) * 17 + a .1 .1 .1 .1 .1 .1 .1 .1 .1 .1 .0) * 4 + 0
+abbrev pub μ-render-elements : Measures 9 render-elements-kinds.ps ℕ
+μ-render-elements κs a = ((32 - a .1 .1 .1 .1 .1 .1 .1 .1 .1 .1 .1 .1 .1 .0 .used) * 17 + a .1 .1 .1 .1 .1 .1 .1 .1 .1 .1 .1 .0) * 4 + 0
 
-abbrev pub μ-render-helper : Measures 8 render-helper-kinds.ps ℕ
-μ-render-helper κs a = ((32 - a .1 .1 .1 .1 .1 .1 .1 .1 .1 .1 .1 .1 .1 .1 .1 .0 .used) * 17 + a .1 .1 .1 .1 .1 .1 .1 .1 .1 .1 .1 .1 .1 .1 .0) * 4 + 2
+abbrev pub μ-render-helper : Measures 9 render-helper-kinds.ps ℕ
+μ-render-helper κs a = ((32 - a .1 .1 .1 .1 .1 .1 .1 .1 .1 .1 .1 .1 .1 .1 .1 .1 .0 .used) * 17 + a .1 .1 .1 .1 .1 .1 .1 .1 .1 .1 .1 .1 .1 .1 .1 .0) * 4 + 2
 
-abbrev pub μ-render-partial : Measures 8 render-partial-kinds.ps ℕ
-μ-render-partial κs a = ((32 - a .1 .1 .1 .1 .1 .1 .1 .1 .1 .1 .1 .1 .1 .0 .used) * 17 + a .1 .1 .1 .1 .1 .1 .1 .1 .1 .1 .1 .1 .0) * 4 + 2
+abbrev pub μ-render-partial : Measures 9 render-partial-kinds.ps ℕ
+μ-render-partial κs a = ((32 - a .1 .1 .1 .1 .1 .1 .1 .1 .1 .1 .1 .1 .1 .1 .0 .used) * 17 + a .1 .1 .1 .1 .1 .1 .1 .1 .1 .1 .1 .1 .1 .0) * 4 + 2
 
-abbrev pub μ-render-partial-block : Measures 8 render-partial-block-kinds.ps ℕ
-μ-render-partial-block κs a = ((32 - a .1 .1 .1 .1 .1 .1 .1 .1 .1 .1 .1 .1 .1 .1 .0 .used) * 17 + a .1 .1 .1 .1 .1 .1 .1 .1 .1 .1 .1 .1 .1 .0) * 4 + 2
+abbrev pub μ-render-partial-block : Measures 9 render-partial-block-kinds.ps ℕ
+μ-render-partial-block κs a = ((32 - a .1 .1 .1 .1 .1 .1 .1 .1 .1 .1 .1 .1 .1 .1 .1 .0 .used) * 17 + a .1 .1 .1 .1 .1 .1 .1 .1 .1 .1 .1 .1 .1 .1 .0) * 4 + 2
 
-abbrev pub μ-render-text : Measures 8 render-text-kinds.ps ℕ
-μ-render-text κs a = ((32 - a .1 .1 .1 .1 .1 .1 .1 .1 .1 .1 .1 .1 .1 .1 .1 .0 .used) * 17 + 16) * 4 + 1
+abbrev pub μ-render-text : Measures 9 render-text-kinds.ps ℕ
+μ-render-text κs a = ((32 - a .1 .1 .1 .1 .1 .1 .1 .1 .1 .1 .1 .1 .1 .1 .1 .1 .0 .used) * 17 + 16) * 4 + 1
 
-abbrev pub μ-render-turns : Measures 8 render-turns-kinds.ps ℕ
-μ-render-turns κs a = ((32 - a .1 .1 .1 .1 .1 .1 .1 .1 .1 .1 .1 .1 .1 .0 .used) * 17 + a .1 .1 .1 .1 .1 .1 .1 .1 .1 .1 .1 .1 .0) * 4 + 1
+abbrev pub μ-render-turns : Measures 9 render-turns-kinds.ps ℕ
+μ-render-turns κs a = ((32 - a .1 .1 .1 .1 .1 .1 .1 .1 .1 .1 .1 .1 .1 .1 .0 .used) * 17 + a .1 .1 .1 .1 .1 .1 .1 .1 .1 .1 .1 .1 .1 .0) * 4 + 1
 
-abbrev pub render-element-at : ℕ → In 8 render-element-kinds.ps
+abbrev pub render-element-at : ℕ → In 9 render-element-kinds.ps
 render-element-at t =
     and
-    8
+    9
     render-element-kinds.ps
-    (is 8 render-element-kinds.ps μ-render-element t)
+    (is 9 render-element-kinds.ps μ-render-element t)
     render-element.Pre
 
-abbrev pub render-element-below : ℕ → In 8 render-element-kinds.ps
+abbrev pub render-element-below : ℕ → In 9 render-element-kinds.ps
 render-element-below t =
     and
-    8
+    9
     render-element-kinds.ps
-    (falls 8 render-element-kinds.ps _<_ μ-render-element t)
+    (falls 9 render-element-kinds.ps _<_ μ-render-element t)
     render-element.Pre
 
-abbrev pub render-elements-at : ℕ → In 8 render-elements-kinds.ps
+abbrev pub render-elements-at : ℕ → In 9 render-elements-kinds.ps
 render-elements-at t =
     and
-    8
+    9
     render-elements-kinds.ps
-    (is 8 render-elements-kinds.ps μ-render-elements t)
+    (is 9 render-elements-kinds.ps μ-render-elements t)
     render-elements.Pre
 
-abbrev pub render-elements-below : ℕ → In 8 render-elements-kinds.ps
+abbrev pub render-elements-below : ℕ → In 9 render-elements-kinds.ps
 render-elements-below t =
     and
-    8
+    9
     render-elements-kinds.ps
-    (falls 8 render-elements-kinds.ps _<_ μ-render-elements t)
+    (falls 9 render-elements-kinds.ps _<_ μ-render-elements t)
     render-elements.Pre
 
-abbrev pub render-helper-at : ℕ → In 8 render-helper-kinds.ps
+abbrev pub render-helper-at : ℕ → In 9 render-helper-kinds.ps
 render-helper-at t =
-    and 8 render-helper-kinds.ps (is 8 render-helper-kinds.ps μ-render-helper t) render-helper.Pre
+    and 9 render-helper-kinds.ps (is 9 render-helper-kinds.ps μ-render-helper t) render-helper.Pre
 
-abbrev pub render-helper-below : ℕ → In 8 render-helper-kinds.ps
+abbrev pub render-helper-below : ℕ → In 9 render-helper-kinds.ps
 render-helper-below t =
     and
-    8
+    9
     render-helper-kinds.ps
-    (falls 8 render-helper-kinds.ps _<_ μ-render-helper t)
+    (falls 9 render-helper-kinds.ps _<_ μ-render-helper t)
     render-helper.Pre
 
-abbrev pub render-partial-at : ℕ → In 8 render-partial-kinds.ps
+abbrev pub render-partial-at : ℕ → In 9 render-partial-kinds.ps
 render-partial-at t =
     and
-    8
+    9
     render-partial-kinds.ps
-    (is 8 render-partial-kinds.ps μ-render-partial t)
+    (is 9 render-partial-kinds.ps μ-render-partial t)
     render-partial.Pre
 
-abbrev pub render-partial-below : ℕ → In 8 render-partial-kinds.ps
+abbrev pub render-partial-below : ℕ → In 9 render-partial-kinds.ps
 render-partial-below t =
     and
-    8
+    9
     render-partial-kinds.ps
-    (falls 8 render-partial-kinds.ps _<_ μ-render-partial t)
+    (falls 9 render-partial-kinds.ps _<_ μ-render-partial t)
     render-partial.Pre
 
-abbrev pub render-partial-block-at : ℕ → In 8 render-partial-block-kinds.ps
+abbrev pub render-partial-block-at : ℕ → In 9 render-partial-block-kinds.ps
 render-partial-block-at t =
     and
-    8
+    9
     render-partial-block-kinds.ps
-    (is 8 render-partial-block-kinds.ps μ-render-partial-block t)
+    (is 9 render-partial-block-kinds.ps μ-render-partial-block t)
     render-partial-block.Pre
 
-abbrev pub render-partial-block-below : ℕ → In 8 render-partial-block-kinds.ps
+abbrev pub render-partial-block-below : ℕ → In 9 render-partial-block-kinds.ps
 render-partial-block-below t =
     and
-    8
+    9
     render-partial-block-kinds.ps
-    (falls 8 render-partial-block-kinds.ps _<_ μ-render-partial-block t)
+    (falls 9 render-partial-block-kinds.ps _<_ μ-render-partial-block t)
     render-partial-block.Pre
 
-abbrev pub render-text-at : ℕ → In 8 render-text-kinds.ps
+abbrev pub render-text-at : ℕ → In 9 render-text-kinds.ps
 render-text-at t =
-    and 8 render-text-kinds.ps (is 8 render-text-kinds.ps μ-render-text t) render-text.Pre
+    and 9 render-text-kinds.ps (is 9 render-text-kinds.ps μ-render-text t) render-text.Pre
 
-abbrev pub render-text-below : ℕ → In 8 render-text-kinds.ps
+abbrev pub render-text-below : ℕ → In 9 render-text-kinds.ps
 render-text-below t =
-    and 8 render-text-kinds.ps (falls 8 render-text-kinds.ps _<_ μ-render-text t) render-text.Pre
+    and 9 render-text-kinds.ps (falls 9 render-text-kinds.ps _<_ μ-render-text t) render-text.Pre
 
-abbrev pub render-turns-at : ℕ → In 8 render-turns-kinds.ps
+abbrev pub render-turns-at : ℕ → In 9 render-turns-kinds.ps
 render-turns-at t =
-    and 8 render-turns-kinds.ps (is 8 render-turns-kinds.ps μ-render-turns t) render-turns.Pre
+    and 9 render-turns-kinds.ps (is 9 render-turns-kinds.ps μ-render-turns t) render-turns.Pre
 
-abbrev pub render-turns-below : ℕ → In 8 render-turns-kinds.ps
+abbrev pub render-turns-below : ℕ → In 9 render-turns-kinds.ps
 render-turns-below t =
     and
-    8
+    9
     render-turns-kinds.ps
-    (falls 8 render-turns-kinds.ps _<_ μ-render-turns t)
+    (falls 9 render-turns-kinds.ps _<_ μ-render-turns t)
     render-turns.Pre
 
 abbrev pub render-element-claims : ℕ → render-element-lts.Claims

@@ -10,7 +10,7 @@ use lib.ListN.{length}
 use Rattle.rules.specs.Bytes.{Bytes}
 use Rattle.rules.specs.Bits.{bits}
 use Rattle.parts.specs.declared.Maybe.the-variants.{At}
-use Rattle.state.specs.Context.{RenderContext}
+use Rattle.state.specs.Context.{RenderContext, whole}
 use Rattle.state.specs.World.{World, world, over, name-at, Ready, Sizes}
 use Rattle.drawing.specs.Renders.{Renders}
 use Rattle.beginning.specs.Opened.{PartialBegun, partial-rule}
@@ -19,7 +19,7 @@ use Rattle.texts.specs.Setters.{concluded}
 use Rattle.render.proofs.+render_element+render_elements+render_helper+render_partial+render_partial_block+render_text+render_turns.Proof.Common.{render-partial-block-at, render-partial-block-claims}
 
 pub render-partial-block-begin-requires : (t : ℕ) → render-partial-block-lts.Need-begin-requires (render-partial-block-claims t) (render-partial-block-at t) render-partial-block.Post
-render-partial-block-begin-requires t c κs = let h = (c .before .before .before .before .before .before .before .before .before .before .before .before .pre) .1 in (h .0, h .1, omega (arith, h .2), h .3, h .4, h .5)
+render-partial-block-begin-requires t c κs = let h = (c .before .before .before .before .before .before .before .before .before .before .before .before .before .before .pre) .1 in (h .0, h .1, omega (arith, h .2), h .3, h .4, h .5, h .6)
 
 pub render-partial-block-enum-told : (t : ℕ) → render-partial-block-lts.Need-enum-told (render-partial-block-claims t) (render-partial-block-at t) render-partial-block.Post
 render-partial-block-enum-told t c = search needs
@@ -29,14 +29,14 @@ render-partial-block-enum-known-next t c = search needs
 
 pub render-partial-block-render-elements-requires : (t : ℕ) → render-partial-block-lts.Need-render-elements-requires (render-partial-block-claims t) (render-partial-block-at t) render-partial-block.Post
 render-partial-block-render-elements-requires t c κs =
-    let a = (c .before .before .before .before .before .before .before .before .before .before .before .before .before .before .before .before .before .before .before .before .before .before .before .before .before .before .before .before .before .args) in
-    let h = (c .before .before .before .before .before .before .before .before .before .before .before .before .before .before .before .before .before .before .before .before .before .before .before .before .before .before .before .before .before .pre) .1 in
-    let w : World = world (a .rc) (a .page .now) (a .texts .now) (a .indent .now) (a .ent .now) in
-    let w₁ : World = world ((c .before .before .before .before .before .before .before .before .before .before .before .before .before .before .before .before .begin) .result .rc) ((c .before .before .before .before .before .before .before .before .before .before .before .before .before .before .before .before .begin) .last .1 .1 .1 .1 .1 .0) ((c .before .before .before .before .before .before .before .before .before .before .before .before .before .before .before .before .begin) .last .1 .1 .1 .1 .1 .1 .0) ((c .before .before .before .before .before .before .before .before .before .before .before .before .before .before .before .before .begin) .last .1 .1 .1 .1 .1 .1 .1 .0) ((c .before .before .before .before .before .before .before .before .before .before .before .before .before .before .before .before .begin) .last .1 .1 .1 .1 .0) in
-    let B = subst (PartialBegun (a .s .now) (a .b .now) (a .options) w w₁ (a .d) (partial-rule (a .b .now) (a .d) (a .p) (At (a .own)) (a .at) (a .before)) (At (a .own)) (a .at)) ((c .before .before .before .before .before .next) .given .1) ((c .before .before .before .before .before .before .before .before .before .before .before .before .before .before .before .before .begin) .ensures) in
+    let a = (c .before .before .before .before .before .before .before .before .before .before .before .before .before .before .before .before .before .before .before .before .before .before .before .before .before .before .before .before .before .before .before .before .before .before .args) in
+    let h = (c .before .before .before .before .before .before .before .before .before .before .before .before .before .before .before .before .before .before .before .before .before .before .before .before .before .before .before .before .before .before .before .before .before .before .pre) .1 in
+    let w : World = world (whole (a .rc) (a .sc .now)) (a .page .now) (a .texts .now) (a .indent .now) (a .ent .now) in
+    let w₁ : World = world (whole ((c .before .before .before .before .before .before .before .before .before .before .before .before .before .before .before .before .before .before .before .begin) .result .rc) ((c .before .before .before .before .before .before .before .before .before .before .before .before .before .before .before .before .before .before .before .begin) .last .1 .1 .1 .1 .1 .1 .1 .1 .0)) ((c .before .before .before .before .before .before .before .before .before .before .before .before .before .before .before .before .before .before .before .begin) .last .1 .1 .1 .1 .1 .0) ((c .before .before .before .before .before .before .before .before .before .before .before .before .before .before .before .before .before .before .before .begin) .last .1 .1 .1 .1 .1 .1 .0) ((c .before .before .before .before .before .before .before .before .before .before .before .before .before .before .before .before .before .before .before .begin) .last .1 .1 .1 .1 .1 .1 .1 .0) ((c .before .before .before .before .before .before .before .before .before .before .before .before .before .before .before .before .before .before .before .begin) .last .1 .1 .1 .1 .0) in
+    let B = subst (PartialBegun (a .s .now) (a .b .now) (a .options) w w₁ (a .d) (partial-rule (a .b .now) (a .d) (a .p) (At (a .own)) (a .at) (a .before)) (At (a .own)) (a .at)) ((c .before .before .before .before .before .before .next) .given .1) ((c .before .before .before .before .before .before .before .before .before .before .before .before .before .before .before .before .before .before .before .begin) .ensures) in
     let y = B .2 .deeper in
     let m = B .2 .ready .most in
-    (omega (arith, y, m, (c .before .before .before .before .before .before .before .before .before .before .before .before .before .before .before .before .before .before .before .before .before .before .before .before .before .before .before .before .before .pre) .0), (h .0, B .2 .ready, omega (arith, h .2), B .0, λ z. absurd (z refl)))
+    (omega (arith, y, m, (c .before .before .before .before .before .before .before .before .before .before .before .before .before .before .before .before .before .before .before .before .before .before .before .before .before .before .before .before .before .before .before .before .before .before .pre) .0), (h .0, B .2 .ready, omega (arith, h .2), B .0, λ z. absurd (z refl), (c .before .before .before .before .before .before .before .before .before .before .before .before .before .before .before .before .before .before .before .begin) .kept .1 .1 .1 .1 .1 .1 .1 .1 .0 ∙ h .6))
 
 pub render-partial-block-finish-named-requires : (t : ℕ) → render-partial-block-lts.Need-finish-named-requires (render-partial-block-claims t) (render-partial-block-at t) render-partial-block.Post
 render-partial-block-finish-named-requires t c κs = search needs
@@ -46,15 +46,15 @@ render-partial-block-enum-known-next-2 t c = search needs
 
 pub render-partial-block-render-elements-requires-2 : (t : ℕ) → render-partial-block-lts.Need-render-elements-requires-2 (render-partial-block-claims t) (render-partial-block-at t) render-partial-block.Post
 render-partial-block-render-elements-requires-2 t c κs =
-    let a = (c .before .before .before .before .before .before .before .before .before .before .before .before .before .before .before .before .before .before .before .before .before .before .before .before .before .before .before .before .before .args) in
-    let h = (c .before .before .before .before .before .before .before .before .before .before .before .before .before .before .before .before .before .before .before .before .before .before .before .before .before .before .before .before .before .pre) .1 in
-    let w : World = world (a .rc) (a .page .now) (a .texts .now) (a .indent .now) (a .ent .now) in
-    let w₁ : World = world ((c .before .before .before .before .before .before .before .before .before .before .before .before .before .before .before .before .begin) .result .rc) ((c .before .before .before .before .before .before .before .before .before .before .before .before .before .before .before .before .begin) .last .1 .1 .1 .1 .1 .0) ((c .before .before .before .before .before .before .before .before .before .before .before .before .before .before .before .before .begin) .last .1 .1 .1 .1 .1 .1 .0) ((c .before .before .before .before .before .before .before .before .before .before .before .before .before .before .before .before .begin) .last .1 .1 .1 .1 .1 .1 .1 .0) ((c .before .before .before .before .before .before .before .before .before .before .before .before .before .before .before .before .begin) .last .1 .1 .1 .1 .0) in
-    let B = subst (PartialBegun (a .s .now) (a .b .now) (a .options) w w₁ (a .d) (partial-rule (a .b .now) (a .d) (a .p) (At (a .own)) (a .at) (a .before)) (At (a .own)) (a .at)) ((c .before .before .before .before .before .next2) .given .1) ((c .before .before .before .before .before .before .before .before .before .before .before .before .before .before .before .before .begin) .ensures) in
+    let a = (c .before .before .before .before .before .before .before .before .before .before .before .before .before .before .before .before .before .before .before .before .before .before .before .before .before .before .before .before .before .before .before .before .before .before .args) in
+    let h = (c .before .before .before .before .before .before .before .before .before .before .before .before .before .before .before .before .before .before .before .before .before .before .before .before .before .before .before .before .before .before .before .before .before .before .pre) .1 in
+    let w : World = world (whole (a .rc) (a .sc .now)) (a .page .now) (a .texts .now) (a .indent .now) (a .ent .now) in
+    let w₁ : World = world (whole ((c .before .before .before .before .before .before .before .before .before .before .before .before .before .before .before .before .before .before .before .begin) .result .rc) ((c .before .before .before .before .before .before .before .before .before .before .before .before .before .before .before .before .before .before .before .begin) .last .1 .1 .1 .1 .1 .1 .1 .1 .0)) ((c .before .before .before .before .before .before .before .before .before .before .before .before .before .before .before .before .before .before .before .begin) .last .1 .1 .1 .1 .1 .0) ((c .before .before .before .before .before .before .before .before .before .before .before .before .before .before .before .before .before .before .before .begin) .last .1 .1 .1 .1 .1 .1 .0) ((c .before .before .before .before .before .before .before .before .before .before .before .before .before .before .before .before .before .before .before .begin) .last .1 .1 .1 .1 .1 .1 .1 .0) ((c .before .before .before .before .before .before .before .before .before .before .before .before .before .before .before .before .before .before .before .begin) .last .1 .1 .1 .1 .0) in
+    let B = subst (PartialBegun (a .s .now) (a .b .now) (a .options) w w₁ (a .d) (partial-rule (a .b .now) (a .d) (a .p) (At (a .own)) (a .at) (a .before)) (At (a .own)) (a .at)) ((c .before .before .before .before .before .before .next2) .given .1) ((c .before .before .before .before .before .before .before .before .before .before .before .before .before .before .before .before .before .before .before .begin) .ensures) in
     let y = B .3 .deeper in
     let m = B .3 .ready .most in
     let e = B .0 in
-    (omega (arith, y, m, e, (c .before .before .before .before .before .before .before .before .before .before .before .before .before .before .before .before .before .before .before .before .before .before .before .before .before .before .before .before .before .pre) .0), (h .0, B .3 .ready, B .0, B .1, B .2))
+    (omega (arith, y, m, e, (c .before .before .before .before .before .before .before .before .before .before .before .before .before .before .before .before .before .before .before .before .before .before .before .before .before .before .before .before .before .before .before .before .before .before .pre) .0), (h .0, B .3 .ready, B .0, B .1, B .2, (c .before .before .before .before .before .before .before .before .before .before .before .before .before .before .before .before .before .before .before .begin) .kept .1 .1 .1 .1 .1 .1 .1 .1 .0 ∙ h .6))
 
 pub render-partial-block-finish-partial-requires : (t : ℕ) → render-partial-block-lts.Need-finish-partial-requires (render-partial-block-claims t) (render-partial-block-at t) render-partial-block.Post
 render-partial-block-finish-partial-requires t c κs = search needs
@@ -64,14 +64,14 @@ render-partial-block-enum-known-next-3 t c = search needs
 
 pub render-partial-block-render-text-requires : (t : ℕ) → render-partial-block-lts.Need-render-text-requires (render-partial-block-claims t) (render-partial-block-at t) render-partial-block.Post
 render-partial-block-render-text-requires t c κs =
-    let a = (c .before .before .before .before .before .before .before .before .before .before .before .before .before .before .before .before .before .before .before .before .before .before .before .before .before .before .before .before .before .args) in
-    let h = (c .before .before .before .before .before .before .before .before .before .before .before .before .before .before .before .before .before .before .before .before .before .before .before .before .before .before .before .before .before .pre) .1 in
-    let w : World = world (a .rc) (a .page .now) (a .texts .now) (a .indent .now) (a .ent .now) in
-    let w₁ : World = world ((c .before .before .before .before .before .before .before .before .before .before .before .before .before .before .before .before .begin) .result .rc) ((c .before .before .before .before .before .before .before .before .before .before .before .before .before .before .before .before .begin) .last .1 .1 .1 .1 .1 .0) ((c .before .before .before .before .before .before .before .before .before .before .before .before .before .before .before .before .begin) .last .1 .1 .1 .1 .1 .1 .0) ((c .before .before .before .before .before .before .before .before .before .before .before .before .before .before .before .before .begin) .last .1 .1 .1 .1 .1 .1 .1 .0) ((c .before .before .before .before .before .before .before .before .before .before .before .before .before .before .before .before .begin) .last .1 .1 .1 .1 .0) in
-    let B = subst (PartialBegun (a .s .now) (a .b .now) (a .options) w w₁ (a .d) (partial-rule (a .b .now) (a .d) (a .p) (At (a .own)) (a .at) (a .before)) (At (a .own)) (a .at)) ((c .before .before .before .before .before .next3) .given .1) ((c .before .before .before .before .before .before .before .before .before .before .before .before .before .before .before .before .begin) .ensures) in
+    let a = (c .before .before .before .before .before .before .before .before .before .before .before .before .before .before .before .before .before .before .before .before .before .before .before .before .before .before .before .before .before .before .before .before .before .before .args) in
+    let h = (c .before .before .before .before .before .before .before .before .before .before .before .before .before .before .before .before .before .before .before .before .before .before .before .before .before .before .before .before .before .before .before .before .before .before .pre) .1 in
+    let w : World = world (whole (a .rc) (a .sc .now)) (a .page .now) (a .texts .now) (a .indent .now) (a .ent .now) in
+    let w₁ : World = world (whole ((c .before .before .before .before .before .before .before .before .before .before .before .before .before .before .before .before .before .before .before .begin) .result .rc) ((c .before .before .before .before .before .before .before .before .before .before .before .before .before .before .before .before .before .before .before .begin) .last .1 .1 .1 .1 .1 .1 .1 .1 .0)) ((c .before .before .before .before .before .before .before .before .before .before .before .before .before .before .before .before .before .before .before .begin) .last .1 .1 .1 .1 .1 .0) ((c .before .before .before .before .before .before .before .before .before .before .before .before .before .before .before .before .before .before .before .begin) .last .1 .1 .1 .1 .1 .1 .0) ((c .before .before .before .before .before .before .before .before .before .before .before .before .before .before .before .before .before .before .before .begin) .last .1 .1 .1 .1 .1 .1 .1 .0) ((c .before .before .before .before .before .before .before .before .before .before .before .before .before .before .before .before .before .before .before .begin) .last .1 .1 .1 .1 .0) in
+    let B = subst (PartialBegun (a .s .now) (a .b .now) (a .options) w w₁ (a .d) (partial-rule (a .b .now) (a .d) (a .p) (At (a .own)) (a .at) (a .before)) (At (a .own)) (a .at)) ((c .before .before .before .before .before .before .next3) .given .1) ((c .before .before .before .before .before .before .before .before .before .before .before .before .before .before .before .before .before .before .before .begin) .ensures) in
     let y = B .0 .deeper in
     let m = B .0 .ready .most in
-    (omega (arith, y, m, (c .before .before .before .before .before .before .before .before .before .before .before .before .before .before .before .before .before .before .before .before .before .before .before .before .before .before .before .before .before .pre) .0), (h .0, B .0 .ready, h .2, record { page = a .page .now; texts = a .texts .now; indent = a .indent .now; ent = a .ent .now; rule = (partial-rule (a .b .now) (a .d) (a .p) (At (a .own)) (a .at) (a .before)); begun = B .0 }))
+    (omega (arith, y, m, (c .before .before .before .before .before .before .before .before .before .before .before .before .before .before .before .before .before .before .before .before .before .before .before .before .before .before .before .before .before .before .before .before .before .before .pre) .0), (h .0, B .0 .ready, h .2, record { words = a .sc .now; page = a .page .now; texts = a .texts .now; indent = a .indent .now; ent = a .ent .now; rule = (partial-rule (a .b .now) (a .d) (a .p) (At (a .own)) (a .at) (a .before)); begun = B .0 }, (c .before .before .before .before .before .before .before .before .before .before .before .before .before .before .before .before .before .before .before .begin) .kept .1 .1 .1 .1 .1 .1 .1 .1 .0 ∙ h .6))
 
 pub render-partial-block-same-length : (t : ℕ) → render-partial-block-lts.Need-same-length (render-partial-block-claims t) (render-partial-block-at t) render-partial-block.Post
 render-partial-block-same-length t c = search needs
@@ -85,76 +85,88 @@ render-partial-block-same-length-3 t c = search needs
 pub render-partial-block-same-length-4 : (t : ℕ) → render-partial-block-lts.Need-same-length-4 (render-partial-block-claims t) (render-partial-block-at t) render-partial-block.Post
 render-partial-block-same-length-4 t c = search needs
 
+pub render-partial-block-same-length-5 : (t : ℕ) → render-partial-block-lts.Need-same-length-5 (render-partial-block-claims t) (render-partial-block-at t) render-partial-block.Post
+render-partial-block-same-length-5 t c = search needs
+
 pub render-partial-block-returns : (t : ℕ) → render-partial-block-lts.Need-returns (render-partial-block-claims t) (render-partial-block-at t) render-partial-block.Post
 render-partial-block-returns t c =
-    let a = (c .before .before .before .before .before .before .before .before .before .before .before .before .before .before .before .before .before .before .before .before .before .before .before .before .args) in
-    let h = (c .before .before .before .before .before .before .before .before .before .before .before .before .before .before .before .before .before .before .before .before .before .before .before .before .pre) .1 in
-    let w : World = world (a .rc) (a .page .now) (a .texts .now) (a .indent .now) (a .ent .now) in
-    let w₁ : World = world ((c .before .before .before .before .before .before .before .before .before .before .before .begin) .result .rc) ((c .before .before .before .before .before .before .before .before .before .before .before .begin) .last .1 .1 .1 .1 .1 .0) ((c .before .before .before .before .before .before .before .before .before .before .before .begin) .last .1 .1 .1 .1 .1 .1 .0) ((c .before .before .before .before .before .before .before .before .before .before .before .begin) .last .1 .1 .1 .1 .1 .1 .1 .0) ((c .before .before .before .before .before .before .before .before .before .before .before .begin) .last .1 .1 .1 .1 .0) in
-    let B = subst (PartialBegun (a .s .now) (a .b .now) (a .options) w w₁ (a .d) (partial-rule (a .b .now) (a .d) (a .p) (At (a .own)) (a .at) (a .before)) (At (a .own)) (a .at)) ((c .enum-told) .given .1) ((c .before .before .before .before .before .before .before .before .before .before .before .begin) .ensures) in
+    let a = (c .before .before .before .before .before .before .before .before .before .before .before .before .before .before .before .before .before .before .before .before .before .before .before .before .before .before .before .before .args) in
+    let h = (c .before .before .before .before .before .before .before .before .before .before .before .before .before .before .before .before .before .before .before .before .before .before .before .before .before .before .before .before .pre) .1 in
+    let w : World = world (whole (a .rc) (a .sc .now)) (a .page .now) (a .texts .now) (a .indent .now) (a .ent .now) in
+    let w₁ : World = world (whole ((c .before .before .before .before .before .before .before .before .before .before .before .before .before .begin) .result .rc) ((c .before .before .before .before .before .before .before .before .before .before .before .before .before .begin) .last .1 .1 .1 .1 .1 .1 .1 .1 .0)) ((c .before .before .before .before .before .before .before .before .before .before .before .before .before .begin) .last .1 .1 .1 .1 .1 .0) ((c .before .before .before .before .before .before .before .before .before .before .before .before .before .begin) .last .1 .1 .1 .1 .1 .1 .0) ((c .before .before .before .before .before .before .before .before .before .before .before .before .before .begin) .last .1 .1 .1 .1 .1 .1 .1 .0) ((c .before .before .before .before .before .before .before .before .before .before .before .before .before .begin) .last .1 .1 .1 .1 .0) in
+    let B = subst (PartialBegun (a .s .now) (a .b .now) (a .options) w w₁ (a .d) (partial-rule (a .b .now) (a .d) (a .p) (At (a .own)) (a .at) (a .before)) (At (a .own)) (a .at)) ((c .enum-told) .given .1) ((c .before .before .before .before .before .before .before .before .before .before .before .before .before .begin) .ensures) in
     B
 
-pub render-partial-block-same-length-5 : (t : ℕ) → render-partial-block-lts.Need-same-length-5 (render-partial-block-claims t) (render-partial-block-at t) render-partial-block.Post
-render-partial-block-same-length-5 t c = omega (arith, (c .before .before .before .before .before .before .before .before .before .before .before .before .before .before .before .before .before .before .before .before .before .before .before .before .before .before .begin) .kept .1 .1 .1 .1 .0, (c .before .before .before .before .before .before .before .before .before .render-elements) .kept .1 .1 .1 .1 .0)
-
 pub render-partial-block-same-length-6 : (t : ℕ) → render-partial-block-lts.Need-same-length-6 (render-partial-block-claims t) (render-partial-block-at t) render-partial-block.Post
-render-partial-block-same-length-6 t c = omega (arith, (c .before .before .before .before .before .before .before .before .before .before .before .before .before .before .before .before .before .before .before .before .before .before .before .before .before .before .begin) .kept .1 .1 .1 .1 .1 .0, (c .before .before .before .before .before .before .before .before .before .render-elements) .kept .1 .1 .1 .1 .1 .0)
+render-partial-block-same-length-6 t c = omega (arith, (c .before .before .before .before .before .before .before .before .before .before .before .before .before .before .before .before .before .before .before .before .before .before .before .before .before .before .before .before .before .before .before .begin) .kept .1 .1 .1 .1 .0, (c .before .before .before .before .before .before .before .before .before .before .before .render-elements) .kept .1 .1 .1 .1 .0)
 
 pub render-partial-block-same-length-7 : (t : ℕ) → render-partial-block-lts.Need-same-length-7 (render-partial-block-claims t) (render-partial-block-at t) render-partial-block.Post
-render-partial-block-same-length-7 t c = omega (arith, (c .before .before .before .before .before .before .before .before .before .before .before .before .before .before .before .before .before .before .before .before .before .before .before .before .before .before .begin) .kept .1 .1 .1 .1 .1 .1 .0, (c .before .before .before .before .before .before .before .before .before .render-elements) .kept .1 .1 .1 .1 .1 .1 .0)
+render-partial-block-same-length-7 t c = omega (arith, (c .before .before .before .before .before .before .before .before .before .before .before .before .before .before .before .before .before .before .before .before .before .before .before .before .before .before .before .before .before .before .before .begin) .kept .1 .1 .1 .1 .1 .0, (c .before .before .before .before .before .before .before .before .before .before .before .render-elements) .kept .1 .1 .1 .1 .1 .0)
 
 pub render-partial-block-same-length-8 : (t : ℕ) → render-partial-block-lts.Need-same-length-8 (render-partial-block-claims t) (render-partial-block-at t) render-partial-block.Post
-render-partial-block-same-length-8 t c = omega (arith, (c .before .before .before .before .before .before .before .before .before .before .before .before .before .before .before .before .before .before .before .before .before .before .before .before .before .before .begin) .kept .1 .1 .1 .1 .1 .1 .1 .0, (c .before .before .before .before .before .before .before .before .before .render-elements) .kept .1 .1 .1 .1 .1 .1 .1 .0)
+render-partial-block-same-length-8 t c = omega (arith, (c .before .before .before .before .before .before .before .before .before .before .before .before .before .before .before .before .before .before .before .before .before .before .before .before .before .before .before .before .before .before .before .begin) .kept .1 .1 .1 .1 .1 .1 .0, (c .before .before .before .before .before .before .before .before .before .before .before .render-elements) .kept .1 .1 .1 .1 .1 .1 .0)
+
+pub render-partial-block-same-length-9 : (t : ℕ) → render-partial-block-lts.Need-same-length-9 (render-partial-block-claims t) (render-partial-block-at t) render-partial-block.Post
+render-partial-block-same-length-9 t c = omega (arith, (c .before .before .before .before .before .before .before .before .before .before .before .before .before .before .before .before .before .before .before .before .before .before .before .before .before .before .before .before .before .before .before .begin) .kept .1 .1 .1 .1 .1 .1 .1 .0, (c .before .before .before .before .before .before .before .before .before .before .before .render-elements) .kept .1 .1 .1 .1 .1 .1 .1 .0)
+
+pub render-partial-block-same-length-10 : (t : ℕ) → render-partial-block-lts.Need-same-length-10 (render-partial-block-claims t) (render-partial-block-at t) render-partial-block.Post
+render-partial-block-same-length-10 t c = omega (arith, (c .before .before .before .before .before .before .before .before .before .before .before .before .before .before .before .before .before .before .before .before .before .before .before .before .before .before .before .before .before .before .before .begin) .kept .1 .1 .1 .1 .1 .1 .1 .1 .0, (c .before .before .before .before .before .before .before .before .before .before .before .render-elements) .kept .1 .1 .1 .1 .1 .1 .1 .1 .0)
 
 pub render-partial-block-returns-2 : (t : ℕ) → render-partial-block-lts.Need-returns-2 (render-partial-block-claims t) (render-partial-block-at t) render-partial-block.Post
 render-partial-block-returns-2 t c =
-    let a = (c .before .before .before .before .before .before .before .before .before .before .before .before .before .before .before .before .before .before .before .before .before .before .before .before .before .before .before .before .before .before .before .before .before .before .before .before .before .before .before .args) in
-    let h = (c .before .before .before .before .before .before .before .before .before .before .before .before .before .before .before .before .before .before .before .before .before .before .before .before .before .before .before .before .before .before .before .before .before .before .before .before .before .before .before .pre) .1 in
-    let w : World = world (a .rc) (a .page .now) (a .texts .now) (a .indent .now) (a .ent .now) in
-    let w₁ : World = world ((c .before .before .before .before .before .before .before .before .before .before .before .before .before .before .before .before .before .before .before .before .before .before .before .before .before .before .begin) .result .rc) ((c .before .before .before .before .before .before .before .before .before .before .before .before .before .before .before .before .before .before .before .before .before .before .before .before .before .before .begin) .last .1 .1 .1 .1 .1 .0) ((c .before .before .before .before .before .before .before .before .before .before .before .before .before .before .before .before .before .before .before .before .before .before .before .before .before .before .begin) .last .1 .1 .1 .1 .1 .1 .0) ((c .before .before .before .before .before .before .before .before .before .before .before .before .before .before .before .before .before .before .before .before .before .before .before .before .before .before .begin) .last .1 .1 .1 .1 .1 .1 .1 .0) ((c .before .before .before .before .before .before .before .before .before .before .before .before .before .before .before .before .before .before .before .before .before .before .before .before .before .before .begin) .last .1 .1 .1 .1 .0) in
-    let B = subst (PartialBegun (a .s .now) (a .b .now) (a .options) w w₁ (a .d) (partial-rule (a .b .now) (a .d) (a .p) (At (a .own)) (a .at) (a .before)) (At (a .own)) (a .at)) ((c .before .before .before .before .before .before .before .before .before .before .before .before .before .before .before .next) .given .1) ((c .before .before .before .before .before .before .before .before .before .before .before .before .before .before .before .before .before .before .before .before .before .before .before .before .before .before .begin) .ensures) in
-    let w₂ : World = world ((c .before .before .before .before .before .before .before .before .before .render-elements) .result) ((c .before .before .before .before .before .before .before .before .before .render-elements) .last .1 .1 .1 .1 .1 .0) ((c .before .before .before .before .before .before .before .before .before .render-elements) .last .1 .1 .1 .1 .1 .1 .0) ((c .before .before .before .before .before .before .before .before .before .render-elements) .last .1 .1 .1 .1 .1 .1 .1 .0) ((c .before .before .before .before .before .before .before .before .before .render-elements) .last .1 .1 .1 .1 .0) in
-    subst (λ (x : RenderContext). Renders (a .s .now) (a .b .now) (a .options) w (over x w₂) (partial-rule (a .b .now) (a .d) (a .p) (At (a .own)) (a .at) (a .before))) (sym ((c .finish-named) .ensures)) (B .2 .done w₂ ((c .before .before .before .before .before .before .before .before .before .render-elements) .ensures))
-
-pub render-partial-block-same-length-9 : (t : ℕ) → render-partial-block-lts.Need-same-length-9 (render-partial-block-claims t) (render-partial-block-at t) render-partial-block.Post
-render-partial-block-same-length-9 t c = omega (arith, (c .before .before .before .before .before .before .before .before .before .before .before .before .before .before .before .before .before .before .before .before .before .before .before .before .before .before .begin) .kept .1 .1 .1 .1 .0, (c .before .before .before .before .before .before .before .before .before .render-elements2) .kept .1 .1 .1 .1 .0)
-
-pub render-partial-block-same-length-10 : (t : ℕ) → render-partial-block-lts.Need-same-length-10 (render-partial-block-claims t) (render-partial-block-at t) render-partial-block.Post
-render-partial-block-same-length-10 t c = omega (arith, (c .before .before .before .before .before .before .before .before .before .before .before .before .before .before .before .before .before .before .before .before .before .before .before .before .before .before .begin) .kept .1 .1 .1 .1 .1 .0, (c .before .before .before .before .before .before .before .before .before .render-elements2) .kept .1 .1 .1 .1 .1 .0)
+    let a = (c .before .before .before .before .before .before .before .before .before .before .before .before .before .before .before .before .before .before .before .before .before .before .before .before .before .before .before .before .before .before .before .before .before .before .before .before .before .before .before .before .before .before .before .before .before .before .args) in
+    let h = (c .before .before .before .before .before .before .before .before .before .before .before .before .before .before .before .before .before .before .before .before .before .before .before .before .before .before .before .before .before .before .before .before .before .before .before .before .before .before .before .before .before .before .before .before .before .before .pre) .1 in
+    let w : World = world (whole (a .rc) (a .sc .now)) (a .page .now) (a .texts .now) (a .indent .now) (a .ent .now) in
+    let w₁ : World = world (whole ((c .before .before .before .before .before .before .before .before .before .before .before .before .before .before .before .before .before .before .before .before .before .before .before .before .before .before .before .before .before .before .before .begin) .result .rc) ((c .before .before .before .before .before .before .before .before .before .before .before .before .before .before .before .before .before .before .before .before .before .before .before .before .before .before .before .before .before .before .before .begin) .last .1 .1 .1 .1 .1 .1 .1 .1 .0)) ((c .before .before .before .before .before .before .before .before .before .before .before .before .before .before .before .before .before .before .before .before .before .before .before .before .before .before .before .before .before .before .before .begin) .last .1 .1 .1 .1 .1 .0) ((c .before .before .before .before .before .before .before .before .before .before .before .before .before .before .before .before .before .before .before .before .before .before .before .before .before .before .before .before .before .before .before .begin) .last .1 .1 .1 .1 .1 .1 .0) ((c .before .before .before .before .before .before .before .before .before .before .before .before .before .before .before .before .before .before .before .before .before .before .before .before .before .before .before .before .before .before .before .begin) .last .1 .1 .1 .1 .1 .1 .1 .0) ((c .before .before .before .before .before .before .before .before .before .before .before .before .before .before .before .before .before .before .before .before .before .before .before .before .before .before .before .before .before .before .before .begin) .last .1 .1 .1 .1 .0) in
+    let B = subst (PartialBegun (a .s .now) (a .b .now) (a .options) w w₁ (a .d) (partial-rule (a .b .now) (a .d) (a .p) (At (a .own)) (a .at) (a .before)) (At (a .own)) (a .at)) ((c .before .before .before .before .before .before .before .before .before .before .before .before .before .before .before .before .before .before .next) .given .1) ((c .before .before .before .before .before .before .before .before .before .before .before .before .before .before .before .before .before .before .before .before .before .before .before .before .before .before .before .before .before .before .before .begin) .ensures) in
+    let w₂ : World = world (whole ((c .before .before .before .before .before .before .before .before .before .before .before .render-elements) .result) ((c .before .before .before .before .before .before .before .before .before .before .before .render-elements) .last .1 .1 .1 .1 .1 .1 .1 .1 .0)) ((c .before .before .before .before .before .before .before .before .before .before .before .render-elements) .last .1 .1 .1 .1 .1 .0) ((c .before .before .before .before .before .before .before .before .before .before .before .render-elements) .last .1 .1 .1 .1 .1 .1 .0) ((c .before .before .before .before .before .before .before .before .before .before .before .render-elements) .last .1 .1 .1 .1 .1 .1 .1 .0) ((c .before .before .before .before .before .before .before .before .before .before .before .render-elements) .last .1 .1 .1 .1 .0) in
+    subst (λ (x : RenderContext). Renders (a .s .now) (a .b .now) (a .options) w (over x w₂) (partial-rule (a .b .now) (a .d) (a .p) (At (a .own)) (a .at) (a .before))) (sym ((c .finish-named) .ensures ((c .before .before .before .before .before .before .before .before .before .before .before .render-elements) .last .1 .1 .1 .1 .1 .1 .1 .1 .0))) (B .2 .done w₂ ((c .before .before .before .before .before .before .before .before .before .before .before .render-elements) .ensures))
 
 pub render-partial-block-same-length-11 : (t : ℕ) → render-partial-block-lts.Need-same-length-11 (render-partial-block-claims t) (render-partial-block-at t) render-partial-block.Post
-render-partial-block-same-length-11 t c = omega (arith, (c .before .before .before .before .before .before .before .before .before .before .before .before .before .before .before .before .before .before .before .before .before .before .before .before .before .before .begin) .kept .1 .1 .1 .1 .1 .1 .0, (c .before .before .before .before .before .before .before .before .before .render-elements2) .kept .1 .1 .1 .1 .1 .1 .0)
+render-partial-block-same-length-11 t c = omega (arith, (c .before .before .before .before .before .before .before .before .before .before .before .before .before .before .before .before .before .before .before .before .before .before .before .before .before .before .before .before .before .before .before .begin) .kept .1 .1 .1 .1 .0, (c .before .before .before .before .before .before .before .before .before .before .before .render-elements2) .kept .1 .1 .1 .1 .0)
 
 pub render-partial-block-same-length-12 : (t : ℕ) → render-partial-block-lts.Need-same-length-12 (render-partial-block-claims t) (render-partial-block-at t) render-partial-block.Post
-render-partial-block-same-length-12 t c = omega (arith, (c .before .before .before .before .before .before .before .before .before .before .before .before .before .before .before .before .before .before .before .before .before .before .before .before .before .before .begin) .kept .1 .1 .1 .1 .1 .1 .1 .0, (c .before .before .before .before .before .before .before .before .before .render-elements2) .kept .1 .1 .1 .1 .1 .1 .1 .0)
+render-partial-block-same-length-12 t c = omega (arith, (c .before .before .before .before .before .before .before .before .before .before .before .before .before .before .before .before .before .before .before .before .before .before .before .before .before .before .before .before .before .before .before .begin) .kept .1 .1 .1 .1 .1 .0, (c .before .before .before .before .before .before .before .before .before .before .before .render-elements2) .kept .1 .1 .1 .1 .1 .0)
+
+pub render-partial-block-same-length-13 : (t : ℕ) → render-partial-block-lts.Need-same-length-13 (render-partial-block-claims t) (render-partial-block-at t) render-partial-block.Post
+render-partial-block-same-length-13 t c = omega (arith, (c .before .before .before .before .before .before .before .before .before .before .before .before .before .before .before .before .before .before .before .before .before .before .before .before .before .before .before .before .before .before .before .begin) .kept .1 .1 .1 .1 .1 .1 .0, (c .before .before .before .before .before .before .before .before .before .before .before .render-elements2) .kept .1 .1 .1 .1 .1 .1 .0)
+
+pub render-partial-block-same-length-14 : (t : ℕ) → render-partial-block-lts.Need-same-length-14 (render-partial-block-claims t) (render-partial-block-at t) render-partial-block.Post
+render-partial-block-same-length-14 t c = omega (arith, (c .before .before .before .before .before .before .before .before .before .before .before .before .before .before .before .before .before .before .before .before .before .before .before .before .before .before .before .before .before .before .before .begin) .kept .1 .1 .1 .1 .1 .1 .1 .0, (c .before .before .before .before .before .before .before .before .before .before .before .render-elements2) .kept .1 .1 .1 .1 .1 .1 .1 .0)
+
+pub render-partial-block-same-length-15 : (t : ℕ) → render-partial-block-lts.Need-same-length-15 (render-partial-block-claims t) (render-partial-block-at t) render-partial-block.Post
+render-partial-block-same-length-15 t c = omega (arith, (c .before .before .before .before .before .before .before .before .before .before .before .before .before .before .before .before .before .before .before .before .before .before .before .before .before .before .before .before .before .before .before .begin) .kept .1 .1 .1 .1 .1 .1 .1 .1 .0, (c .before .before .before .before .before .before .before .before .before .before .before .render-elements2) .kept .1 .1 .1 .1 .1 .1 .1 .1 .0)
 
 pub render-partial-block-returns-3 : (t : ℕ) → render-partial-block-lts.Need-returns-3 (render-partial-block-claims t) (render-partial-block-at t) render-partial-block.Post
 render-partial-block-returns-3 t c =
-    let a = (c .before .before .before .before .before .before .before .before .before .before .before .before .before .before .before .before .before .before .before .before .before .before .before .before .before .before .before .before .before .before .before .before .before .before .before .before .before .before .before .args) in
-    let h = (c .before .before .before .before .before .before .before .before .before .before .before .before .before .before .before .before .before .before .before .before .before .before .before .before .before .before .before .before .before .before .before .before .before .before .before .before .before .before .before .pre) .1 in
-    let w : World = world (a .rc) (a .page .now) (a .texts .now) (a .indent .now) (a .ent .now) in
-    let w₁ : World = world ((c .before .before .before .before .before .before .before .before .before .before .before .before .before .before .before .before .before .before .before .before .before .before .before .before .before .before .begin) .result .rc) ((c .before .before .before .before .before .before .before .before .before .before .before .before .before .before .before .before .before .before .before .before .before .before .before .before .before .before .begin) .last .1 .1 .1 .1 .1 .0) ((c .before .before .before .before .before .before .before .before .before .before .before .before .before .before .before .before .before .before .before .before .before .before .before .before .before .before .begin) .last .1 .1 .1 .1 .1 .1 .0) ((c .before .before .before .before .before .before .before .before .before .before .before .before .before .before .before .before .before .before .before .before .before .before .before .before .before .before .begin) .last .1 .1 .1 .1 .1 .1 .1 .0) ((c .before .before .before .before .before .before .before .before .before .before .before .before .before .before .before .before .before .before .before .before .before .before .before .before .before .before .begin) .last .1 .1 .1 .1 .0) in
-    let B = subst (PartialBegun (a .s .now) (a .b .now) (a .options) w w₁ (a .d) (partial-rule (a .b .now) (a .d) (a .p) (At (a .own)) (a .at) (a .before)) (At (a .own)) (a .at)) ((c .before .before .before .before .before .before .before .before .before .before .before .before .before .before .before .next2) .given .1) ((c .before .before .before .before .before .before .before .before .before .before .before .before .before .before .before .before .before .before .before .before .before .before .before .before .before .before .begin) .ensures) in
-    let w₂ : World = world ((c .before .before .before .before .before .before .before .before .before .render-elements2) .result) ((c .before .before .before .before .before .before .before .before .before .render-elements2) .last .1 .1 .1 .1 .1 .0) ((c .before .before .before .before .before .before .before .before .before .render-elements2) .last .1 .1 .1 .1 .1 .1 .0) ((c .before .before .before .before .before .before .before .before .before .render-elements2) .last .1 .1 .1 .1 .1 .1 .1 .0) ((c .before .before .before .before .before .before .before .before .before .render-elements2) .last .1 .1 .1 .1 .0) in
-    subst (λ (x : RenderContext). Renders (a .s .now) (a .b .now) (a .options) w (over x w₂) (partial-rule (a .b .now) (a .d) (a .p) (At (a .own)) (a .at) (a .before))) (sym ((c .finish-partial) .ensures)) (B .3 .done w₂ ((c .before .before .before .before .before .before .before .before .before .render-elements2) .ensures))
-
-pub render-partial-block-same-length-13 : (t : ℕ) → render-partial-block-lts.Need-same-length-13 (render-partial-block-claims t) (render-partial-block-at t) render-partial-block.Post
-render-partial-block-same-length-13 t c = omega (arith, (c .before .before .before .before .before .before .before .before .before .before .before .before .before .before .before .before .before .before .before .before .before .before .before .before .before .begin) .kept .1 .1 .1 .1 .0, (c .before .before .before .before .before .before .before .before .render-text) .kept .1 .1 .1 .1 .0)
-
-pub render-partial-block-same-length-14 : (t : ℕ) → render-partial-block-lts.Need-same-length-14 (render-partial-block-claims t) (render-partial-block-at t) render-partial-block.Post
-render-partial-block-same-length-14 t c = omega (arith, (c .before .before .before .before .before .before .before .before .before .before .before .before .before .before .before .before .before .before .before .before .before .before .before .before .before .begin) .kept .1 .1 .1 .1 .1 .0, (c .before .before .before .before .before .before .before .before .render-text) .kept .1 .1 .1 .1 .1 .0)
-
-pub render-partial-block-same-length-15 : (t : ℕ) → render-partial-block-lts.Need-same-length-15 (render-partial-block-claims t) (render-partial-block-at t) render-partial-block.Post
-render-partial-block-same-length-15 t c = omega (arith, (c .before .before .before .before .before .before .before .before .before .before .before .before .before .before .before .before .before .before .before .before .before .before .before .before .before .begin) .kept .1 .1 .1 .1 .1 .1 .0, (c .before .before .before .before .before .before .before .before .render-text) .kept .1 .1 .1 .1 .1 .1 .0)
+    let a = (c .before .before .before .before .before .before .before .before .before .before .before .before .before .before .before .before .before .before .before .before .before .before .before .before .before .before .before .before .before .before .before .before .before .before .before .before .before .before .before .before .before .before .before .before .before .before .args) in
+    let h = (c .before .before .before .before .before .before .before .before .before .before .before .before .before .before .before .before .before .before .before .before .before .before .before .before .before .before .before .before .before .before .before .before .before .before .before .before .before .before .before .before .before .before .before .before .before .before .pre) .1 in
+    let w : World = world (whole (a .rc) (a .sc .now)) (a .page .now) (a .texts .now) (a .indent .now) (a .ent .now) in
+    let w₁ : World = world (whole ((c .before .before .before .before .before .before .before .before .before .before .before .before .before .before .before .before .before .before .before .before .before .before .before .before .before .before .before .before .before .before .before .begin) .result .rc) ((c .before .before .before .before .before .before .before .before .before .before .before .before .before .before .before .before .before .before .before .before .before .before .before .before .before .before .before .before .before .before .before .begin) .last .1 .1 .1 .1 .1 .1 .1 .1 .0)) ((c .before .before .before .before .before .before .before .before .before .before .before .before .before .before .before .before .before .before .before .before .before .before .before .before .before .before .before .before .before .before .before .begin) .last .1 .1 .1 .1 .1 .0) ((c .before .before .before .before .before .before .before .before .before .before .before .before .before .before .before .before .before .before .before .before .before .before .before .before .before .before .before .before .before .before .before .begin) .last .1 .1 .1 .1 .1 .1 .0) ((c .before .before .before .before .before .before .before .before .before .before .before .before .before .before .before .before .before .before .before .before .before .before .before .before .before .before .before .before .before .before .before .begin) .last .1 .1 .1 .1 .1 .1 .1 .0) ((c .before .before .before .before .before .before .before .before .before .before .before .before .before .before .before .before .before .before .before .before .before .before .before .before .before .before .before .before .before .before .before .begin) .last .1 .1 .1 .1 .0) in
+    let B = subst (PartialBegun (a .s .now) (a .b .now) (a .options) w w₁ (a .d) (partial-rule (a .b .now) (a .d) (a .p) (At (a .own)) (a .at) (a .before)) (At (a .own)) (a .at)) ((c .before .before .before .before .before .before .before .before .before .before .before .before .before .before .before .before .before .before .next2) .given .1) ((c .before .before .before .before .before .before .before .before .before .before .before .before .before .before .before .before .before .before .before .before .before .before .before .before .before .before .before .before .before .before .before .begin) .ensures) in
+    let w₂ : World = world (whole ((c .before .before .before .before .before .before .before .before .before .before .before .render-elements2) .result) ((c .before .before .before .before .before .before .before .before .before .before .before .render-elements2) .last .1 .1 .1 .1 .1 .1 .1 .1 .0)) ((c .before .before .before .before .before .before .before .before .before .before .before .render-elements2) .last .1 .1 .1 .1 .1 .0) ((c .before .before .before .before .before .before .before .before .before .before .before .render-elements2) .last .1 .1 .1 .1 .1 .1 .0) ((c .before .before .before .before .before .before .before .before .before .before .before .render-elements2) .last .1 .1 .1 .1 .1 .1 .1 .0) ((c .before .before .before .before .before .before .before .before .before .before .before .render-elements2) .last .1 .1 .1 .1 .0) in
+    subst (λ (x : RenderContext). Renders (a .s .now) (a .b .now) (a .options) w (over x w₂) (partial-rule (a .b .now) (a .d) (a .p) (At (a .own)) (a .at) (a .before))) (sym ((c .finish-partial) .ensures ((c .before .before .before .before .before .before .before .before .before .before .before .render-elements2) .last .1 .1 .1 .1 .1 .1 .1 .1 .0) (a .sc .now))) (B .3 .done w₂ ((c .before .before .before .before .before .before .before .before .before .before .before .render-elements2) .ensures))
 
 pub render-partial-block-same-length-16 : (t : ℕ) → render-partial-block-lts.Need-same-length-16 (render-partial-block-claims t) (render-partial-block-at t) render-partial-block.Post
-render-partial-block-same-length-16 t c = omega (arith, (c .before .before .before .before .before .before .before .before .before .before .before .before .before .before .before .before .before .before .before .before .before .before .before .before .before .begin) .kept .1 .1 .1 .1 .1 .1 .1 .0, (c .before .before .before .before .before .before .before .before .render-text) .kept .1 .1 .1 .1 .1 .1 .1 .0)
+render-partial-block-same-length-16 t c = omega (arith, (c .before .before .before .before .before .before .before .before .before .before .before .before .before .before .before .before .before .before .before .before .before .before .before .before .before .before .before .before .before .before .begin) .kept .1 .1 .1 .1 .0, (c .before .before .before .before .before .before .before .before .before .before .render-text) .kept .1 .1 .1 .1 .0)
+
+pub render-partial-block-same-length-17 : (t : ℕ) → render-partial-block-lts.Need-same-length-17 (render-partial-block-claims t) (render-partial-block-at t) render-partial-block.Post
+render-partial-block-same-length-17 t c = omega (arith, (c .before .before .before .before .before .before .before .before .before .before .before .before .before .before .before .before .before .before .before .before .before .before .before .before .before .before .before .before .before .before .begin) .kept .1 .1 .1 .1 .1 .0, (c .before .before .before .before .before .before .before .before .before .before .render-text) .kept .1 .1 .1 .1 .1 .0)
+
+pub render-partial-block-same-length-18 : (t : ℕ) → render-partial-block-lts.Need-same-length-18 (render-partial-block-claims t) (render-partial-block-at t) render-partial-block.Post
+render-partial-block-same-length-18 t c = omega (arith, (c .before .before .before .before .before .before .before .before .before .before .before .before .before .before .before .before .before .before .before .before .before .before .before .before .before .before .before .before .before .before .begin) .kept .1 .1 .1 .1 .1 .1 .0, (c .before .before .before .before .before .before .before .before .before .before .render-text) .kept .1 .1 .1 .1 .1 .1 .0)
+
+pub render-partial-block-same-length-19 : (t : ℕ) → render-partial-block-lts.Need-same-length-19 (render-partial-block-claims t) (render-partial-block-at t) render-partial-block.Post
+render-partial-block-same-length-19 t c = omega (arith, (c .before .before .before .before .before .before .before .before .before .before .before .before .before .before .before .before .before .before .before .before .before .before .before .before .before .before .before .before .before .before .begin) .kept .1 .1 .1 .1 .1 .1 .1 .0, (c .before .before .before .before .before .before .before .before .before .before .render-text) .kept .1 .1 .1 .1 .1 .1 .1 .0)
+
+pub render-partial-block-same-length-20 : (t : ℕ) → render-partial-block-lts.Need-same-length-20 (render-partial-block-claims t) (render-partial-block-at t) render-partial-block.Post
+render-partial-block-same-length-20 t c = omega (arith, (c .before .before .before .before .before .before .before .before .before .before .before .before .before .before .before .before .before .before .before .before .before .before .before .before .before .before .before .before .before .before .begin) .kept .1 .1 .1 .1 .1 .1 .1 .1 .0, (c .before .before .before .before .before .before .before .before .before .before .render-text) .kept .1 .1 .1 .1 .1 .1 .1 .1 .0)
 
 pub render-partial-block-returns-4 : (t : ℕ) → render-partial-block-lts.Need-returns-4 (render-partial-block-claims t) (render-partial-block-at t) render-partial-block.Post
 render-partial-block-returns-4 t c =
-    let a = (c .before .before .before .before .before .before .before .before .before .before .before .before .before .before .before .before .before .before .before .before .before .before .before .before .before .before .before .before .before .before .before .before .before .before .before .before .before .before .args) in
-    let h = (c .before .before .before .before .before .before .before .before .before .before .before .before .before .before .before .before .before .before .before .before .before .before .before .before .before .before .before .before .before .before .before .before .before .before .before .before .before .before .pre) .1 in
-    let w : World = world (a .rc) (a .page .now) (a .texts .now) (a .indent .now) (a .ent .now) in
-    let w₁ : World = world ((c .before .before .before .before .before .before .before .before .before .before .before .before .before .before .before .before .before .before .before .before .before .before .before .before .before .begin) .result .rc) ((c .before .before .before .before .before .before .before .before .before .before .before .before .before .before .before .before .before .before .before .before .before .before .before .before .before .begin) .last .1 .1 .1 .1 .1 .0) ((c .before .before .before .before .before .before .before .before .before .before .before .before .before .before .before .before .before .before .before .before .before .before .before .before .before .begin) .last .1 .1 .1 .1 .1 .1 .0) ((c .before .before .before .before .before .before .before .before .before .before .before .before .before .before .before .before .before .before .before .before .before .before .before .before .before .begin) .last .1 .1 .1 .1 .1 .1 .1 .0) ((c .before .before .before .before .before .before .before .before .before .before .before .before .before .before .before .before .before .before .before .before .before .before .before .before .before .begin) .last .1 .1 .1 .1 .0) in
-    let B = subst (PartialBegun (a .s .now) (a .b .now) (a .options) w w₁ (a .d) (partial-rule (a .b .now) (a .d) (a .p) (At (a .own)) (a .at) (a .before)) (At (a .own)) (a .at)) ((c .before .before .before .before .before .before .before .before .before .before .before .before .before .before .next3) .given .1) ((c .before .before .before .before .before .before .before .before .before .before .before .before .before .before .before .before .before .before .before .before .before .before .before .before .before .begin) .ensures) in
-    (c .before .before .before .before .before .before .before .before .render-text) .ensures .at (a .page .now) (a .texts .now) (a .indent .now) (a .ent .now) (partial-rule (a .b .now) (a .d) (a .p) (At (a .own)) (a .at) (a .before)) (B .0)
+    let a = (c .before .before .before .before .before .before .before .before .before .before .before .before .before .before .before .before .before .before .before .before .before .before .before .before .before .before .before .before .before .before .before .before .before .before .before .before .before .before .before .before .before .before .before .before .before .args) in
+    let h = (c .before .before .before .before .before .before .before .before .before .before .before .before .before .before .before .before .before .before .before .before .before .before .before .before .before .before .before .before .before .before .before .before .before .before .before .before .before .before .before .before .before .before .before .before .before .pre) .1 in
+    let w : World = world (whole (a .rc) (a .sc .now)) (a .page .now) (a .texts .now) (a .indent .now) (a .ent .now) in
+    let w₁ : World = world (whole ((c .before .before .before .before .before .before .before .before .before .before .before .before .before .before .before .before .before .before .before .before .before .before .before .before .before .before .before .before .before .before .begin) .result .rc) ((c .before .before .before .before .before .before .before .before .before .before .before .before .before .before .before .before .before .before .before .before .before .before .before .before .before .before .before .before .before .before .begin) .last .1 .1 .1 .1 .1 .1 .1 .1 .0)) ((c .before .before .before .before .before .before .before .before .before .before .before .before .before .before .before .before .before .before .before .before .before .before .before .before .before .before .before .before .before .before .begin) .last .1 .1 .1 .1 .1 .0) ((c .before .before .before .before .before .before .before .before .before .before .before .before .before .before .before .before .before .before .before .before .before .before .before .before .before .before .before .before .before .before .begin) .last .1 .1 .1 .1 .1 .1 .0) ((c .before .before .before .before .before .before .before .before .before .before .before .before .before .before .before .before .before .before .before .before .before .before .before .before .before .before .before .before .before .before .begin) .last .1 .1 .1 .1 .1 .1 .1 .0) ((c .before .before .before .before .before .before .before .before .before .before .before .before .before .before .before .before .before .before .before .before .before .before .before .before .before .before .before .before .before .before .begin) .last .1 .1 .1 .1 .0) in
+    let B = subst (PartialBegun (a .s .now) (a .b .now) (a .options) w w₁ (a .d) (partial-rule (a .b .now) (a .d) (a .p) (At (a .own)) (a .at) (a .before)) (At (a .own)) (a .at)) ((c .before .before .before .before .before .before .before .before .before .before .before .before .before .before .before .before .before .next3) .given .1) ((c .before .before .before .before .before .before .before .before .before .before .before .before .before .before .before .before .before .before .before .before .before .before .before .before .before .before .before .before .before .before .begin) .ensures) in
+    (c .before .before .before .before .before .before .before .before .before .before .render-text) .ensures .at (a .sc .now) (a .page .now) (a .texts .now) (a .indent .now) (a .ent .now) (partial-rule (a .b .now) (a .d) (a .p) (At (a .own)) (a .at) (a .before)) (B .0)
