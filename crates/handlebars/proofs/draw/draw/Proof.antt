@@ -1,5 +1,5 @@
 use Rattle.rules.specs.Layout.{field}
-use mathlib.Core.Path.{sym, subst}
+use mathlib.Core.Path.{refl, sym, subst}
 use Prim.Native.Nat.{ℕ, _≤_}
 use Rattle.handlebars.specs.Answers.{shown}
 use Rattle.handlebars.specs.Begins.{few-templates}
@@ -18,11 +18,14 @@ index-requires c κs = let z = c .before .before .before .before .before .before
 slice-aggregate-render-template : tie.Need-slice-aggregate-render-template
 slice-aggregate-render-template c = search needs
 
+slice-aggregate-render-template-2 : tie.Need-slice-aggregate-render-template-2
+slice-aggregate-render-template-2 c = search needs
+
 render-template-requires : tie.Need-render-template-requires
 render-template-requires c κs =
-    let z = c .before .before .before .before .before .before .before .before .before .before .before .before .before .before .before in
-    let x = c .before .before .before .before .before .before .index2 .ensures in
-    (record { plan = z .pre .1; small = z .pre .0 .small; bundle = z .pre .0 .templates; listed = subst (λ (n : ℕ). field (bits (z .args .b .now)) 8 8 ≤ n) (sym (x .0)) (few-templates (bits (z .args .b .now)) (z .pre .0 .templates)); indexed = x .1 }, z .pre .2, z .pre .3, z .pre .4, z .pre .5, z .pre .6)
+    let z = c .before .before .before .before .before .before .before .before .before .before .before .before .before .before .before .before in
+    let x = c .before .before .before .before .before .before .before .index2 .ensures in
+    (record { plan = z .pre .1; small = z .pre .0 .small; bundle = z .pre .0 .templates; listed = subst (λ (n : ℕ). field (bits (z .args .b .now)) 8 8 ≤ n) (sym (x .0)) (few-templates (bits (z .args .b .now)) (z .pre .0 .templates)); indexed = x .1 }, z .pre .2, z .pre .3, z .pre .4, z .pre .5, z .pre .6, refl)
 
 answered-requires : tie.Need-answered-requires
 answered-requires c κs = search needs
@@ -41,7 +44,7 @@ same-length-4 c = search needs
 
 returns : tie.Need-returns
 unfolding render-call
-returns c = shown _ _ _ _ _ _ _ _ _ _ _ _ (c .before .before .before .before .before .before .before .before .before .render-template .ensures) _ (c .answered .ensures _)
+returns c = shown _ _ _ _ _ _ _ _ _ _ _ _ (c .before .before .before .before .before .before .before .before .before .before .render-template .ensures) _ (c .answered .ensures (c .before .before .before .before .before .before .before .before .before .before .render-template .last .1 .1 .1 .1 .1 .1 .1 .1 .0))
 
 pub draw-spec : {M : Type 1} → statement M
 draw-spec =
@@ -50,6 +53,7 @@ draw-spec =
     slice-aggregate-index
     index-requires
     slice-aggregate-render-template
+    slice-aggregate-render-template-2
     render-template-requires
     answered-requires
     same-length

@@ -295,18 +295,18 @@ render-turns-loop-again t c =
     let a = (c .before .before .before .before .before .before .before .before .before .before .before .before .before .before .before .before .before .before .before .before .before .before .before .before .before .before .before .before .before .before .before .before .before .before .before .before .before .before .before .before .before .before .before .args) in
     let h = (c .before .before .before .before .before .before .before .before .before .before .before .before .before .before .before .before .before .before .before .before .before .before .before .before .before .before .before .before .before .before .before .before .before .before .before .before .before .before .before .before .before .before .before .pre) .1 in
     let l = (c .before .before .before .before .before .before .before .before .before .before .before .before .before .before .before .before .before .before .before .before .before .before .before .before .before .before .before .loop) in
-    let lw : World = world (whole (l .q) (l .sc)) (l .page) (l .texts) (l .indent) (l .ent) in
-    (
-    (λ m r z ok small held H.
-    let w : World = world (whole (a .rc) m) (a .page .now) (a .texts .now) (a .indent .now) (a .ent .now) in
-    let i = l .inv .0 m r z ok small held H in
-    let item = (c .before .before .before .before .before .before .before .before .before .before .before .before .before .before .before .before .before .before .before .before .before .before .before .before .before .turn) .given .0 .0 in
-    let key = (c .before .before .before .before .before .before .before .before .before .before .before .before .before .before .before .before .before .before .before .before .before .before .before .before .before .turn) .given .0 .1 .0 in
-    let object = (c .before .before .before .before .before .before .before .before .before .before .before .before .before .before .before .before .before .before .before .before .before .before .before .before .before .turn) .given .0 .1 .1 .0 in
-    let last = (c .before .before .before .before .before .before .before .before .before .before .before .before .before .before .before .before .before .before .before .before .before .before .before .before .before .turn) .given .0 .1 .1 .1 .0 in
-    let E = subst (EachGoing (a .s .now) (a .b .now) (a .options) w (a .d) (a .at) (a .p) (a .v) r z ok small held lw (l .k)) ((c .before .before .before .before .before .before .before .before .before .before .before .before .before .before .before .before .before .before .before .before .before .before .before .before .before .turn) .given .1) i in
-    let l₁ : RenderContext = set.with-template (set.turned (whole (l .q) (l .sc)) (made.turned (front lw) (encoded item) (encoded key) (l .k) (eqb (l .k) 0) last object)) 0 in
-    let l₂ : World = world (whole ((c .before .before .before .before .before .before .before .before .before .before .before .before .before .before .render-elements) .result) ((c .before .before .before .before .before .before .before .before .before .before .before .before .before .before .render-elements) .last .1 .1 .1 .1 .1 .1 .1 .1 .0)) ((c .before .before .before .before .before .before .before .before .before .before .before .before .before .before .render-elements) .last .1 .1 .1 .1 .1 .0) ((c .before .before .before .before .before .before .before .before .before .before .before .before .before .before .render-elements) .last .1 .1 .1 .1 .1 .1 .0) ((c .before .before .before .before .before .before .before .before .before .before .before .before .before .before .render-elements) .last .1 .1 .1 .1 .1 .1 .1 .0) ((c .before .before .before .before .before .before .before .before .before .before .before .before .before .before .render-elements) .last .1 .1 .1 .1 .0) in
-    let D : Renders (a .s .now) (a .b .now) (a .options) (over l₁ lw) l₂ (body-rule (a .b .now) (a .d) (a .p) 0) = subst (λ (z : RenderContext). Renders (a .s .now) (a .b .now) (a .options) (over z lw) l₂ (body-rule (a .b .now) (a .d) (a .p) 0)) ((c .before .before .before .before .before .before .before .before .before .before .before .before .before .before .before .before .before .before .before .before .before .before .begin-turn) .ensures) ((c .before .before .before .before .before .before .before .before .before .before .before .before .before .before .render-elements) .ensures) in
-    each-again (a .s .now) (a .b .now) (a .options) w (a .d) (a .at) (a .p) (a .v) r z ok small held lw (l .k) item key object last E l₂ D ((c .before .before .if1) .left) ((c .next-turn) .result) ((c .next-turn) .ensures)),
-    (c .before .before .before .before .before .before .before .before .before .before .before .before .before .before .render-elements) .kept .1 .1 .1 .1 .1 .1 .1 .1 .0 ∙ (c .before .before .before .before .before .before .before .before .before .before .before .before .before .before .before .before .before .before .before .before .before .before .begin-turn) .kept .0 ∙ l .inv .1)
+    let lw : World = world (whole (l .q) (l .sc)) (l .page) (l .texts) (l .indent) (l .ent) in (
+      (λ m r z ok small held H.
+          let w : World = world (whole (a .rc) m) (a .page .now) (a .texts .now) (a .indent .now) (a .ent .now) in
+          let i = l .inv .0 m r z ok small held H in
+          let item = (c .before .before .before .before .before .before .before .before .before .before .before .before .before .before .before .before .before .before .before .before .before .before .before .before .before .turn) .given .0 .0 in
+          let key = (c .before .before .before .before .before .before .before .before .before .before .before .before .before .before .before .before .before .before .before .before .before .before .before .before .before .turn) .given .0 .1 .0 in
+          let object = (c .before .before .before .before .before .before .before .before .before .before .before .before .before .before .before .before .before .before .before .before .before .before .before .before .before .turn) .given .0 .1 .1 .0 in
+          let last = (c .before .before .before .before .before .before .before .before .before .before .before .before .before .before .before .before .before .before .before .before .before .before .before .before .before .turn) .given .0 .1 .1 .1 .0 in
+          let E = subst (EachGoing (a .s .now) (a .b .now) (a .options) w (a .d) (a .at) (a .p) (a .v) r z ok small held lw (l .k)) ((c .before .before .before .before .before .before .before .before .before .before .before .before .before .before .before .before .before .before .before .before .before .before .before .before .before .turn) .given .1) i in
+          let l₁ : RenderContext = set.with-template (set.turned (whole (l .q) (l .sc)) (made.turned (front lw) (encoded item) (encoded key) (l .k) (eqb (l .k) 0) last object)) 0 in
+          let l₂ : World = world (whole ((c .before .before .before .before .before .before .before .before .before .before .before .before .before .before .render-elements) .result) ((c .before .before .before .before .before .before .before .before .before .before .before .before .before .before .render-elements) .last .1 .1 .1 .1 .1 .1 .1 .1 .0)) ((c .before .before .before .before .before .before .before .before .before .before .before .before .before .before .render-elements) .last .1 .1 .1 .1 .1 .0) ((c .before .before .before .before .before .before .before .before .before .before .before .before .before .before .render-elements) .last .1 .1 .1 .1 .1 .1 .0) ((c .before .before .before .before .before .before .before .before .before .before .before .before .before .before .render-elements) .last .1 .1 .1 .1 .1 .1 .1 .0) ((c .before .before .before .before .before .before .before .before .before .before .before .before .before .before .render-elements) .last .1 .1 .1 .1 .0) in
+          let D : Renders (a .s .now) (a .b .now) (a .options) (over l₁ lw) l₂ (body-rule (a .b .now) (a .d) (a .p) 0) = subst (λ (z : RenderContext). Renders (a .s .now) (a .b .now) (a .options) (over z lw) l₂ (body-rule (a .b .now) (a .d) (a .p) 0)) ((c .before .before .before .before .before .before .before .before .before .before .before .before .before .before .before .before .before .before .before .before .before .before .begin-turn) .ensures) ((c .before .before .before .before .before .before .before .before .before .before .before .before .before .before .render-elements) .ensures) in
+          each-again (a .s .now) (a .b .now) (a .options) w (a .d) (a .at) (a .p) (a .v) r z ok small held lw (l .k) item key object last E l₂ D ((c .before .before .if1) .left) ((c .next-turn) .result) ((c .next-turn) .ensures)),
+      (c .before .before .before .before .before .before .before .before .before .before .before .before .before .before .render-elements) .kept .1 .1 .1 .1 .1 .1 .1 .1 .0 ∙ (c .before .before .before .before .before .before .before .before .before .before .before .before .before .before .before .before .before .before .before .before .before .before .begin-turn) .kept .0 ∙ l .inv .1,
+    )
