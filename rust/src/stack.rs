@@ -9,7 +9,7 @@ use std::panic::resume_unwind;
 use std::thread;
 
 /// What the deepest call may need. The measured need is in docs/BUFFERS.md.
-const NEED: usize = 4 << 20;
+const NEED: usize = 8 << 20;
 
 /// What is left to the closure of `with_stack` before a call in it takes a thread of its own again.
 const OWN: usize = 1 << 20;
