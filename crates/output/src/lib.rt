@@ -131,7 +131,7 @@ pub fn put(out: &mut [u8], w: Writer, c: u8) -> Writer
     q
 }
 
-fn copy(out: &mut [u8], at: usize, v: &[u8], n: usize)
+pub fn copy(out: &mut [u8], at: usize, v: &[u8], n: usize)
     requires { ⌜ (n ≤ length (now out) - at) × (n ≤ length (now v)) ⌝ }
     ensures { λ _. ⌜ now (out .exit) ≡ sets (now (out .entry)) at (take n (now (v .entry))) ⌝ }
 {
