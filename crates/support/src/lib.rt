@@ -230,7 +230,7 @@ fn is_quiet(c: u8, has_indent: bool, escape: bool) -> bool
 }
 
 // Where the quiet bytes from i on end.
-fn quiet(v: &[u8], i: usize, has_indent: bool, escape: bool) -> usize
+pub fn quiet(v: &[u8], i: usize, has_indent: bool, escape: bool) -> usize
     requires { ⌜ i ≤ length (now v) ⌝ }
     ensures { λ r. ⌜ (r ≡ i + run (quiet-byte «has_indent» escape) (drop i (now (v .entry)))) × (r ≤ length (now (v .entry))) ⌝ }
 {
@@ -263,7 +263,7 @@ pub fn feed_bytes(out: &mut [u8], indent: &[u8], w: Writer, v: &[u8], escape: bo
 }
 
 // Where a line of a packed string ends: behind its line feed. Without an indent all is one line.
-fn line_end(s: &[u8], p: usize, i: usize, n: usize, has_indent: bool) -> usize
+pub fn line_end(s: &[u8], p: usize, i: usize, n: usize, has_indent: bool) -> usize
     requires { ⌜ (p + 8 * n < 2 ^ 64) × (i ≤ n) ⌝ }
     ensures { λ r. ⌜ r ≡ i + line-length «has_indent» (drop i (bytes-at (bits (now (s .entry))) p n)) ⌝ }
 {

@@ -1,7 +1,7 @@
 // render.rs and partial.rs: the leaves that write. Each writes into the output in force, page or block texts, and leaves what
 // the rules draw: where it does not fit, 24 or 25. s is the plan, b the bundle; indent is the buffer of which the indent in
 // force is a prefix.
-ghost use mathlib.Core.Bool.{not};
+ghost use mathlib.Core.Bool.{not, true};
 ghost use mathlib.Core.List.{List};
 ghost use mathlib.Core.Path.{_≡_};
 ghost use Prim.Native.Nat.{ℕ, _+_, _*_, _^_, _≤_, _<_};
@@ -15,6 +15,8 @@ ghost use Rattle.bits.specs.Packed.{bytes-at};
 ghost use Rattle.output.specs.Writer.{all-put};
 ghost use Rattle.output.specs.Outputs.{outputs, on};
 ghost use Rattle.support.specs.Feed.{all-emitted, escaped, fed};
+ghost use Rattle.support.specs.Runs.{calm};
+ghost use Rattle.direct.specs.Direct.{takes};
 ghost use Rattle.layout.specs.Text.{text-at};
 ghost use Rattle.parts.specs.Holds.{Holds};
 ghost use Rattle.places.specs.Accepted.{Accepted};
@@ -49,6 +51,37 @@ fn feed_packed(
     support::feed_packed(page, indent, w, b, p, n)
 }
 
+// Whether the n bytes of a packed string go to the page at once.
+fn is_direct(w: Writer, len: usize, b: &[u8], p: usize, n: usize) -> bool
+    requires { ⌜ p + 8 * n < 2 ^ 64 ⌝ }
+    ensures { λ r. ⌜ (r ≡ true → (takes w len n ≡ true) × (calm (w .«has_indent») (bytes-at (bits (now (b .entry))) p n) ≡ true)) ⌝ }
+{
+    if direct::takes(w, len, n) {
+        return support::line_end(b, p, 0, n, w.has_indent) == n;
+    }
+    false
+}
+
+// The n bytes of a packed string as a text: at once, or begun, fed and finished.
+fn write_packed(
+    page: &mut [u8],
+    texts: &mut [u8],
+    indent: &[u8],
+    w: Writer,
+    b: &[u8],
+    p: usize,
+    n: usize,
+) -> Writer
+    requires { ⌜ p + 8 * n < 2 ^ 64 ⌝ }
+    ensures { λ r. ⌜ outputs r (now (page .exit)) (now (texts .exit)) ≡ fed (now (indent .entry)) (bytes-at (bits (now (b .entry))) p n) (outputs w (now (page .entry)) (now (texts .entry))) ⌝ }
+{
+    if is_direct(w, page.len(), b, p, n) {
+        return direct::put_packed(page, w, b, p, n);
+    }
+    let q = support::begin(w);
+    support::finish(feed_packed(page, texts, indent, q, b, p, n))
+}
+
 // `RawString`: its text, the string at p, as it is.
 pub fn raw_string(
     page: &mut [u8],
@@ -63,9 +96,10 @@ pub fn raw_string(
     ensures { λ r. ⌜ ((l : List ℕ) (s : Bytes) (ent : List ℕ) → Writes s (now (b .entry)) (world (whole rc l) (now (page .entry)) (now (texts .entry)) (now (indent .entry)) ent) (world (whole r l) (now (page .exit)) (now (texts .exit)) (now (indent .entry)) ent) (indent-aware-write (text-at (bits (now (b .entry))) p))) ⌝ }
 {
     let t = parts::text_at(b, p);
-    let w = support::begin(rc.writer);
-    let q = feed_packed(page, texts, indent, w, b, t.first, t.count);
-    state::wrote(rc, support::finish(q))
+    state::wrote(
+        rc,
+        write_packed(page, texts, indent, rc.writer, b, t.first, t.count),
+    )
 }
 
 // What a value prints, into the output in force.
