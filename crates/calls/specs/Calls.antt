@@ -1,5 +1,5 @@
 -- Parameters and calls: what the readers answer, and what stands where.
-use Prim.Native.Nat.{ℕ, zero, suc, _+_, _-_, _≤_, _<_}
+use Prim.Native.Nat.{ℕ, zero, suc, _+_, _-_, _*_, _≤_, _<_}
 use mathlib.Core.Bool.{true}
 use mathlib.Core.List.{[]}
 use mathlib.Core.Logic.{inl, inr}
@@ -13,12 +13,13 @@ use Rattle.rules.specs.Layout.{Layout, field, _then_, shaped, counted, tagged}
 use Rattle.rules.specs.LayoutLaws.{not-read}
 use Rattle.rules.specs.Bundle.{string, path, literal, params-make, hash-make, ascending, params, pairs, call-out, call-make, call-of}
 use Rattle.rules.specs.Bundle.{param-out, param-make, param}
+use Rattle.bits.specs.Fields.{field-append}
 use Rattle.layout.specs.Arms.{param-kinds, param-0, param-1, param-2, param-3}
 use Rattle.layout.specs.Text.{text-at}
 use Rattle.parts.specs.Holds.{Holds, end, value, row}
 use Rattle.parts.specs.Says.{path-at, literal-at}
 use Rattle.parts.specs.HoldsLaws.{end-is, value-is, Then, then-holds, Same, shaped-holds, tested-holds, Counted, counted-holds, more-holds}
-use Rattle.parts.specs.HoldsLaws.{moved, none-left-value, more-value, Passed, passed-row, counted-start, tag-fits, kind-holds, kind-never, string-found}
+use Rattle.parts.specs.HoldsLaws.{moved, none-left, none-left-value, more-value, Passed, passed-row, counted-start, tag-fits, kind-holds, kind-never, string-found}
 use Rattle.calls.specs.declared.Parameter.{Parameter}
 use Rattle.calls.specs.declared.Parameter.the-variants.{Name, Path, Literal, Subexpression}
 use Rattle.calls.specs.declared.Call.{Call}
@@ -214,6 +215,43 @@ module _ (d : ℕ) (b : Bits) (p : ℕ) (H : Holds (call-of (param d)) b p) wher
       ∙ ap (λ l. rule.call (x .0) (params-make (x .1 .0)) (hash-make l)) hs
       ∙ call-row .is
 
+-- A call that is a name alone: behind the name stand 8 bits of 0, the count of parameters and that of pairs
+module _ (d : ℕ) (b : Bits) (p : ℕ) (H : Holds (call-of (param d)) b p) where
+  both-counts : field b 8 (name-end d b p) ≡ field b 4 (name-end d b p) * 16 + field b 4 (name-end d b p + 4)
+  both-counts = field-append b 4 4 (name-end d b p)
+
+  -- where there are no parameters, the pairs stand behind their count
+  params-none : field b 4 (name-end d b p) ≡ 0 → params-end d b p ≡ name-end d b p + 4
+  params-none e =
+      sym (counted-params d b p H .ends)
+      ∙ ap (λ (n : ℕ). end (row (param d) n) b (name-end d b p + 4)) e
+      ∙ none-left (param d) b (name-end d b p + 4)
+
+  pub bare-call : field b 8 (name-end d b p) ≡ 0 → (call-view d b p .params ≡ 0) × (call-view d b p .pairs ≡ 0)
+  bare-call e =
+      let n : field b 4 (name-end d b p) ≡ 0 = omega (arith, both-counts) in
+      let m : field b 4 (name-end d b p + 4) ≡ 0 = omega (arith, both-counts) in
+      (n, ap (field b 4) (params-none n) ∙ m)
+
+  pub full-call : (field b 8 (name-end d b p) ≡ 0 → ⊥) → call-view d b p .params ≡ 0 → call-view d b p .pairs ≡ 0 → ⊥
+  full-call h n k =
+      let m : field b 4 (name-end d b p + 4) ≡ 0 = sym (ap (field b 4) (params-none n)) ∙ k in
+      h (omega (arith, both-counts))
+
+  pub bare-end : field b 8 (name-end d b p) ≡ 0 → (name-end d b p + 8 ≡ end (call-of (param d)) b p) × (name-end d b p + 8 ≤ b .size)
+  bare-end e =
+      let c = bare-call e in
+      let q : params-end d b p ≡ name-end d b p + 4 = params-none (c .0) in
+      let r : name-end d b p + 8 ≡ params-end d b p + 4 = omega arith in (
+        r
+            ∙ sym (none-left (string then param d) b (params-end d b p + 4))
+            ∙ sym (ap (λ (n : ℕ). end (row (string then param d) n) b (params-end d b p + 4)) (c .1))
+            ∙ counted-pairs d b p H .ends
+            ∙ tested-pairs d b p H .ends
+            ∙ call-end d b p H,
+        omega (arith, call-fits d b p H .1),
+      )
+
 -- the view of a call says what it is, and its parts stand
 pub record CallStands (d : ℕ) (b : Bits) (p : ℕ) (v : Call) : Type 0 where
   pub name : Holds (param d) b p
@@ -306,6 +344,11 @@ module _ (d : ℕ) (b : Bits) (p : ℕ) (H : Holds (string then param d) b p) (q
 
   pub pair-next : (r : ℕ) → r ≡ end (param d) b q → r ≡ end (string then param d) b p
   pair-next r e = e ∙ ap (end (param d) b) hq ∙ pair-stands d b p H .next
+
+-- the code's way past a call that is a name alone, which ends at q
+module _ (d : ℕ) (b : Bits) (p : ℕ) (H : Holds (call-of (param d)) b p) (q : ℕ) (hq : q ≡ name-end d b p) where
+  pub bare-end-at : field b 8 q ≡ 0 → (q + 8 ≡ end (call-of (param d)) b p) × (q + 8 ≤ b .size)
+  bare-end-at e = rw hq (bare-end d b p H (sym (ap (field b 8) hq) ∙ e))
 
 -- the code's view: q is the place behind the name, r behind the parameters
 module _ (d : ℕ) (b : Bits) (p : ℕ) (H : Holds (call-of (param d)) b p) (q r : ℕ) (hq : q ≡ name-end d b p) (hr : r ≡ end (params (param d)) b q) where

@@ -90,7 +90,12 @@ pub fn skip_call(b: &[u8], p: usize, d: usize) -> usize
     requires { ⌜ (length (now b) ≤ 65536) × Holds (call-of (param d)) (bits (now b)) p ⌝ }
     ensures { λ r. ⌜ r ≡ end (call-of (param d)) (bits (now (b .entry))) p ⌝ }
 {
-    skip_pairs(b, skip_params(b, skip_param(b, p, d), d), d)
+    let q = skip_param(b, p, d);
+    // both counts, where there are no parameters: most calls are a name alone
+    if bits::field(b, q, 8) == 0 {
+        return q + 8;
+    }
+    skip_pairs(b, skip_params(b, q, d), d)
 }
 
 // A call's name is the parameter at its place.

@@ -2,7 +2,7 @@
 use native.Mathlib.Omega.{arith}
 use mathlib.Core.Path.{ap, sym, _∙_}
 use Prim.Native.Nat.{ℕ, _+_, _-_, _*_, _<_}
-use Rattle.calls.specs.Calls.{call-name, call-params, call-pairs, call-end, pairs-fits, pairs-start, pair-stands, pair-content, pair-next}
+use Rattle.calls.specs.Calls.{call-name, call-params, call-pairs, call-end, bare-end-at, pairs-fits, pairs-start, pair-stands, pair-content, pair-next}
 use Rattle.calls.specs.Calls.{param-deep, param-fits, param-name, param-path, param-literal, param-call, param-last}
 use Rattle.parts.specs.HoldsLaws.{moved, Passed, counted-holds, counted-start, passed-first, passed-again, passed-end}
 use Rattle.parts.specs.Holds.{end}
@@ -76,7 +76,7 @@ skip-params-below t =
     and 1 skip-params-kinds.ps (falls 1 skip-params-kinds.ps _<_ μ-skip-params t) skip-params.Pre
 
 abbrev skip-call-claims : ℕ → skip-call-lts.Claims
-skip-call-claims t = (skip-param-below t, skip-param.Post, skip-params-below t, skip-params.Post, skip-pairs-below t, skip-pairs.Post)
+skip-call-claims t = (skip-param-below t, skip-param.Post, field-reads.Asked, field-reads.Learnt, skip-params-below t, skip-params.Post, skip-pairs-below t, skip-pairs.Post)
 
 abbrev skip-pairs-claims : ℕ → skip-pairs-lts.Claims
 skip-pairs-claims t = (field-reads.Asked, field-reads.Learnt, skip-string-reads.Asked, skip-string-reads.Learnt, skip-param-below t, skip-param.Post)
@@ -90,14 +90,23 @@ skip-params-claims t = (field-reads.Asked, field-reads.Learnt, skip-param-below 
 skip-call-skip-param-requires : (t : ℕ) → skip-call-lts.Need-skip-param-requires (skip-call-claims t) (skip-call-at t) skip-call.Post
 skip-call-skip-param-requires t c κs = let s = c .before in (omega arith, (s .pre .1 .0, call-name (s .args .d) (bits (s .args .b .now)) (s .args .p) (s .pre .1 .1)))
 
-skip-call-skip-params-requires : (t : ℕ) → skip-call-lts.Need-skip-params-requires (skip-call-claims t) (skip-call-at t) skip-call.Post
-skip-call-skip-params-requires t c κs = let s = c .before .before in (omega arith, (s .pre .1 .0, moved (params (param (s .args .d))) (bits (s .args .b .now)) _ _ (sym (c .skip-param .ensures)) (call-params (s .args .d) (bits (s .args .b .now)) (s .args .p) (s .pre .1 .1))))
+skip-call-field-requires : (t : ℕ) → skip-call-lts.Need-field-requires (skip-call-claims t) (skip-call-at t) skip-call.Post
+skip-call-field-requires t c κs = search needs
 
-skip-call-skip-pairs-requires : (t : ℕ) → skip-call-lts.Need-skip-pairs-requires (skip-call-claims t) (skip-call-at t) skip-call.Post
-skip-call-skip-pairs-requires t c κs = let s = c .before .before .before in (omega arith, (s .pre .1 .0, moved (pairs (param (s .args .d))) (bits (s .args .b .now)) _ _ (sym (c .skip-params .ensures ∙ ap (end (params (param (s .args .d))) (bits (s .args .b .now))) (c .before .skip-param .ensures))) (call-pairs (s .args .d) (bits (s .args .b .now)) (s .args .p) (s .pre .1 .1))))
+skip-call-add-result : (t : ℕ) → skip-call-lts.Need-add-result (skip-call-claims t) (skip-call-at t) skip-call.Post
+skip-call-add-result t c = let s = c .before .before .before .before in omega (arith, bare-end-at (s .args .d) (bits (s .args .b .now)) (s .args .p) (s .pre .1 .1) _ (c .before .before .skip-param .ensures) (sym (c .before .field .ensures) ∙ c .if1 .taken) .1, bits-size (s .args .b .now))
 
 skip-call-returns : (t : ℕ) → skip-call-lts.Need-returns (skip-call-claims t) (skip-call-at t) skip-call.Post
-skip-call-returns t c = let s = c .before .before .before .before in c .skip-pairs .ensures ∙ ap (end (pairs (param (s .args .d))) (bits (s .args .b .now))) (c .before .skip-params .ensures ∙ ap (end (params (param (s .args .d))) (bits (s .args .b .now))) (c .before .before .skip-param .ensures)) ∙ call-end (s .args .d) (bits (s .args .b .now)) (s .args .p) (s .pre .1 .1)
+skip-call-returns t c = let s = c .before .before .before .before in bare-end-at (s .args .d) (bits (s .args .b .now)) (s .args .p) (s .pre .1 .1) _ (c .before .before .skip-param .ensures) (sym (c .before .field .ensures) ∙ c .if1 .taken) .0
+
+skip-call-skip-params-requires : (t : ℕ) → skip-call-lts.Need-skip-params-requires (skip-call-claims t) (skip-call-at t) skip-call.Post
+skip-call-skip-params-requires t c κs = let s = c .before .before .before .before in (omega arith, (s .pre .1 .0, moved (params (param (s .args .d))) (bits (s .args .b .now)) _ _ (sym (c .before .before .skip-param .ensures)) (call-params (s .args .d) (bits (s .args .b .now)) (s .args .p) (s .pre .1 .1))))
+
+skip-call-skip-pairs-requires : (t : ℕ) → skip-call-lts.Need-skip-pairs-requires (skip-call-claims t) (skip-call-at t) skip-call.Post
+skip-call-skip-pairs-requires t c κs = let s = c .before .before .before .before .before in (omega arith, (s .pre .1 .0, moved (pairs (param (s .args .d))) (bits (s .args .b .now)) _ _ (sym (c .skip-params .ensures ∙ ap (end (params (param (s .args .d))) (bits (s .args .b .now))) (c .before .before .before .skip-param .ensures))) (call-pairs (s .args .d) (bits (s .args .b .now)) (s .args .p) (s .pre .1 .1))))
+
+skip-call-returns-2 : (t : ℕ) → skip-call-lts.Need-returns-2 (skip-call-claims t) (skip-call-at t) skip-call.Post
+skip-call-returns-2 t c = let s = c .before .before .before .before .before .before in c .skip-pairs .ensures ∙ ap (end (pairs (param (s .args .d))) (bits (s .args .b .now))) (c .before .skip-params .ensures ∙ ap (end (params (param (s .args .d))) (bits (s .args .b .now))) (c .before .before .before .before .skip-param .ensures)) ∙ call-end (s .args .d) (bits (s .args .b .now)) (s .args .p) (s .pre .1 .1)
 
 abbrev skip-pairs-Inv-loop : skip-pairs-lts.InvT-loop
 skip-pairs-Inv-loop b p d n cur₀ i₀ cur i = Passed (string then param d) (bits b) n i cur (end (pairs (param d)) (bits b) p)
@@ -201,9 +210,12 @@ pub +skip-call+skip-pairs+skip-param+skip-params-spec : {M : Type 1} → stateme
     (skip-call-at t)
     skip-call.Post
     (skip-call-skip-param-requires t)
+    (skip-call-field-requires t)
+    (skip-call-add-result t)
+    (skip-call-returns t)
     (skip-call-skip-params-requires t)
     (skip-call-skip-pairs-requires t)
-    (skip-call-returns t))
+    (skip-call-returns-2 t))
     (λ t. skip-pairs-lts.spec (skip-pairs-claims t)
     (skip-pairs-at t)
     skip-pairs.Post
