@@ -1,5 +1,5 @@
 -- Where a part stands: what stands behind its tag, and where it ends.
-use Prim.Native.Nat.{ℕ, zero, suc, _+_, _-_, _≤_, _<_}
+use Prim.Native.Nat.{ℕ, zero, suc, _+_, _-_, _*_, _/_, _%_, _≤_, _<_}
 use mathlib.Core.Logic.{inl, inr}
 use mathlib.Core.Path.{_≡_, refl, sym, ap, _∙_, subst}
 use native.Mathlib.Omega.{arith}
@@ -7,12 +7,14 @@ use borrow.Author.Tests.{leb-true}
 use Rattle.rules.specs.Bytes.{Bytes}
 use Rattle.rules.specs.Bits.{Bits}
 use Rattle.rules.specs.Layout.{read, onward, field, num, _then_, shaped, tested, tagged}
+use Rattle.rules.specs.LayoutLaws.{Binary, field-lt}
 use Rattle.rules.specs.Bundle.{string, option-out, option-make, seg-out, seg-make, seg, segs, level, PathKind, path-out, path-make, path}
 use Rattle.rules.specs.Bundle.{twos-complement, top-bit-set, below-zero, literal-out, literal-make, literal, names-out, names-make, block-names, indent}
+use Rattle.bits.specs.Fields.{field-append}
 use Rattle.layout.specs.Arms.{seg-kinds, seg-0, path-kinds, path-0, path-1, literal-kinds, literal-3, literal-4, literal-5}
 use Rattle.layout.specs.Arms.{names-kinds, names-1, names-2, option-kinds, option-1}
-use Rattle.parts.specs.Holds.{Holds, end}
-use Rattle.parts.specs.HoldsLaws.{Then, then-holds, Same, shaped-holds, tested-holds, counted-holds, num-holds, moved, moved-found, end-is, tag-fits, kind-holds, kind-stood, kind-never}
+use Rattle.parts.specs.Holds.{Holds, end, row}
+use Rattle.parts.specs.HoldsLaws.{Then, then-holds, Same, shaped-holds, tested-holds, counted-holds, more-holds, none-left, num-holds, moved, moved-found, end-is, tag-fits, kind-holds, kind-stood, kind-never, string-end, string-in}
 
 -- what is two or more, or one or more, is that and the rest
 pub one-more : (n : ℕ) → (n ≡ 0 → ⊥) → suc (n - 1) ≡ n
@@ -50,6 +52,34 @@ module _ (b : Bits) (p : ℕ) (H : Holds seg b p) where
       at (suc zero) e h = seg-root e .0
       at (suc (suc zero)) e h = seg-up e .0
       at (suc (suc (suc k))) e h = seg-never k e
+
+-- the code's view of a segment: x is its kind and, behind that, the count of its string if it has one
+module _ (b : Bits) (bin : Binary b) (p : ℕ) (H : Holds seg b p) (x : ℕ) (hx : x ≡ field b 18 p) where
+  kind-and-count : x ≡ field b 2 p * 65536 + field b 16 (p + 2)
+  kind-and-count = hx ∙ field-append b 2 16 p
+
+  count-low : field b 16 (p + 2) < 65536
+  count-low = field-lt b bin 16 (p + 2)
+
+  pub kind-named : x < 65536 → 0 ≡ field b 2 p
+  kind-named h = omega (arith, kind-and-count)
+
+  pub kind-root : 65536 ≤ x → x < 131072 → 1 ≡ field b 2 p
+  kind-root h l = omega (arith, kind-and-count, count-low)
+
+  pub kind-up : 131072 ≤ x → suc (suc (field b 2 p - 2)) ≡ field b 2 p
+  kind-up h = omega (arith, kind-and-count, count-low)
+
+  -- the end of a name
+  pub named-end : x < 65536 → (p + 2 + 16 + 8 * x ≡ end string b (p + 2)) × (p + 2 + 16 + 8 * x ≡ end seg b p) × (p + 2 + 16 + 8 * x ≤ b .size)
+  named-end h =
+      let m = seg-named b p H (sym (kind-named h)) in
+      let e : field b 16 (p + 2) ≡ x = omega (arith, kind-and-count, kind-named h) in
+      let z : p + 2 + 16 + 8 * x ≡ end string b (p + 2) = omega (arith, string-end b (p + 2) (m .inner)) in
+      (z, z ∙ m .ends, omega (arith, string-in b (p + 2) (m .inner)))
+
+  pub unnamed-end : 65536 ≤ x → p + 2 ≡ end seg b p
+  unnamed-end h = seg-bare b p H (λ e. absurd (omega (arith, kind-and-count, count-low)))
 
 -- Paths: the kind stands behind the raw string
 
@@ -150,6 +180,66 @@ module _ (b : Bits) (p : ℕ) (H : Holds path b p) (q k : ℕ) (hq : q ≡ end s
       let n = level-name b (end string b p + 1) (m .inner) in
       let e : end string b p + 1 + 8 ≡ q + 9 = omega arith in
       subst (λ (n : ℕ). Same string b n (λ s. Unit {0}) (end path b p)) e (record { inner = n .inner; ends = n .ends ∙ m .ends; is = tt })
+
+-- x is a path's kind and, behind that, its count or level
+module _ (b : Bits) (bin : Binary b) (q x : ℕ) (hx : x ≡ field b 9 q) where
+  kind-and-number : x ≡ field b 1 q * 256 + field b 8 (q + 1)
+  kind-and-number = hx ∙ field-append b 1 8 q
+
+  number-low : field b 8 (q + 1) < 256
+  number-low = field-lt b bin 8 (q + 1)
+
+  pub kind-relative : x < 256 → (field b 1 q ≡ 0) × (x ≡ field b 8 (q + 1))
+  kind-relative h = let e : field b 1 q ≡ 0 = omega (arith, kind-and-number) in (e, omega (arith, kind-and-number))
+
+  pub kind-local : 256 ≤ x → (field b 1 q ≡ 0 → ⊥) × (x - 256 ≡ field b 8 (q + 1))
+  kind-local h =
+      let e : field b 1 q ≡ 1 = omega (arith, kind-and-number, number-low, field-lt b bin 1 q) in
+      (λ z. omega arith, omega (arith, kind-and-number))
+
+-- the same way, with y the kind, the count or level, and behind them the 18 bits that a first segment's kind and count would be
+module _ (b : Bits) (bin : Binary b) (p : ℕ) (H : Holds path b p) (q y : ℕ) (hq : q ≡ end string b p) (hy : y ≡ field b 27 q) where
+  head-and-first : y ≡ field b 9 q * 262144 + field b 18 (q + 9)
+  head-and-first = hy ∙ field-append b 9 18 q
+
+  first-low : field b 18 (q + 9) < 262144
+  first-low = field-lt b bin 18 (q + 9)
+
+  head-is : y / 262144 ≡ field b 9 q
+  head-is = omega (arith, head-and-first, first-low)
+
+  -- n segments
+  segments : (n : ℕ) → field b 1 q ≡ 0 → n ≡ field b 8 (q + 1) → Holds (row seg n) b (q + 9) × (end (row seg n) b (q + 9) ≡ end path b p)
+  segments n e f =
+      let m = skip-relative b p H q (field b 1 q) hq refl e in
+      let k = counted-holds 8 seg b (q + 1) (m .inner) in
+      let z : q + 1 + 8 ≡ q + 9 = omega arith in
+      let at : Holds (row seg (field b 8 (q + 1))) b (q + 9) × (end (row seg (field b 8 (q + 1))) b (q + 9) ≡ end path b p) =
+      rw (← z) (k .inner, k .ends ∙ m .ends) in
+      rw f at
+
+  pub skip-row : y / 262144 < 256 → Holds (row seg (y / 262144)) b (q + 9) × (end (row seg (y / 262144)) b (q + 9) ≡ end path b p)
+  skip-row h = let k = kind-relative b bin q (y / 262144) head-is h in segments (y / 262144) (k .0) (k .1)
+
+  pub skip-none : y < 262144 → q + 9 ≡ end path b p
+  skip-none h =
+      let z : 0 ≡ field b 9 q = omega (arith, head-and-first) in
+      let k = kind-relative b bin q 0 z (omega arith) in
+      sym (none-left seg b (q + 9)) ∙ segments 0 (k .0) (k .1) .1
+
+  pub skip-one : y / 65536 ≡ 4 → (q + 27 + 8 * (y % 65536) ≡ end path b p) × (q + 27 + 8 * (y % 65536) ≤ b .size)
+  skip-one h =
+      let z : 1 ≡ field b 9 q = omega (arith, head-and-first, first-low) in
+      let x : y % 65536 ≡ field b 18 (q + 9) = omega (arith, head-and-first, first-low) in
+      let k = kind-relative b bin q 1 z (omega arith) in
+      let s = segments 1 (k .0) (k .1) in
+      let m = more-holds seg 0 b (q + 9) (s .0) in
+      let n = named-end b bin (q + 9) (m .first) (y % 65536) x (omega arith) in
+      let e : q + 27 + 8 * (y % 65536) ≡ q + 9 + 2 + 16 + 8 * (y % 65536) = omega arith in
+      (e ∙ n .1 ∙ sym (none-left seg b (end seg b (q + 9))) ∙ m .ends ∙ s .1, rw e (n .2))
+
+  pub skip-name : 256 ≤ y / 262144 → Same string b (q + 9) (λ s. Unit {0}) (end path b p)
+  skip-name h = skip-local b p H q (field b 1 q) hq refl (kind-local b bin q (y / 262144) head-is h .0)
 
 -- Literals
 

@@ -6,9 +6,9 @@ ghost use Prim.Native.Nat.{_≤_};
 ghost use lib.ListN.{length};
 ghost use Rattle.rules.specs.Bytes.{same};
 ghost use Rattle.rules.specs.Bits.{bits};
-ghost use Rattle.rules.specs.Bundle.{string, seg, segs, path, literal, block-names, indent};
+ghost use Rattle.rules.specs.Bundle.{string, seg, path, literal, block-names, indent};
 ghost use Rattle.layout.specs.Text.{text-at};
-ghost use Rattle.parts.specs.Holds.{Holds, end};
+ghost use Rattle.parts.specs.Holds.{Holds, end, row};
 ghost use Rattle.parts.specs.Views.{text-view, segment-view, path-view, literal-view, names-view, maybe-view};
 
 // The place behind the string at p.
@@ -57,12 +57,13 @@ pub fn segment_at(b: &[u8], p: usize) -> Segment
     requires { ⌜ (length (now b) ≤ 65536) × Holds seg (bits (now b)) p ⌝ }
     ensures { λ r. ⌜ r ≡ segment-view (bits (now (b .entry))) p ⌝ }
 {
-    let k = bits::field(b, p, 2);
+    // the kind, and the count of the string that a name is
+    let x = bits::field(b, p, 18);
     let q = p + 2;
-    if k == 0 {
-        return Segment::Named(q, skip_string(b, q));
+    if x < 65536 {
+        return Segment::Named(q, q + 16 + 8 * (x as usize));
     }
-    if k == 1 {
+    if x < 131072 {
         return Segment::Root(q);
     }
     Segment::Up(q)
@@ -73,21 +74,20 @@ fn skip_segment(b: &[u8], p: usize) -> usize
     requires { ⌜ (length (now b) ≤ 65536) × Holds seg (bits (now b)) p ⌝ }
     ensures { λ r. ⌜ r ≡ end seg (bits (now (b .entry))) p ⌝ }
 {
-    let k = bits::field(b, p, 2);
+    let x = bits::field(b, p, 18);
     let q = p + 2;
-    if k == 0 {
-        return skip_string(b, q);
+    if x < 65536 {
+        return q + 16 + 8 * (x as usize);
     }
     q
 }
 
-// The place behind the segments at p.
-fn skip_segments(b: &[u8], p: usize) -> usize
-    requires { ⌜ (length (now b) ≤ 65536) × Holds segs (bits (now b)) p ⌝ }
-    ensures { λ r. ⌜ r ≡ end segs (bits (now (b .entry))) p ⌝ }
+// The place behind the n segments at p.
+fn skip_row(b: &[u8], p: usize, n: u64) -> usize
+    requires { ⌜ (length (now b) ≤ 65536) × Holds (row seg n) (bits (now b)) p ⌝ }
+    ensures { λ r. ⌜ r ≡ end (row seg n) (bits (now (b .entry))) p ⌝ }
 {
-    let n = bits::field(b, p, 8);
-    let mut cur = p + 8;
+    let mut cur = p;
     let mut i: u64 = 0;
     while i < n {
         cur = skip_segment(b, cur);
@@ -109,12 +109,12 @@ pub fn path_at(b: &[u8], p: usize) -> Path
     ensures { λ r. ⌜ r ≡ path-view (bits (now (b .entry))) p ⌝ }
 {
     let q = skip_string(b, p);
-    let k = bits::field(b, q, 1);
-    let n = bits::field(b, q + 1, 8);
-    if k == 0 {
-        return Path::Relative(n, q + 9);
+    // the local bit, and the count or the level
+    let x = bits::field(b, q, 9);
+    if x < 256 {
+        return Path::Relative(x, q + 9);
     }
-    Path::Local(n, q + 9)
+    Path::Local(x - 256, q + 9)
 }
 
 // The place behind the path at p.
@@ -123,9 +123,18 @@ pub fn skip_path(b: &[u8], p: usize) -> usize
     ensures { λ r. ⌜ r ≡ end path (bits (now (b .entry))) p ⌝ }
 {
     let q = skip_string(b, p);
-    let k = bits::field(b, q, 1);
-    if k == 0 {
-        return skip_segments(b, q + 1);
+    // the local bit, the count or the level, and a first segment's kind and count
+    let y = bits::field(b, q, 27);
+    if y < 262144 {
+        return q + 9;
+    }
+    // one segment, which is a name
+    if y / 65536 == 4 {
+        return q + 27 + 8 * ((y % 65536) as usize);
+    }
+    let n = y / 262144;
+    if n < 256 {
+        return skip_row(b, q + 9, n);
     }
     skip_string(b, q + 9)
 }
