@@ -1,5 +1,5 @@
 -- What the readers meet on their way: the parts of an element at the places that the code has worked out, and the answers made of them.
-use Prim.Native.Nat.{ℕ, zero, suc, _+_, _-_, _≤_}
+use Prim.Native.Nat.{ℕ, zero, suc, _+_, _-_, _%_, _≤_, _<_}
 use mathlib.Core.Bool.{Bool}
 use mathlib.Core.Path.{_≡_, refl, sym, ap, _∙_}
 use native.Mathlib.Omega.{arith}
@@ -8,7 +8,7 @@ use Rattle.rules.specs.Layout.{Layout, field, _then_}
 use Rattle.rules.specs.Bundle.{string, flag, block-names, indent, param, call-of, maybe-body, element-of, body}
 use Rattle.rules.specs.Template as rule
 use Rattle.parts.specs.Holds.{Holds, end}
-use Rattle.parts.specs.HoldsLaws.{moved}
+use Rattle.parts.specs.HoldsLaws.{moved, Same}
 use Rattle.parts.specs.Views.{maybe-view}
 use Rattle.parts.specs.Parts.{indent-fits}
 use Rattle.parts.specs.declared.Maybe.{Maybe}
@@ -125,6 +125,9 @@ module _ (w d : ℕ) (b : Bits) (p : ℕ) (H : Holds (call-of (param d) then blo
           block-fits =
               (maybe-fits (body w d) b t block-template, maybe-fits (body w d) b i block-inverse, omega (arith, at-flag, block .fits))
 
+          pub block-ends : f + 1 ≡ end (call-of (param d) then block-names then maybe-body (body w d) then maybe-body (body w d) then flag) b p
+          block-ends = ap (λ (n : ℕ). n + 1) at-flag ∙ block .ends
+
           pub block-made : (x y : Maybe) → x ≡ maybe-view b t → y ≡ maybe-view b i → (g : Bool) → g ≡ flag-at b f
               → _≡_ {A = Block} (record { names = n; template = x; inverse = y; before = g; next = f + 1 }) (block-view w d b p)
           block-made x y hx hy g hg =
@@ -186,6 +189,9 @@ module _ (w d : ℕ) (b : Bits) (p : ℕ) (H : Holds (element-of (call-of (param
       let m = helper-holds w d b p H (kind 3 e) in
       ap (λ (r : Block). content-of (HelperBlock (p + 4) (r .names) (r .template) (r .inverse) (r .before)) (r .next)) h
       ∙ seen 3 e _ (block-holds w d b (p + 4) (m .inner) .ends ∙ m .ends)
+
+  pub helper-end : k ≡ 3 → end (call-of (param d) then block-names then maybe-body (body w d) then maybe-body (body w d) then flag) b (p + 4) ≡ end E b p
+  helper-end e = helper-holds w d b p H (kind 3 e) .ends
 
   tail-next : (q : ℕ) (T : Holds (indent then flag) b q) → tail-view b q .next ≡ end (indent then flag) b q
   tail-next q T = tail-end b q T
@@ -251,6 +257,91 @@ module _ (w d : ℕ) (b : Bits) (p : ℕ) (H : Holds (element-of (call-of (param
 
   pub comment-seen : 8 ≤ k → (n : ℕ) → n ≡ end string b (p + 4) → content-of (Comment (p + 4)) n ≡ content-view w d b p
   comment-seen h n e = seen 8 (last-kind h) n (e ∙ comment-holds w d b p H (kind 8 (last-kind h)) .ends)
+
+  -- The way past the content, by the tests that `skip_content` makes of its kind
+
+  abbrev Row : {A : Type 0} → Layout A → Type 0
+  Row c = Same c b (p + 4) (λ x. Unit {0}) (end E b p)
+
+  row-of : {A : Type 0} {c : Layout A} {t : A → Type 0} → Same c b (p + 4) t (end E b p) → Row c
+  row-of m = record { inner = m .inner; ends = m .ends; is = tt }
+
+  no-more-kinds : 9 ≤ k → ⊥
+  no-more-kinds h = omega (arith, last-kind (omega arith))
+
+  pub text-here : k % 8 ≡ 0 → Row string
+  text-here h = at k refl
+    where
+      at : (j : ℕ) → k ≡ j → Row string
+      at zero e = row-of (raw-string-holds w d b p H (kind 0 e))
+      at (suc j) e = row-of (comment-holds w d b p H (kind 8 (last-kind (omega arith))))
+
+  pub call-here : (k % 8 ≡ 0 → ⊥) → Holds (call-of (param d)) b (p + 4)
+  call-here g = at k refl
+    where
+      at : (j : ℕ) → k ≡ j → Holds (call-of (param d)) b (p + 4)
+      at zero e = absurd (g (omega arith))
+      at (suc zero) e = written-holds w d b (p + 4) (html-at e) .call
+      at (suc (suc zero)) e = written-holds w d b (p + 4) (expression-at e) .call
+      at (suc (suc (suc zero))) e = block-holds w d b (p + 4) (helper-at e) .call
+      at (suc (suc (suc (suc zero)))) e = bodiless-holds w d b (p + 4) (decorator-at e) .call
+      at (suc (suc (suc (suc (suc zero))))) e = bodied-holds w d b (p + 4) (decorator-block-at e) .call
+      at (suc (suc (suc (suc (suc (suc zero)))))) e = bodiless-holds w d b (p + 4) (partial-at e) .call
+      at (suc (suc (suc (suc (suc (suc (suc zero))))))) e = bodied-holds w d b (p + 4) (partial-block-at e) .call
+      at (suc (suc (suc (suc (suc (suc (suc (suc j)))))))) e = absurd (g (omega (arith, last-kind (omega arith))))
+
+  -- 1 and 2, 4 and 6, 5 and 7
+  module _ (g : k % 8 ≡ 0 → ⊥) where
+    written-row : k < 3 → Row (call-of (param d) then flag)
+    written-row h = at k refl
+      where
+        at : (j : ℕ) → k ≡ j → Row (call-of (param d) then flag)
+        at zero e = absurd (g (omega arith))
+        at (suc zero) e = row-of (html-holds w d b p H (kind 1 e))
+        at (suc (suc j)) e = row-of (expression-holds w d b p H (kind 2 (omega arith)))
+
+    bodiless-row : 4 ≤ k → k % 2 ≡ 0 → Row (call-of (param d) then indent then flag)
+    bodiless-row l h = at (k - 4) (omega arith)
+      where
+        at : (j : ℕ) → k ≡ 4 + j → Row (call-of (param d) then indent then flag)
+        at zero e = row-of (decorator-holds w d b p H (kind 4 e))
+        at (suc j) e = row-of (partial-holds w d b p H (kind 6 (omega (arith, no-more-kinds))))
+
+    bodied-row : 4 ≤ k → (k % 2 ≡ 0 → ⊥) → Row (call-of (param d) then body w d then indent then flag)
+    bodied-row l h = at (k - 5) (omega arith)
+      where
+        at : (j : ℕ) → k ≡ 5 + j → Row (call-of (param d) then body w d then indent then flag)
+        at zero e = row-of (decorator-block-holds w d b p H (kind 5 e))
+        at (suc j) e = row-of (partial-block-holds w d b p H (kind 7 (omega (arith, no-more-kinds))))
+
+    -- f is the place behind the call
+    module _ (f : ℕ) (hf : f ≡ call-end d b (p + 4)) where
+      pub written-skip : k < 3 → (f + 1 ≡ end E b p) × (f + 1 ≤ b .size)
+      written-skip h =
+          let m = written-row h in
+          let r = written-holds w d b (p + 4) (m .inner) in
+          (ap (λ (n : ℕ). n + 1) hf ∙ r .ends ∙ m .ends, omega (arith, r .fits))
+
+      pub bodiless-here : 4 ≤ k → k % 2 ≡ 0 → Same (indent then flag) b f (λ x. Unit {0}) (end E b p)
+      bodiless-here l h =
+          let m = bodiless-row l h in
+          let r = bodiless-holds w d b (p + 4) (m .inner) in
+          record { inner = moved (indent then flag) b _ _ (sym hf) (r .tail); ends = ap (end (indent then flag) b) hf ∙ r .ends ∙ m .ends; is = tt }
+
+      module _ (l : 4 ≤ k) (h : k % 2 ≡ 0 → ⊥) where
+        pub bodied-here : Holds (body w d) b f
+        bodied-here = bodied-body w d b (p + 4) (bodied-row l h .inner) f hf
+
+        pub bodied-behind : (z : ℕ) → z ≡ end (body w d) b f → Same (indent then flag) b z (λ x. Unit {0}) (end E b p)
+        bodied-behind z hz =
+            let m = bodied-row l h in
+            let r = bodied-holds w d b (p + 4) (m .inner) in
+            let e : z ≡ body-end w d b (p + 4) = hz ∙ ap (end (body w d) b) hf in
+            record { inner = moved (indent then flag) b _ _ (sym e) (r .tail); ends = ap (end (indent then flag) b) e ∙ r .ends ∙ m .ends; is = tt }
+
+  -- an indent, and at z the bit that ends the content
+  pub tail-skip : (f : ℕ) → Same (indent then flag) b f (λ x. Unit {0}) (end E b p) → (z : ℕ) → z ≡ end indent b f → (z + 1 ≡ end E b p) × (z + 1 ≤ b .size)
+  tail-skip f m z hz = (ap (λ (n : ℕ). n + 1) hz ∙ tail-end b f (m .inner) ∙ m .ends, tail-here b f (m .inner) z hz .1)
 
 -- An element with its line and column: the content stands behind them
 

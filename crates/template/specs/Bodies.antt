@@ -47,6 +47,10 @@ module _ (w : ℕ) (c : Layout rule.Call) (t : Layout rule.Template) (b : Bits) 
   pub placed-end : end (element-of c t) b (p + w + w) ≡ end (placed w c t) b p
   placed-end = ap (end (element-of c t) b) kind-place ∙ columned .ends ∙ lined .ends
 
+  -- r is the place behind the content
+  pub placed-next : (r : ℕ) → r ≡ end (element-of c t) b (p + w + w) → r ≡ end (placed w c t) b p
+  placed-next r e = e ∙ placed-end
+
   pub placed-is : (field b w p, (field b w (p + w), placed-holds .found)) ≡ H .found
   unfolding placed-holds
   placed-is =

@@ -162,6 +162,33 @@ fn skip_maybe(b: &[u8], p: usize, w: usize, d: usize) -> usize
     skip_body(b, q, w, d)
 }
 
+// The place behind the content whose kind stands at p.
+fn skip_content(b: &[u8], p: usize, w: usize, d: usize) -> usize
+    requires { ⌜ (length (now b) ≤ 65536) × Holds (element-of (call-of (param d)) (body w d)) (bits (now b)) p ⌝ }
+    ensures { λ r. ⌜ r ≡ end (element-of (call-of (param d)) (body w d)) (bits (now (b .entry))) p ⌝ }
+{
+    let k = bits::field(b, p, 4);
+    let q = p + 4;
+    // 0 and 8 hold a string, every other kind a call
+    if k % 8 == 0 {
+        return parts::skip_string(b, q);
+    }
+    let f = calls::skip_call(b, q, d);
+    if k < 3 {
+        return f + 1;
+    }
+    if k == 3 {
+        let template = parts::skip_block_names(b, f);
+        let inverse = skip_maybe(b, template, w, d);
+        return skip_maybe(b, inverse, w, d) + 1;
+    }
+    // 4 and 6 have no body
+    if k % 2 == 0 {
+        return parts::skip_indent(b, f) + 1;
+    }
+    parts::skip_indent(b, skip_body(b, f, w, d)) + 1
+}
+
 // The content whose kind stands at p.
 fn content_at(b: &[u8], p: usize, w: usize, d: usize) -> Content
     requires { ⌜ (length (now b) ≤ 65536) × Holds (element-of (call-of (param d)) (body w d)) (bits (now b)) p ⌝ }
@@ -227,8 +254,7 @@ pub fn skip_body(b: &[u8], p: usize, w: usize, d: usize) -> usize
     let mut cur = p + 12;
     let mut i: u64 = 0;
     while i < n {
-        let e = content_at(b, cur + w + w, w, d - 1);
-        cur = e.next;
+        cur = skip_content(b, cur + w + w, w, d - 1);
         i += 1;
     }
     cur
