@@ -12,7 +12,7 @@ use Rattle.parts.specs.HoldsLaws.{moved, Same}
 use Rattle.parts.specs.Views.{maybe-view}
 use Rattle.parts.specs.Parts.{indent-fits}
 use Rattle.parts.specs.declared.Maybe.{Maybe}
-use Rattle.template.specs.Views.{flag-at, tail-view, call-end, flagged-view, names-end, template-end, inverse-end, body-end, bodied-view, block-view, kind-view, content-of, content-view, element-view}
+use Rattle.template.specs.Views.{flag-at, tail-view, call-end, flagged-view, names-end, template-end, inverse-end, body-end, bodied-view, block-view, kind-view, content-of, content-view, element-view, placed-element-is}
 use Rattle.template.specs.Content.{tail-indent, tail-fits, tail-end, maybe-fits, FlaggedHolds, written-holds, BodilessHolds, bodiless-holds, BodiedHolds, bodied-holds, BlockHolds, block-holds}
 use Rattle.template.specs.Content.{raw-string-holds, html-holds, expression-holds, helper-holds, decorator-holds, decorator-block-holds, partial-holds, partial-block-holds, comment-holds, element-never}
 use Rattle.template.specs.declared.Element.the-variants.{RawString, HtmlExpression, Expression, HelperBlock, DecoratorExpression, DecoratorBlock, PartialExpression, PartialBlock, Comment}
@@ -348,6 +348,6 @@ module _ (w d : ℕ) (b : Bits) (p : ℕ) (H : Holds (element-of (call-of (param
 module _ (w d : ℕ) (b : Bits) (p : ℕ) (x : Content) (hx : x ≡ content-view w d b (p + w + w)) (l k : ℕ) (hl : l ≡ field b w p) (hk : k ≡ field b w (p + w)) where
   pub element-made : _≡_ {A = ElementAt} (record { line = l; column = k; element = x .element; next = x .next }) (element-view w d b p)
   element-made =
-      ap (λ (x : Content). record { line = l; column = k; element = x .element; next = x .next }) hx
-      ∙ ap (λ (l : ℕ). record { line = l; column = k; element = content-view w d b (p + w + w) .element; next = content-view w d b (p + w + w) .next }) hl
-      ∙ ap (λ (k : ℕ). record { line = field b w p; column = k; element = content-view w d b (p + w + w) .element; next = content-view w d b (p + w + w) .next }) hk
+      ap (λ (l : ℕ). record { line = l; column = k; element = x .element; next = x .next }) hl
+      ∙ ap (λ (k : ℕ). record { line = field b w p; column = k; element = x .element; next = x .next }) hk
+      ∙ placed-element-is w d b p x hx

@@ -1,6 +1,7 @@
 -- Elements and bodies: what the readers answer, what the answers say as the rules have it, and what stands at their places.
 use Prim.Native.Nat.{ℕ, zero, suc, _+_, _-_}
 use mathlib.Core.Bool.{Bool}
+use mathlib.Core.Path.{_≡_, ap}
 use lib.Dec.{eqb}
 use Rattle.rules.specs.Template as rule
 use Rattle.rules.specs.Bits.{Bits}
@@ -101,6 +102,17 @@ element-view w d b p = record {
   element = content-view w d b (p + w + w) .element;
   next = content-view w d b (p + w + w) .next;
 }
+
+-- an element of which only the content was read, with the line and column that stand before it
+abbrev pub placed-element : ℕ → Bits → ℕ → Content → ElementAt
+placed-element w b p x = record { line = field b w p; column = field b w (p + w); element = x .element; next = x .next }
+
+pub placed-element-is : (w d : ℕ) (b : Bits) (p : ℕ) (x : Content) → x ≡ content-view w d b (p + w + w) → placed-element w b p x ≡ element-view w d b p
+placed-element-is w d b p x e = ap (placed-element w b p) e
+
+-- and of an element that was read, its content
+pub element-content : (w d : ℕ) (b : Bits) (p : ℕ) (v : ElementAt) → v ≡ element-view w d b p → content-of (v .element) (v .next) ≡ content-view w d b (p + w + w)
+element-content w d b p v e = ap (λ (v : ElementAt). content-of (v .element) (v .next)) e
 
 abbrev pub body-view : Bits → ℕ → Body
 body-view b p = record { count = field b 12 p; first = p + 12 }

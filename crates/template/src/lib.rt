@@ -43,10 +43,10 @@ pub struct Body {
     pub first: usize,
 }
 
-// What stands behind a kind, and the place behind it.
-struct Content {
-    element: Element,
-    next: usize,
+// An element without its line and column, and the place behind it.
+pub struct Content {
+    pub element: Element,
+    pub next: usize,
 }
 
 // Behind a call, or a call and bodies: the `indent_before_write` bit, and the place behind it.
@@ -189,8 +189,8 @@ fn skip_content(b: &[u8], p: usize, w: usize, d: usize) -> usize
     parts::skip_indent(b, skip_body(b, f, w, d)) + 1
 }
 
-// The content whose kind stands at p.
-fn content_at(b: &[u8], p: usize, w: usize, d: usize) -> Content
+// The element whose kind stands at p, behind its line and column.
+pub fn content_at(b: &[u8], p: usize, w: usize, d: usize) -> Content
     requires { ⌜ (length (now b) ≤ 65536) × Holds (element-of (call-of (param d)) (body w d)) (bits (now b)) p ⌝ }
     ensures { λ r. ⌜ r ≡ content-view w d (bits (now (b .entry))) p ⌝ }
 {
