@@ -1,19 +1,27 @@
 -- The helper whose name a text is, by its first byte, and what prints no such name.
-use Prim.Native.Nat.{ℕ, zero, suc, _+_, _/_, _%_, _<_}
+use Prim.Native.Nat.{ℕ, zero, suc, _+_, _*_, _/_, _%_, _<_}
 use native.Mathlib.Omega.{arith}
 use mathlib.Core.Bool.{Bool, true, false}
 use mathlib.Core.List.{List, [], _∷_}
 use mathlib.Core.Option.{none, some}
-use mathlib.Core.Path.{_≡_, refl, ap, _∙_}
+use mathlib.Core.Path.{_≡_, refl, sym, ap, _∙_}
 use lib.Dec.{ltb}
+use lib.ListN.{length, getD}
 use borrow.Author.Tests.{ne-eqb, ltb-true}
 use types.Run.{OneOf, miss}
 use denote.Enum.Declared.{tagOf}
 use Rattle.rules.specs.Bytes.{Bytes, pick, same, ascii, digits, digits-onto}
+use Rattle.rules.specs.Order.{same-eq}
 use Rattle.rules.specs.Json.{jbool}
+use Rattle.rules.specs.Bits.{Bits}
+use Rattle.rules.specs.Layout.{field}
+use Rattle.rules.specs.LayoutLaws.{Binary, field-lt}
 use Rattle.rules.specs.Value.{render}
 use Rattle.rules.specs.Registry as registry
 use Rattle.rules.specs.Registry.{get-helper}
+use Rattle.bits.specs.Fields.{field-append}
+use Rattle.bits.specs.Packed.{bytes-at, bytes-length, bytes-get}
+use Rattle.layout.specs.Text.{text-at}
 use Rattle.value.specs.declared.Value.{Value}
 use Rattle.meaning.proofs.Form.{the-type as form-type}
 use Rattle.meaning.specs.declared.Form.{Form}
@@ -67,6 +75,39 @@ module _ (n l : Bytes) (c : ℕ) (e : n ≡ c ∷ l) where
 
   pub get-none : (c ≡ 101 → ⊥) → (c ≡ 119 → ⊥) → (c ≡ 105 → ⊥) → (c ≡ 117 → ⊥) → (c ≡ 108 → ⊥) → Unknown ≡ helper-of (get-helper n)
   get-none f g h i j = rw (e, ne-eqb c 101 f, ne-eqb c 119 g, ne-eqb c 105 h, ne-eqb c 117 i, ne-eqb c 108 j)
+
+-- A string of the bundle: its count and its first byte are 24 bits
+
+module _ (b : Bits) (p : ℕ) where
+  pub text-first : Binary b → (k c : ℕ) → c < 256 → field b 24 p ≡ suc k * 256 + c → text-at b p ≡ c ∷ bytes-at b (p + 16 + 8) k
+  unfolding bytes-at
+  text-first bin k c lt e =
+      let n : field b 16 p ≡ suc k = omega (arith, field-append b 16 8 p, field-lt b bin 8 (p + 16)) in
+      let f : field b 8 (p + 16) ≡ c = omega (arith, field-append b 16 8 p, field-lt b bin 8 (p + 16)) in
+      rw (n, f)
+
+  -- where they are not those of a name
+  text-other : (c : ℕ) (l : Bytes) → (field b 24 p ≡ suc (length l) * 256 + c → ⊥) → same (text-at b p) (c ∷ l) ≡ false
+  text-other c l g = go (same (text-at b p) (c ∷ l)) refl
+    where
+      go : (x : Bool) → same (text-at b p) (c ∷ l) ≡ x → x ≡ false
+      go false e = refl
+      go true e =
+          let q = same-eq (text-at b p) (c ∷ l) e in
+          let n : field b 16 p ≡ suc (length l) = sym (bytes-length b (p + 16) (field b 16 p)) ∙ ap length q in
+          let z : p + 16 ≡ p + 16 + 8 * 0 = omega arith in
+          let f : field b 8 (p + 16) ≡ c = ap (field b 8) z ∙ sym (bytes-get b (p + 16) (field b 16 p) 0 (omega arith)) ∙ ap (λ (s : Bytes). getD s 0 0) q in
+          absurd (g (omega (arith, field-append b 16 8 p)))
+
+  pub get-elsewhere : (x : ℕ) → x ≡ field b 24 p → (x ≡ 1125 → ⊥) → (x ≡ 1143 → ⊥) → (x ≡ 617 → ⊥) → (x ≡ 1653 → ⊥) → (x ≡ 1644 → ⊥) → Unknown ≡ helper-of (get-helper (text-at b p))
+  get-elsewhere x e f g h i j =
+      rw (
+        text-other 101 (97 ∷ 99 ∷ 104 ∷ []) (λ q. f (e ∙ q)),
+        text-other 119 (105 ∷ 116 ∷ 104 ∷ []) (λ q. g (e ∙ q)),
+        text-other 105 (102 ∷ []) (λ q. h (e ∙ q)),
+        text-other 117 (110 ∷ 108 ∷ 101 ∷ 115 ∷ 115 ∷ []) (λ q. i (e ∙ q)),
+        text-other 108 (111 ∷ 111 ∷ 107 ∷ 117 ∷ 112 ∷ []) (λ q. j (e ∙ q)),
+      )
 
 -- Digits
 

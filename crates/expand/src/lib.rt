@@ -119,11 +119,50 @@ fn named_helper(s: &[u8], b: &[u8], t: Text) -> HelperDef
     HelperDef::Unknown
 }
 
+// A helper, where the string at p is its name.
+fn if_at(b: &[u8], p: usize, name: &[u8], helper: HelperDef) -> HelperDef
+    requires { ⌜ p ≤ 524288 ⌝ }
+    ensures { λ r. ⌜ r ≡ pick (same (text-at (bits (now (b .entry))) p) (now (name .entry))) helper HelperDef.Unknown ⌝ }
+{
+    if parts::text_is(b, p, name) {
+        return helper;
+    }
+    HelperDef::Unknown
+}
+
+// The helper whose name the string at p is. Its first 24 bits are its count and first byte, and few strings have those of a name:
+// 1125 is 4 * 256 + 101, the count and first byte of each.
+pub fn helper_at(b: &[u8], p: usize) -> HelperDef
+    requires { ⌜ p ≤ 524288 ⌝ }
+    ensures { λ r. ⌜ r ≡ helper-of (get-helper (text-at (bits (now (b .entry))) p)) ⌝ }
+{
+    let x = bits::field(b, p, 24);
+    if x == 1125 {
+        return if_at(b, p, b"each", HelperDef::Each);
+    }
+    if x == 1143 {
+        return if_at(b, p, b"with", HelperDef::With);
+    }
+    if x == 617 {
+        return if_at(b, p, b"if", HelperDef::If);
+    }
+    if x == 1653 {
+        return if_at(b, p, b"unless", HelperDef::Unless);
+    }
+    if x == 1644 {
+        return if_at(b, p, b"lookup", HelperDef::Lookup);
+    }
+    HelperDef::Unknown
+}
+
 // The helper whose name a value prints. Only a string prints one.
 pub fn get_helper(s: &[u8], tab: &[u64], b: &[u8], v: Value) -> HelperDef
     requires { ⌜ Accepted (now s) (now tab) × (length (now b) ≤ 65536) × Known (now s) (now b) v ⌝ }
     ensures { λ r. ⌜ Means (now (s .entry)) (now (b .entry)) v (λ j. r ≡ helper-of (get-helper (render j))) ⌝ }
 {
+    if let Value::Text(p) = v {
+        return helper_at(b, p);
+    }
     let Form::String(t) = meaning::form_of(s, tab, b, v) else {
         return HelperDef::Unknown;
     };
