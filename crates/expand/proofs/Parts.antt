@@ -253,6 +253,16 @@ module _ (s b : Bytes) (ent : List ℕ) (t d n p : ℕ) (g : Registry) (st : Ren
       subst (λ (k : ℕ). ExpandsHash (rules.expand-hash g st (hash-at d k (bits b) p)) y) (sym m)
       (subst (λ (x : template.Hash). ExpandsHash (rules.expand-hash g st x) y) (sym (hash-more d (n - 1) (bits b) p H′)) (paired-given s b ent t p _ _ r l y h′ k′ f))
 
+-- behind the only one there are none
+module _ (s b : Bytes) (ent : List ℕ) (t d n p : ℕ) (g : Registry) (st : RenderContext) (e : n ≡ 1) where
+  pub all-one : Holds (row (param d) n) (bits b) p → (r : Got) → Expands s b ent t (rules.expand g st (param-at d (bits b) p)) r → (y : Params) → y ≡ joined r (record { first = Missing; second = Missing; bad = 0 })
+      → ExpandsAll s b ent t n (rules.expand-all g st (params-at d n (bits b) p)) y
+  all-one H r h y f = all-more s b ent t d n p g st (λ z. omega arith) H r h _ refl _ (all-none s b ent t d (n - 1) (end (param d) (bits b) p) g st (omega arith)) y f
+
+  pub hash-one : Holds (row (string then param d) n) (bits b) p → (q : ℕ) → q ≡ end string (bits b) p → (r : Got) → Expands s b ent t (rules.expand g st (param-at d (bits b) q)) r → (y : Hash)
+      → Paired s b p r (record { zero = false; bad = 0 }) y → ExpandsHash (rules.expand-hash g st (hash-at d n (bits b) p)) y
+  hash-one H q eq r h y f = hash-one-more s b ent t d n p g st (λ z. omega arith) H q eq r h _ refl _ (hash-none s b ent t d (n - 1) (end (string then param d) (bits b) p) g st (omega arith)) y f
+
 -- The counts of a call have four bits
 
 pub few-params : (d : ℕ) (b : Bits) (p : ℕ) (v : Call) → Binary b → v ≡ call-view d b p → v .params < 16

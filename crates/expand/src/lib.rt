@@ -415,14 +415,19 @@ fn expand_all(
     requires { ⌜ Accepted (now s) (now tab) × (length (now b) ≤ 65536) × (0 < used) × (used ≤ 32) × ((t : ℕ) × ScopesStand (now s) (now b) (now ent) (scopes-of (now sc)) used t) × (n < 16) × Holds (row (param d) n) (bits (now b)) p × (length (now sc) ≡ 96) ⌝ }
     ensures { λ r. ⌜ ((g : Registry) (st : RenderContext) (t : ℕ) → Setting (now (s .entry)) (now (b .entry)) (now (ent .entry)) (scopes-of (now (sc .entry))) used options g st t → ExpandsAll (now (s .entry)) (now (b .entry)) (now (ent .entry)) t n (rules.expand-all g st (params-at d n (bits (now (b .entry))) p)) r) ⌝ }
 {
+    let none = Params {
+        first: Value::Missing,
+        second: Value::Missing,
+        bad: 0,
+    };
     if n == 0 {
-        return Params {
-            first: Value::Missing,
-            second: Value::Missing,
-            bad: 0,
-        };
+        return none;
     }
     let r = expand(s, tab, b, ent, sc, used, options, p, d);
+    // behind the last there are none: its end is not looked for
+    if n == 1 {
+        return joined(r, none);
+    }
     let next = calls::skip_param(b, p, d);
     let rest = expand_all(s, tab, b, ent, sc, used, options, next, n - 1, d);
     joined(r, rest)
@@ -443,14 +448,18 @@ fn expand_hash(
     requires { ⌜ Accepted (now s) (now tab) × (length (now b) ≤ 65536) × (0 < used) × (used ≤ 32) × ((t : ℕ) × ScopesStand (now s) (now b) (now ent) (scopes-of (now sc)) used t) × (n < 16) × Holds (row (string then param d) n) (bits (now b)) p × (length (now sc) ≡ 96) ⌝ }
     ensures { λ r. ⌜ ((g : Registry) (st : RenderContext) (t : ℕ) → Setting (now (s .entry)) (now (b .entry)) (now (ent .entry)) (scopes-of (now (sc .entry))) used options g st t → ExpandsHash (rules.expand-hash g st (hash-at d n (bits (now (b .entry))) p)) r) ⌝ }
 {
+    let none = Hash {
+        zero: false,
+        bad: 0,
+    };
     if n == 0 {
-        return Hash {
-            zero: false,
-            bad: 0,
-        };
+        return none;
     }
     let q = parts::skip_string(b, p);
     let r = expand(s, tab, b, ent, sc, used, options, q, d);
+    if n == 1 {
+        return paired(s, tab, b, p, r, none);
+    }
     let next = calls::skip_param(b, q, d);
     let rest = expand_hash(s, tab, b, ent, sc, used, options, next, n - 1, d);
     paired(s, tab, b, p, r, rest)

@@ -25,7 +25,7 @@ use Rattle.calls.proofs.param_at.Reads as param-at-reads
 use Rattle.calls.proofs.skip_param.Reads as skip-param-reads
 use Rattle.parts.proofs.skip_string.Reads as skip-string-reads
 use Rattle.expand.specs.Answers.{Expands, Names, IsTemplate, gathered}
-use Rattle.expand.proofs.Parts.{some-setting, expanded-held, got-known, named-given, gathered-given, row-first, row-rest, all-none, all-more, hash-none, hash-one-more, few-params, few-pairs}
+use Rattle.expand.proofs.Parts.{some-setting, expanded-held, got-known, named-given, gathered-given, row-first, row-rest, all-none, all-one, all-more, hash-none, hash-one, hash-one-more, few-params, few-pairs}
 use Rattle.scope.specs.Words.{scopes-of}
 use borrow.Author.Needs.{needs}
 use borrow.Fn.Kinds.{In}
@@ -126,13 +126,13 @@ abbrev expand-claims : ℕ → expand-lts.Claims
 expand-claims t = (param-at-reads.Asked, param-at-reads.Learnt, path-value-reads.Asked, path-value-reads.Learnt, try-from-template-below t, try-from-template.Post, finished-reads.Asked, finished-reads.Learnt)
 
 abbrev expand-all-claims : ℕ → expand-all-lts.Claims
-expand-all-claims t = (expand-below t, expand.Post, skip-param-reads.Asked, skip-param-reads.Learnt, expand-all-below t, expand-all.Post, joined-reads.Asked, joined-reads.Learnt)
+expand-all-claims t = (expand-below t, expand.Post, joined-reads.Asked, joined-reads.Learnt, skip-param-reads.Asked, skip-param-reads.Learnt, expand-all-below t, expand-all.Post)
 
 abbrev expand-as-name-claims : ℕ → expand-as-name-lts.Claims
 expand-as-name-claims t = (param-at-reads.Asked, param-at-reads.Learnt, try-from-template-below t, try-from-template.Post, finished-reads.Asked, finished-reads.Learnt)
 
 abbrev expand-hash-claims : ℕ → expand-hash-lts.Claims
-expand-hash-claims t = (skip-string-reads.Asked, skip-string-reads.Learnt, expand-below t, expand.Post, skip-param-reads.Asked, skip-param-reads.Learnt, expand-hash-below t, expand-hash.Post, paired-reads.Asked, paired-reads.Learnt)
+expand-hash-claims t = (skip-string-reads.Asked, skip-string-reads.Learnt, expand-below t, expand.Post, paired-reads.Asked, paired-reads.Learnt, skip-param-reads.Asked, skip-param-reads.Learnt, expand-hash-below t, expand-hash.Post)
 
 abbrev try-from-template-claims : ℕ → try-from-template-lts.Claims
 try-from-template-claims t = (call-at-reads.Asked, call-at-reads.Learnt, expand-as-name-below t, expand-as-name.Post, expand-all-below t, expand-all.Post, expand-hash-below t, expand-hash.Post, gathered-reads.Asked, gathered-reads.Learnt)
@@ -182,20 +182,26 @@ expand-all-returns t c = let z = c .before .before .before .before .before .befo
 expand-all-expand-requires : (t : ℕ) → expand-all-lts.Need-expand-requires (expand-all-claims t) (expand-all-at t) expand-all.Post
 expand-all-expand-requires t c κs = let z = c .before .before .before .before .before .before in (omega arith, (z .pre .1 .0, z .pre .1 .1, z .pre .1 .2, z .pre .1 .3, z .pre .1 .4, row-first (param (z .args .d)) (z .args .n) (bits (z .args .b .now)) (z .args .p) (c .if1 .left) (z .pre .1 .6), z .pre .1 .7))
 
-expand-all-skip-param-requires : (t : ℕ) → expand-all-lts.Need-skip-param-requires (expand-all-claims t) (expand-all-at t) expand-all.Post
-expand-all-skip-param-requires t c κs = let z = c .before .before .before .before .before .before .before in (z .pre .1 .1, row-first (param (z .args .d)) (z .args .n) (bits (z .args .b .now)) (z .args .p) (c .before .if1 .left) (z .pre .1 .6))
-
-expand-all-sub-expand-all : (t : ℕ) → expand-all-lts.Need-sub-expand-all (expand-all-claims t) (expand-all-at t) expand-all.Post
-expand-all-sub-expand-all t c = omega (arith, c .before .before .if1 .left)
-
-expand-all-expand-all-requires : (t : ℕ) → expand-all-lts.Need-expand-all-requires (expand-all-claims t) (expand-all-at t) expand-all.Post
-expand-all-expand-all-requires t c κs = let z = c .before .before .before .before .before .before .before .before in (omega (arith, c .before .before .if1 .left), (z .pre .1 .0, z .pre .1 .1, z .pre .1 .2, z .pre .1 .3, z .pre .1 .4, omega (arith, z .pre .1 .5), row-rest (param (z .args .d)) (z .args .n) (bits (z .args .b .now)) (z .args .p) (c .before .before .if1 .left) (z .pre .1 .6) _ (c .skip-param .ensures), z .pre .1 .7))
-
 expand-all-joined-requires : (t : ℕ) → expand-all-lts.Need-joined-requires (expand-all-claims t) (expand-all-at t) expand-all.Post
 expand-all-joined-requires t c κs = search needs
 
 expand-all-returns-2 : (t : ℕ) → expand-all-lts.Need-returns-2 (expand-all-claims t) (expand-all-at t) expand-all.Post
-expand-all-returns-2 t c = let z = c .before .before .before .before .before .before .before .before .before .before in λ g st t h. all-more (z .args .s .now) (z .args .b .now) (z .args .ent .now) t (z .args .d) (z .args .n) (z .args .p) g st (c .before .before .before .before .if1 .left) (z .pre .1 .6) (c .before .before .before .expand .result) (c .before .before .before .expand .ensures g st t h) _ (c .before .before .skip-param .ensures) (c .before .expand-all .result) (c .before .expand-all .ensures g st t h) (c .joined .result) (c .joined .ensures)
+expand-all-returns-2 t c = let z = c .before .before .before .before .before .before .before .before .before in λ g st t h. all-one (z .args .s .now) (z .args .b .now) (z .args .ent .now) t (z .args .d) (z .args .n) (z .args .p) g st (c .before .if2 .taken) (z .pre .1 .6) (c .before .before .expand .result) (c .before .before .expand .ensures g st t h) (c .joined .result) (c .joined .ensures)
+
+expand-all-skip-param-requires : (t : ℕ) → expand-all-lts.Need-skip-param-requires (expand-all-claims t) (expand-all-at t) expand-all.Post
+expand-all-skip-param-requires t c κs = let z = c .before .before .before .before .before .before .before .before in (z .pre .1 .1, row-first (param (z .args .d)) (z .args .n) (bits (z .args .b .now)) (z .args .p) (c .before .before .if1 .left) (z .pre .1 .6))
+
+expand-all-sub-expand-all : (t : ℕ) → expand-all-lts.Need-sub-expand-all (expand-all-claims t) (expand-all-at t) expand-all.Post
+expand-all-sub-expand-all t c = omega (arith, c .before .before .before .if1 .left)
+
+expand-all-expand-all-requires : (t : ℕ) → expand-all-lts.Need-expand-all-requires (expand-all-claims t) (expand-all-at t) expand-all.Post
+expand-all-expand-all-requires t c κs = let z = c .before .before .before .before .before .before .before .before .before in (omega (arith, c .before .before .before .if1 .left), (z .pre .1 .0, z .pre .1 .1, z .pre .1 .2, z .pre .1 .3, z .pre .1 .4, omega (arith, z .pre .1 .5), row-rest (param (z .args .d)) (z .args .n) (bits (z .args .b .now)) (z .args .p) (c .before .before .before .if1 .left) (z .pre .1 .6) _ (c .skip-param .ensures), z .pre .1 .7))
+
+expand-all-joined-requires-2 : (t : ℕ) → expand-all-lts.Need-joined-requires-2 (expand-all-claims t) (expand-all-at t) expand-all.Post
+expand-all-joined-requires-2 t c κs = search needs
+
+expand-all-returns-3 : (t : ℕ) → expand-all-lts.Need-returns-3 (expand-all-claims t) (expand-all-at t) expand-all.Post
+expand-all-returns-3 t c = let z = c .before .before .before .before .before .before .before .before .before .before .before in λ g st t h. all-more (z .args .s .now) (z .args .b .now) (z .args .ent .now) t (z .args .d) (z .args .n) (z .args .p) g st (c .before .before .before .before .before .if1 .left) (z .pre .1 .6) (c .before .before .before .before .expand .result) (c .before .before .before .before .expand .ensures g st t h) _ (c .before .before .skip-param .ensures) (c .before .expand-all .result) (c .before .expand-all .ensures g st t h) (c .joined2 .result) (c .joined2 .ensures)
 
 expand-as-name-param-at-requires : (t : ℕ) → expand-as-name-lts.Need-param-at-requires (expand-as-name-claims t) (expand-as-name-at t) expand-as-name.Post
 expand-as-name-param-at-requires t c κs = let z = c .before .before .before .before .before in omega (arith, z .pre .1 .1, param-fits (z .args .d) (bits (z .args .b .now)) (z .args .p) (z .pre .1 .5), bits-size (z .args .b .now))
@@ -243,20 +249,26 @@ expand-hash-skip-string-requires t c κs = let z = c .before .before .before .be
 expand-hash-expand-requires : (t : ℕ) → expand-hash-lts.Need-expand-requires (expand-hash-claims t) (expand-hash-at t) expand-hash.Post
 expand-hash-expand-requires t c κs = let z = c .before .before .before .before .before .before .before in (omega arith, (z .pre .1 .0, z .pre .1 .1, z .pre .1 .2, z .pre .1 .3, z .pre .1 .4, pair-content (z .args .d) (bits (z .args .b .now)) (z .args .p) (row-first (string then param (z .args .d)) (z .args .n) (bits (z .args .b .now)) (z .args .p) (c .before .if1 .left) (z .pre .1 .6)) _ (c .skip-string .ensures), z .pre .1 .7))
 
-expand-hash-skip-param-requires : (t : ℕ) → expand-hash-lts.Need-skip-param-requires (expand-hash-claims t) (expand-hash-at t) expand-hash.Post
-expand-hash-skip-param-requires t c κs = let z = c .before .before .before .before .before .before .before .before in (z .pre .1 .1, pair-content (z .args .d) (bits (z .args .b .now)) (z .args .p) (row-first (string then param (z .args .d)) (z .args .n) (bits (z .args .b .now)) (z .args .p) (c .before .before .if1 .left) (z .pre .1 .6)) _ (c .before .skip-string .ensures))
-
-expand-hash-sub-expand-hash : (t : ℕ) → expand-hash-lts.Need-sub-expand-hash (expand-hash-claims t) (expand-hash-at t) expand-hash.Post
-expand-hash-sub-expand-hash t c = omega (arith, c .before .before .before .if1 .left)
-
-expand-hash-expand-hash-requires : (t : ℕ) → expand-hash-lts.Need-expand-hash-requires (expand-hash-claims t) (expand-hash-at t) expand-hash.Post
-expand-hash-expand-hash-requires t c κs = let z = c .before .before .before .before .before .before .before .before .before in (omega (arith, c .before .before .before .if1 .left), (z .pre .1 .0, z .pre .1 .1, z .pre .1 .2, z .pre .1 .3, z .pre .1 .4, omega (arith, z .pre .1 .5), row-rest (string then param (z .args .d)) (z .args .n) (bits (z .args .b .now)) (z .args .p) (c .before .before .before .if1 .left) (z .pre .1 .6) _ (pair-next (z .args .d) (bits (z .args .b .now)) (z .args .p) (row-first (string then param (z .args .d)) (z .args .n) (bits (z .args .b .now)) (z .args .p) (c .before .before .before .if1 .left) (z .pre .1 .6)) _ (c .before .before .skip-string .ensures) _ (c .skip-param .ensures)), z .pre .1 .7))
-
 expand-hash-paired-requires : (t : ℕ) → expand-hash-lts.Need-paired-requires (expand-hash-claims t) (expand-hash-at t) expand-hash.Post
-expand-hash-paired-requires t c κs = let z = c .before .before .before .before .before .before .before .before .before .before in let w = some-setting (z .args .s .now) (z .args .b .now) (z .args .ent .now) (scopes-of (z .args .sc .now)) (z .args .used) (z .args .options) (z .pre .1 .2) (z .pre .1 .4) in (z .pre .1 .0, z .pre .1 .1, omega (arith, z .pre .1 .1, string-in (bits (z .args .b .now)) (z .args .p) (pair-stands (z .args .d) (bits (z .args .b .now)) (z .args .p) (row-first (string then param (z .args .d)) (z .args .n) (bits (z .args .b .now)) (z .args .p) (c .before .before .before .before .if1 .left) (z .pre .1 .6)) .key), bits-size (z .args .b .now)), got-known (z .args .s .now) (z .args .b .now) (z .args .ent .now) (w .t) _ (c .before .before .expand .result) (c .before .before .expand .ensures (w .g) (w .st) (w .t) (w .setting)))
+expand-hash-paired-requires t c κs = let z = c .before .before .before .before .before .before .before .before .before in let w = some-setting (z .args .s .now) (z .args .b .now) (z .args .ent .now) (scopes-of (z .args .sc .now)) (z .args .used) (z .args .options) (z .pre .1 .2) (z .pre .1 .4) in (z .pre .1 .0, z .pre .1 .1, omega (arith, z .pre .1 .1, string-in (bits (z .args .b .now)) (z .args .p) (pair-stands (z .args .d) (bits (z .args .b .now)) (z .args .p) (row-first (string then param (z .args .d)) (z .args .n) (bits (z .args .b .now)) (z .args .p) (c .before .before .before .if1 .left) (z .pre .1 .6)) .key), bits-size (z .args .b .now)), got-known (z .args .s .now) (z .args .b .now) (z .args .ent .now) (w .t) _ (c .before .expand .result) (c .before .expand .ensures (w .g) (w .st) (w .t) (w .setting)))
 
 expand-hash-returns-2 : (t : ℕ) → expand-hash-lts.Need-returns-2 (expand-hash-claims t) (expand-hash-at t) expand-hash.Post
-expand-hash-returns-2 t c = let z = c .before .before .before .before .before .before .before .before .before .before .before in λ g st t h. hash-one-more (z .args .s .now) (z .args .b .now) (z .args .ent .now) t (z .args .d) (z .args .n) (z .args .p) g st (c .before .before .before .before .before .if1 .left) (z .pre .1 .6) _ (c .before .before .before .before .skip-string .ensures) (c .before .before .before .expand .result) (c .before .before .before .expand .ensures g st t h) _ (pair-next (z .args .d) (bits (z .args .b .now)) (z .args .p) (row-first (string then param (z .args .d)) (z .args .n) (bits (z .args .b .now)) (z .args .p) (c .before .before .before .before .before .if1 .left) (z .pre .1 .6)) _ (c .before .before .before .before .skip-string .ensures) _ (c .before .before .skip-param .ensures)) (c .before .expand-hash .result) (c .before .expand-hash .ensures g st t h) (c .paired .result) (c .paired .ensures)
+expand-hash-returns-2 t c = let z = c .before .before .before .before .before .before .before .before .before .before in λ g st t h. hash-one (z .args .s .now) (z .args .b .now) (z .args .ent .now) t (z .args .d) (z .args .n) (z .args .p) g st (c .before .if2 .taken) (z .pre .1 .6) _ (c .before .before .before .skip-string .ensures) (c .before .before .expand .result) (c .before .before .expand .ensures g st t h) (c .paired .result) (c .paired .ensures)
+
+expand-hash-skip-param-requires : (t : ℕ) → expand-hash-lts.Need-skip-param-requires (expand-hash-claims t) (expand-hash-at t) expand-hash.Post
+expand-hash-skip-param-requires t c κs = let z = c .before .before .before .before .before .before .before .before .before in (z .pre .1 .1, pair-content (z .args .d) (bits (z .args .b .now)) (z .args .p) (row-first (string then param (z .args .d)) (z .args .n) (bits (z .args .b .now)) (z .args .p) (c .before .before .before .if1 .left) (z .pre .1 .6)) _ (c .before .before .skip-string .ensures))
+
+expand-hash-sub-expand-hash : (t : ℕ) → expand-hash-lts.Need-sub-expand-hash (expand-hash-claims t) (expand-hash-at t) expand-hash.Post
+expand-hash-sub-expand-hash t c = omega (arith, c .before .before .before .before .if1 .left)
+
+expand-hash-expand-hash-requires : (t : ℕ) → expand-hash-lts.Need-expand-hash-requires (expand-hash-claims t) (expand-hash-at t) expand-hash.Post
+expand-hash-expand-hash-requires t c κs = let z = c .before .before .before .before .before .before .before .before .before .before in (omega (arith, c .before .before .before .before .if1 .left), (z .pre .1 .0, z .pre .1 .1, z .pre .1 .2, z .pre .1 .3, z .pre .1 .4, omega (arith, z .pre .1 .5), row-rest (string then param (z .args .d)) (z .args .n) (bits (z .args .b .now)) (z .args .p) (c .before .before .before .before .if1 .left) (z .pre .1 .6) _ (pair-next (z .args .d) (bits (z .args .b .now)) (z .args .p) (row-first (string then param (z .args .d)) (z .args .n) (bits (z .args .b .now)) (z .args .p) (c .before .before .before .before .if1 .left) (z .pre .1 .6)) _ (c .before .before .before .skip-string .ensures) _ (c .skip-param .ensures)), z .pre .1 .7))
+
+expand-hash-paired-requires-2 : (t : ℕ) → expand-hash-lts.Need-paired-requires-2 (expand-hash-claims t) (expand-hash-at t) expand-hash.Post
+expand-hash-paired-requires-2 t c κs = let z = c .before .before .before .before .before .before .before .before .before .before .before in let w = some-setting (z .args .s .now) (z .args .b .now) (z .args .ent .now) (scopes-of (z .args .sc .now)) (z .args .used) (z .args .options) (z .pre .1 .2) (z .pre .1 .4) in (z .pre .1 .0, z .pre .1 .1, omega (arith, z .pre .1 .1, string-in (bits (z .args .b .now)) (z .args .p) (pair-stands (z .args .d) (bits (z .args .b .now)) (z .args .p) (row-first (string then param (z .args .d)) (z .args .n) (bits (z .args .b .now)) (z .args .p) (c .before .before .before .before .before .if1 .left) (z .pre .1 .6)) .key), bits-size (z .args .b .now)), got-known (z .args .s .now) (z .args .b .now) (z .args .ent .now) (w .t) _ (c .before .before .before .expand .result) (c .before .before .before .expand .ensures (w .g) (w .st) (w .t) (w .setting)))
+
+expand-hash-returns-3 : (t : ℕ) → expand-hash-lts.Need-returns-3 (expand-hash-claims t) (expand-hash-at t) expand-hash.Post
+expand-hash-returns-3 t c = let z = c .before .before .before .before .before .before .before .before .before .before .before .before in λ g st t h. hash-one-more (z .args .s .now) (z .args .b .now) (z .args .ent .now) t (z .args .d) (z .args .n) (z .args .p) g st (c .before .before .before .before .before .before .if1 .left) (z .pre .1 .6) _ (c .before .before .before .before .before .skip-string .ensures) (c .before .before .before .before .expand .result) (c .before .before .before .before .expand .ensures g st t h) _ (pair-next (z .args .d) (bits (z .args .b .now)) (z .args .p) (row-first (string then param (z .args .d)) (z .args .n) (bits (z .args .b .now)) (z .args .p) (c .before .before .before .before .before .before .if1 .left) (z .pre .1 .6)) _ (c .before .before .before .before .before .skip-string .ensures) _ (c .before .before .skip-param .ensures)) (c .before .expand-hash .result) (c .before .expand-hash .ensures g st t h) (c .paired2 .result) (c .paired2 .ensures)
 
 try-from-template-call-at-requires : (t : ℕ) → try-from-template-lts.Need-call-at-requires (try-from-template-claims t) (try-from-template-at t) try-from-template.Post
 try-from-template-call-at-requires t c κs = (c .before .before .before .before .before .pre .1 .1, c .before .before .before .before .before .pre .1 .5)
@@ -307,11 +319,13 @@ pub +expand+expand-all+expand-as-name+expand-hash+try-from-template-spec :
     expand-all.Post
     (expand-all-returns t)
     (expand-all-expand-requires t)
+    (expand-all-joined-requires t)
+    (expand-all-returns-2 t)
     (expand-all-skip-param-requires t)
     (expand-all-sub-expand-all t)
     (expand-all-expand-all-requires t)
-    (expand-all-joined-requires t)
-    (expand-all-returns-2 t))
+    (expand-all-joined-requires-2 t)
+    (expand-all-returns-3 t))
     (λ t. expand-as-name-lts.spec (expand-as-name-claims t)
     (expand-as-name-at t)
     expand-as-name.Post
@@ -333,11 +347,13 @@ pub +expand+expand-all+expand-as-name+expand-hash+try-from-template-spec :
     (expand-hash-returns t)
     (expand-hash-skip-string-requires t)
     (expand-hash-expand-requires t)
+    (expand-hash-paired-requires t)
+    (expand-hash-returns-2 t)
     (expand-hash-skip-param-requires t)
     (expand-hash-sub-expand-hash t)
     (expand-hash-expand-hash-requires t)
-    (expand-hash-paired-requires t)
-    (expand-hash-returns-2 t))
+    (expand-hash-paired-requires-2 t)
+    (expand-hash-returns-3 t))
     λ t. try-from-template-lts.spec (try-from-template-claims t)
     (try-from-template-at t)
     try-from-template.Post
