@@ -14,8 +14,8 @@ use Rattle.value.proofs.Value.{the-type as value-type}
 use Rattle.rules.specs.Bytes.{Bytes, pick, maybe}
 use Rattle.rules.specs.Json.{Json}
 use Rattle.rules.specs.Bits.{Bits}
-use Rattle.rules.specs.Layout.{_then_}
-use Rattle.rules.specs.Bundle.{string, param}
+use Rattle.rules.specs.Layout.{field, _then_}
+use Rattle.rules.specs.Bundle.{string, param, call-of}
 use Rattle.rules.specs.Template as template
 use Rattle.rules.specs.Template.{no-names, name-only}
 use Rattle.rules.specs.Error as rule
@@ -29,7 +29,7 @@ use Rattle.rules.specs.Output.{do-escape, indent-aware-write}
 use Rattle.rules.specs.Expand as rules
 use Rattle.rules.specs.Render.{render-helper, render-value, render-name, render-expression}
 use Rattle.parts.specs.Holds.{Holds, row}
-use Rattle.calls.specs.Calls.{param-at, call-at, params-at, hash-at, CallStands, no-params, params-more, no-hash, hash-more}
+use Rattle.calls.specs.Calls.{param-at, call-at, params-at, hash-at, name-end, call-view, CallStands, call-stands, no-params, params-more, no-hash, hash-more}
 use Rattle.calls.specs.declared.Call.{Call}
 use Rattle.places.specs.Places.{json-at, path-at}
 use Rattle.value.specs.declared.Value.{Value}
@@ -43,11 +43,11 @@ use Rattle.expand.specs.declared.Options.{Options}
 use Rattle.expand.specs.declared.Got.{Got}
 use Rattle.expand.specs.declared.Got.the-variants.{Is, Bad}
 use Rattle.expand.specs.declared.HelperDef.{HelperDef}
-use Rattle.expand.specs.declared.HelperDef.the-variants as helper
 use Rattle.expand.specs.Answers.{Setting, Refuses, Expands, helper-of}
 use Rattle.helpers.specs.declared.Shows.{Shows}
 use Rattle.helpers.specs.declared.Shows.the-variants as shows
-use Rattle.helpers.specs.Does.{has, Fails, Expresses, shown, rendered}
+use Rattle.helpers.specs.Bare.{bare-params, bare-pairs}
+use Rattle.helpers.specs.Does.{has, is-known, Fails, Expresses, shown, rendered}
 use Rattle.helpers.proofs.Deciding.{as-json-of, fails, has-none, has-some}
 
 -- A call that is its name alone
@@ -73,20 +73,22 @@ module _ (d : ℕ) (b : Bits) (p : ℕ) (v : Call) (S : CallStands d b p v) wher
       go zero H = ap (λ (hs : template.Hash). name-only (template.call (param-at d b p) template.pnil hs)) (no-hash d b (v .pair))
       go (suc n) H = rw (ne-eqb (suc n) 0 (λ q. absurd (omega (arith, q)))) (ap (λ (hs : template.Hash). name-only (template.call (param-at d b p) template.pnil hs)) (hash-more d n b (v .pair) H))
 
+-- x is the 8 bits behind its name
+pub bare-name : (d : ℕ) (b : Bits) (p : ℕ) → Holds (call-of (param d)) b p → (x : ℕ) → x ≡ field b 8 (name-end d b p) → name-only (call-at d b p) ≡ pick (eqb x 0) (some (param-at d b p)) none
+bare-name d b p H x e = go (field b 4 (name-end d b p)) refl
+  where
+    go : (k : ℕ) → field b 4 (name-end d b p) ≡ k → name-only (call-at d b p) ≡ pick (eqb x 0) (some (param-at d b p)) none
+    go zero z = pairs-name d b p (call-view d b p) (call-stands d b p H) z ∙ ap (λ (n : ℕ). pick (eqb n 0) (some (param-at d b p)) none) (sym (e ∙ bare-pairs d b p H z))
+    go (suc k) z =
+        let n : field b 4 (name-end d b p) ≡ 0 → ⊥ = λ q. omega arith in
+        params-name d b p (call-view d b p) (call-stands d b p H) n ∙ rw (ne-eqb x 0 (λ q. n (bare-params d b p H (sym e ∙ q))))
+
 -- A name that is a helper's
 
-abbrev pub is-known : HelperDef → Bool
-is-known helper.Each = true
-is-known helper.With = true
-is-known helper.If = true
-is-known helper.Unless = true
-is-known helper.Lookup = true
-is-known helper.Unknown = false
-
-pub known-helper : (n : Bytes) (h k : HelperDef) → h ≡ helper-of (get-helper n) → h ≡ k → has (get-helper n) ≡ is-known k
-known-helper n h k p q = go (get-helper n) ∙ ap is-known (sym p ∙ q)
+pub known-helper : (n : Bytes) (h : HelperDef) → h ≡ helper-of (get-helper n) → is-known h ≡ has (get-helper n)
+known-helper n h e = ap is-known e ∙ go (get-helper n)
   where
-    go : (o : Option registry.HelperDef) → has o ≡ is-known (helper-of o)
+    go : (o : Option registry.HelperDef) → is-known (helper-of o) ≡ has o
     go none = refl
     go (some registry.HelperDef.each) = refl
     go (some registry.HelperDef.with) = refl

@@ -1,2 +1,3 @@
 mod Deciding
 mod Expressing
+mod Pathing

@@ -30,6 +30,7 @@ use Rattle.expand.specs.declared.Expanded.{Expanded}
 use Rattle.expand.specs.declared.Got.{Got}
 use Rattle.expand.specs.declared.Got.the-variants as got
 use Rattle.expand.specs.declared.HelperDef.{HelperDef}
+use Rattle.expand.specs.declared.HelperDef.the-variants as helper
 use Rattle.expand.specs.declared.HelperDef.the-variants.{Unknown}
 use Rattle.expand.specs.Answers.{Alike, IsExpanded, helper-of}
 use Rattle.helpers.specs.declared.Does.{Does}
@@ -103,6 +104,14 @@ Expresses s b ent t g c ibw st x (shows.Value v) = Writes s b ent t st x v
 Expresses s b ent t g c ibw st x shows.Nothing = x ≡ ok st []
 
 -- Parts
+
+abbrev pub is-known : HelperDef → Bool
+is-known helper.Each = true
+is-known helper.With = true
+is-known helper.If = true
+is-known helper.Unless = true
+is-known helper.Lookup = true
+is-known helper.Unknown = false
 
 abbrev pub unless-strict : Bool → Does → Does
 unless-strict strict d = pick strict (Bad 11) d

@@ -8,7 +8,7 @@ ghost use Prim.Native.Nat.{ℕ, _≤_, _<_};
 ghost use lib.ListN.{length};
 ghost use Rattle.rules.specs.Bytes.{pick};
 ghost use Rattle.rules.specs.Bits.{bits};
-ghost use Rattle.rules.specs.Bundle.{param, call-of};
+ghost use Rattle.rules.specs.Bundle.{path, param, call-of};
 ghost use Rattle.rules.specs.Template.{name-only};
 ghost use Rattle.rules.specs.Value.{render};
 ghost use Rattle.rules.specs.State.{RenderContext};
@@ -19,14 +19,16 @@ ghost use Rattle.rules.specs.HelperIf.{if-helper};
 ghost use Rattle.rules.specs.Helpers.{lookup-helper};
 ghost use Rattle.rules.specs.Render.{render-expression};
 ghost use Rattle.parts.specs.Holds.{Holds};
-ghost use Rattle.calls.specs.Calls.{param-at, call-at};
+ghost use Rattle.calls.specs.Calls.{param-view, param-at, call-at};
 ghost use Rattle.places.specs.Accepted.{Accepted};
 ghost use Rattle.meaning.specs.Forms.{Known};
 ghost use Rattle.meaning.specs.Means.{Means};
 ghost use Rattle.scope.specs.Words.{scopes-of};
 ghost use Rattle.scope.specs.Standing.{ScopesStand};
 ghost use Rattle.expand.specs.Answers.{Setting, ExpandedHeld};
-ghost use Rattle.helpers.specs.Does.{has, Helping, Decides, Expresses, unless-strict, inverse, in-scope, branch, truth, is-collection, shown, rendered};
+ghost use Rattle.helpers.specs.Does.{has, is-known, Helping, Decides, Expresses, unless-strict, inverse, in-scope, branch, truth, is-collection, shown, rendered};
+use calls::Parameter;
+use context::Evaluated;
 use expand::Expanded;
 use expand::Got;
 use expand::HelperDef;
@@ -254,24 +256,20 @@ pub enum Shows {
     Nothing,
 }
 
-// Whether the call at p is its name alone.
+// Whether the call at p is its name alone. Behind the name are the counts of parameters and of pairs, 4 bits each.
 fn name_only(b: &[u8], p: usize, d: usize) -> bool
     requires { ⌜ (length (now b) ≤ 65536) × Holds (call-of (param d)) (bits (now b)) p ⌝ }
     ensures { λ r. ⌜ name-only (call-at d (bits (now (b .entry))) p) ≡ pick r (some (param-at d (bits (now (b .entry))) p)) none ⌝ }
 {
-    let c = calls::call_at(b, p, d);
-    if c.params == 0 {
-        return c.pairs == 0;
-    }
-    false
+    let q = calls::skip_param(b, p, d);
+    bits::field(b, q, 8) == 0
 }
 
-// Whether there is a helper whose name a value prints.
-fn is_helper(s: &[u8], tab: &[u64], b: &[u8], v: Value) -> bool
-    requires { ⌜ Accepted (now s) (now tab) × (length (now b) ≤ 65536) × Known (now s) (now b) v ⌝ }
-    ensures { λ r. ⌜ Means (now (s .entry)) (now (b .entry)) v (λ j. r ≡ has (get-helper (render j))) ⌝ }
+// Whether there is that helper.
+fn known(h: HelperDef) -> bool
+    ensures { λ r. ⌜ r ≡ is-known h ⌝ }
 {
-    match expand::get_helper(s, tab, b, v) {
+    match h {
         HelperDef::Each => true,
         HelperDef::With => true,
         HelperDef::If => true,
@@ -279,6 +277,14 @@ fn is_helper(s: &[u8], tab: &[u64], b: &[u8], v: Value) -> bool
         HelperDef::Lookup => true,
         HelperDef::Unknown => false,
     }
+}
+
+// Whether there is a helper whose name a value prints.
+fn is_helper(s: &[u8], tab: &[u64], b: &[u8], v: Value) -> bool
+    requires { ⌜ Accepted (now s) (now tab) × (length (now b) ≤ 65536) × Known (now s) (now b) v ⌝ }
+    ensures { λ r. ⌜ Means (now (s .entry)) (now (b .entry)) v (λ j. r ≡ has (get-helper (render j))) ⌝ }
+{
+    known(expand::get_helper(s, tab, b, v))
 }
 
 // A missing value is nothing, or an error under strict.
@@ -305,6 +311,34 @@ fn rendered(strict: bool, x: Got) -> Shows
     }
 }
 
+// What an expression does whose name is the path at q. Most are such: the name is the path's raw string, which is read where it lies.
+fn path_expression(
+    s: &[u8],
+    tab: &[u64],
+    b: &[u8],
+    ent: &[u64],
+    sc: &[u64],
+    used: usize,
+    options: Options,
+    q: usize,
+) -> Shows
+    requires { ⌜ Accepted (now s) (now tab) × (length (now b) ≤ 65536) × (0 < used) × (used ≤ 32) × ((t : ℕ) × ScopesStand (now s) (now b) (now ent) (scopes-of (now sc)) used t) × Holds path (bits (now b)) q × (length (now sc) ≡ 96) ⌝ }
+    ensures { λ r. ⌜ ((g : Registry) (st : RenderContext) (t d p : ℕ) (ibw : Bool) → Setting (now (s .entry)) (now (b .entry)) (now (ent .entry)) (scopes-of (now (sc .entry))) used options g st t → Holds (call-of (param d)) (bits (now (b .entry))) p → param-view (bits (now (b .entry))) p ≡ Parameter.Path q → Expresses (now (s .entry)) (now (b .entry)) (now (ent .entry)) t g (call-at d (bits (now (b .entry))) p) ibw st (render-expression g (call-at d (bits (now (b .entry))) p) ibw st) r) ⌝ }
+{
+    let next = parts::skip_path(b, q);
+    if bits::field(b, next, 8) != 0 {
+        return Shows::Helper;
+    }
+    if known(expand::helper_at(b, q)) {
+        return Shows::Helper;
+    }
+    let found = context::evaluate2(s, tab, b, ent, sc, used, options.recursive_lookup, q);
+    match found {
+        Evaluated::Is(v) => shown(options.strict, v),
+        Evaluated::BadIndex => Shows::Bad(20),
+    }
+}
+
 // What the expression with the call at p does.
 pub fn expression(
     s: &[u8],
@@ -320,6 +354,10 @@ pub fn expression(
     requires { ⌜ Accepted (now s) (now tab) × (length (now b) ≤ 65536) × (0 < used) × (used ≤ 32) × ((t : ℕ) × ScopesStand (now s) (now b) (now ent) (scopes-of (now sc)) used t) × Holds (call-of (param d)) (bits (now b)) p × (length (now sc) ≡ 96) ⌝ }
     ensures { λ r. ⌜ ((g : Registry) (st : RenderContext) (t : ℕ) (ibw : Bool) → Setting (now (s .entry)) (now (b .entry)) (now (ent .entry)) (scopes-of (now (sc .entry))) used options g st t → Expresses (now (s .entry)) (now (b .entry)) (now (ent .entry)) t g (call-at d (bits (now (b .entry))) p) ibw st (render-expression g (call-at d (bits (now (b .entry))) p) ibw st) r) ⌝ }
 {
+    let x = calls::param_at(b, p);
+    if let Parameter::Path(q) = x {
+        return path_expression(s, tab, b, ent, sc, used, options, q);
+    }
     if !name_only(b, p, d) {
         return Shows::Helper;
     }
