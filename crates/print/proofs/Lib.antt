@@ -1,3 +1,3 @@
 mod Lists
 mod Stripping
-mod Said
+pub mod Said

@@ -27,9 +27,13 @@ ghost use Rattle.meaning.specs.Means.{Means};
 ghost use Rattle.print.specs.Printed.{printed};
 ghost use Rattle.state.specs.Context.{whole};
 ghost use Rattle.state.specs.World.{world};
+ghost use Rattle.saying.specs.Said.{Inside};
 ghost use Rattle.writing.specs.Writes.{Wrote, Writes};
+ghost use Rattle.writing.specs.Spans.{SaidAt, PrintedAt};
+use meaning::Form;
 use output::Writer;
 use state::RenderContext;
+use text::Text;
 use value::Value;
 
 // The n bytes of a packed string, into the output in force.
@@ -123,6 +127,76 @@ fn feed_value(
     print::write_value(page, indent, w, s, tab, b, v, escape)
 }
 
+// Where what a value prints stands in the plan as it is: a string in which nothing is escaped.
+enum Span {
+    // from a place up to another
+    Is(usize, usize),
+    Nothing,
+}
+
+// What a string of the plan says from a place on.
+fn said_span(s: &[u8], at: usize, k: usize) -> Span
+    requires { ⌜ (length (now s) ≤ 65536) × Inside (now s) at k ⌝ }
+    ensures { λ r. ⌜ SaidAt (now (s .entry)) at k r ⌝ }
+{
+    let e = saying::own_end(s, at);
+    if e <= at {
+        return Span::Nothing;
+    }
+    match saying::next_byte(s, e, k) {
+        saying::Step::Byte(_, _) => Span::Nothing,
+        saying::Step::End => Span::Is(at, e),
+    }
+}
+
+fn printed_span(s: &[u8], tab: &[u64], b: &[u8], v: Value) -> Span
+    requires { ⌜ Accepted (now s) (now tab) × (length (now b) ≤ 65536) × Known (now s) (now b) v ⌝ }
+    ensures { λ r. ⌜ PrintedAt (now (s .entry)) (now (b .entry)) v r ⌝ }
+{
+    let Form::String(t) = meaning::form_of(s, tab, b, v) else {
+        return Span::Nothing;
+    };
+    let Text::Said(at, k) = t else {
+        return Span::Nothing;
+    };
+    said_span(s, at, k)
+}
+
+// Whether lent bytes go to the page at once.
+fn is_plain(w: Writer, len: usize, v: &[u8], escape: bool) -> bool
+    ensures { λ r. ⌜ (r ≡ true → (takes w len (length (now (v .entry))) ≡ true) × (calm (w .«has_indent») (now (v .entry)) ≡ true) × (escaped escape (now (v .entry)) ≡ now (v .entry))) ⌝ }
+{
+    let n = v.len();
+    if direct::takes(w, len, n) {
+        return support::quiet(v, 0, w.has_indent, escape) == n;
+    }
+    false
+}
+
+// What a value prints, as a text: at once, or begun, fed and finished.
+fn write_value(
+    page: &mut [u8],
+    texts: &mut [u8],
+    indent: &[u8],
+    w: Writer,
+    s: &[u8],
+    tab: &[u64],
+    b: &[u8],
+    v: Value,
+    escape: bool,
+) -> Writer
+    requires { ⌜ Accepted (now s) (now tab) × (length (now b) ≤ 65536) × Known (now s) (now b) v ⌝ }
+    ensures { λ r. ⌜ Means (now (s .entry)) (now (b .entry)) v (λ j. outputs r (now (page .exit)) (now (texts .exit)) ≡ fed (now (indent .entry)) (escaped escape (render j)) (outputs w (now (page .entry)) (now (texts .entry)))) ⌝ }
+{
+    if let Span::Is(at, e) = printed_span(s, tab, b, v) {
+        if is_plain(w, page.len(), &s[at..e], escape) {
+            return direct::put_bytes(page, w, &s[at..e]);
+        }
+    }
+    let q = support::begin(w);
+    support::finish(feed_value(page, texts, indent, q, s, tab, b, v, escape))
+}
+
 // `Expression` and `HtmlExpression`: what a value prints, escaped unless that is disabled.
 pub fn value(
     page: &mut [u8],
@@ -138,9 +212,11 @@ pub fn value(
     ensures { λ r. ⌜ Means (now (s .entry)) (now (b .entry)) v (λ j. (l : List ℕ) → Wrote (whole rc l) (whole r l) (now (page .exit)) (now (texts .exit)) (fed (now (indent .entry)) (escaped (not (rc .«disable_escape»)) (render j)) (outputs (rc .writer) (now (page .entry)) (now (texts .entry))))) ⌝ }
     ensures { λ r. ⌜ ((l : List ℕ) (ent : List ℕ) (t : ℕ) → Stands (now (s .entry)) (now (b .entry)) ent t v → Writes (now (s .entry)) (now (b .entry)) (world (whole rc l) (now (page .entry)) (now (texts .entry)) (now (indent .entry)) ent) (world (whole r l) (now (page .exit)) (now (texts .exit)) (now (indent .entry)) ent) (λ x. indent-aware-write (do-escape x (render (json-of (now (s .entry)) (now (b .entry)) ent v))) x)) ⌝ }
 {
-    let w = support::begin(rc.writer);
-    let u = feed_value(page, texts, indent, w, s, tab, b, v, !rc.disable_escape);
-    state::wrote(rc, support::finish(u))
+    let escape = !rc.disable_escape;
+    state::wrote(
+        rc,
+        write_value(page, texts, indent, rc.writer, s, tab, b, v, escape),
+    )
 }
 
 // `@partial-block`: the finished block text of n bytes at the place from is written out again, plainly.
