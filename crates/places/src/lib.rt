@@ -2,13 +2,15 @@
 // What it answers is said by places; the laws of specs/ say what that means for the rules' values and paths.
 ghost use mathlib.Core.Path.{_≡_};
 ghost use mathlib.Core.Bool.{_&&_};
-ghost use Prim.Native.Nat.{ℕ, suc, _+_, _/_, _%_, _<_, _≤_};
+ghost use Prim.Native.Nat.{ℕ, suc, _+_, _*_, _/_, _%_, _<_, _≤_};
 ghost use lib.ListN.{length, getElem?};
 ghost use mathlib.Core.Option.{some};
 ghost use Rattle.rules.specs.Bytes.{pick, byte-at, before};
 ghost use Rattle.rules.specs.Json.{count};
+ghost use Rattle.rules.specs.Bits.{bits};
 ghost use Rattle.rules.specs.Scan.{saying};
 ghost use Rattle.rules.specs.Plan.{name-of};
+ghost use Rattle.bits.specs.Packed.{bytes-at};
 ghost use Rattle.saying.specs.Compared.{name-bytes, NameFits};
 ghost use Rattle.places.specs.Places.{start-of, places, tree-at, json-at, name-at, children, member, above, better, next-member};
 ghost use Rattle.places.specs.Kinds.{found, found-name, FoundIn, kind-of, kind-by, is-other, magnitude-of, members-of, is-empty};
@@ -178,6 +180,22 @@ pub fn member(s: &[u8], tab: &[u64], i: usize, w: &[u8], named: Name) -> Found
     while c < e {
         let n = name(s, tab, c);
         best = or(saying::says(s, n, w, named), c, best);
+        c = end(s, tab, c);
+    }
+    best
+}
+
+// The same for the m bytes that are packed into w from the bit place p on.
+pub fn member_packed(s: &[u8], tab: &[u64], i: usize, w: &[u8], p: usize, m: usize) -> Found
+    requires { ⌜ Accepted (now s) (now tab) × (i < places (now s)) × (p + 8 * m < 18446744073709551616) ⌝ }
+    ensures { λ r. ⌜ found r ≡ member (now (s .entry)) i (bytes-at (bits (now (w .entry))) p m) ⌝ }
+{
+    let e = end(s, tab, i);
+    let mut c = i + 1;
+    let mut best = Found::Nothing;
+    while c < e {
+        let n = name(s, tab, c);
+        best = or(saying::says_packed(s, n, w, p, m), c, best);
         c = end(s, tab, c);
     }
     best
