@@ -13,6 +13,7 @@ use Rattle.rules.specs.Tree.{Tree, tree, Trees, tree-nil, tree-cons}
 use Rattle.rules.specs.Plan.{size, sizes, name-of, answer, scalar-at, meaning, meanings, members-onto}
 use Rattle.places.specs.Places.{start-of, inside, places, tree-at, json-at, name-at, next-member, rest-above}
 use Rattle.places.specs.Nodes.{few-places, size-positive, stands-at, stands-within}
+use Rattle.places.specs.Items.{object-at}
 use Rattle.places.specs.Ascending.{object-rest}
 use Rattle.places.specs.Findings.{found-next}
 use Rattle.places.specs.declared.Found.{Found}
@@ -44,13 +45,6 @@ module _ (s : Bytes) (i : ℕ) where
           by : (x : Bool) → members-of (pick x (jarr (meanings s l)) (scalar-at s b)) ≡ mnil
           by true = refl
           by false = scalar-members s b
-
-  object-at : byte-at s (start-of (tree-at s i)) ≡ 123 → json-at s i ≡ jobj (members-of (json-at s i))
-  unfolding json-at
-  object-at h = go (tree-at s i) h
-    where
-      go : (t : Tree) → byte-at s (start-of t) ≡ 123 → meaning s t ≡ jobj (members-of (meaning s t))
-      go (tree b m l) f = rw f
 
 -- There are few members
 

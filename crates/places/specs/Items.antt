@@ -15,6 +15,7 @@ use Rattle.rules.specs.Scan.{saying, magnitude}
 use Rattle.rules.specs.Tree.{Tree, tree, Trees, tree-nil, tree-cons}
 use Rattle.rules.specs.Plan.{size, name-of, answer, scalar-at, meaning, meanings, members-onto}
 use Rattle.places.specs.Places.{start-of, inside, Node, places, all-nodes, tree-at, path-at, live-at, json-at, name-at, children-from, children, value-at, items-from, count-items}
+use Rattle.places.specs.Kinds.{members-of}
 use Rattle.places.specs.Nodes.{StandsAll, stands-first, stands-others, node-is}
 use Rattle.places.specs.Children.{is-object, inside-stands}
 
@@ -81,6 +82,13 @@ module _ (s : Bytes) where
       go (tree b n l) e q =
           let r = pick-map b n l (eqb (byte-at s b) 91) (eqb (byte-at s b) 123) refl q in
           record { opens = rw e (r .0); means = rw e (r .1) }
+
+  pub object-at : (i : ℕ) → byte-at s (start-of (tree-at s i)) ≡ 123 → json-at s i ≡ jobj (members-of (json-at s i))
+  unfolding json-at
+  object-at i h = go (tree-at s i) h
+    where
+      go : (t : Tree) → byte-at s (start-of t) ≡ 123 → meaning s t ≡ jobj (members-of (meaning s t))
+      go (tree b m l) f = rw f
 
 -- the value of the first one
 pub first-json : (s : Bytes) (n : ℕ) (p : List Bytes) (a named : Bool) (k : ℕ) (t : Tree) (l : Trees) → StandsAll s (all-nodes s) n p a named k (tree-cons t l)

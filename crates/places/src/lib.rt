@@ -15,7 +15,7 @@ ghost use Rattle.saying.specs.Compared.{name-bytes, NameFits};
 ghost use Rattle.places.specs.Places.{start-of, places, tree-at, json-at, name-at, children, member, above, better, next-member};
 ghost use Rattle.places.specs.Kinds.{found, found-name, FoundIn, kind-of, kind-by, is-other, magnitude-of, members-of, is-empty};
 ghost use Rattle.places.specs.Accepted.{Accepted};
-ghost use Rattle.places.specs.Children.{end-at, behind, around};
+ghost use Rattle.places.specs.Children.{is-object, end-at, behind, around};
 use saying::Name;
 use saying::Ordering;
 
@@ -93,6 +93,15 @@ pub fn kind_of(s: &[u8], tab: &[u64], i: usize) -> Kind
     ensures { λ r. ⌜ r ≡ kind-of (json-at (now (s .entry)) i) ⌝ }
 {
     kind_by(scan::byte(s, start(s, tab, i)))
+}
+
+// Whether an object stands there.
+pub fn is_object(s: &[u8], tab: &[u64], i: usize) -> bool
+    requires { ⌜ Accepted (now s) (now tab) × (i < places (now s)) ⌝ }
+    ensures { λ r. ⌜ r ≡ is-object (now (s .entry)) i ⌝ }
+{
+    let o = start(s, tab, i);
+    s[o] == 123
 }
 
 // Whether nothing stands inside.
@@ -190,12 +199,13 @@ pub fn member_packed(s: &[u8], tab: &[u64], i: usize, w: &[u8], p: usize, m: usi
     requires { ⌜ Accepted (now s) (now tab) × (i < places (now s)) × (p + 8 * m < 18446744073709551616) ⌝ }
     ensures { λ r. ⌜ found r ≡ member (now (s .entry)) i (bytes-at (bits (now (w .entry))) p m) ⌝ }
 {
+    let x = bits::field(w, p, 56);
     let e = end(s, tab, i);
     let mut c = i + 1;
     let mut best = Found::Nothing;
     while c < e {
         let n = name(s, tab, c);
-        best = or(saying::says_packed(s, n, w, p, m), c, best);
+        best = or(saying::says_headed(s, n, w, p, m, x), c, best);
         c = end(s, tab, c);
     }
     best

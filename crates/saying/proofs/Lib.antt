@@ -3,4 +3,5 @@ mod Pairs
 pub mod Remaining
 pub mod Comparing
 mod Plain
+mod Headed
 mod Chars

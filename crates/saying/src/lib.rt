@@ -1,11 +1,12 @@
 // What the strings of a text say: their decoded bytes, one by one and without a copy.
 // A string is known by the place of its first quote. Plans are of 65,536 bytes at most, so every caller meets the bounds asked of places.
 ghost use mathlib.Core.Path.{_≡_};
-ghost use Prim.Native.Nat.{_+_, _*_, _≤_, _<_};
+ghost use Prim.Native.Nat.{_+_, _*_, _≤_, _<_, min};
 ghost use lib.ListN.{length, getD};
 ghost use mathlib.Core.List.{_∷_, []};
 ghost use Rattle.rules.specs.Bytes.{same};
 ghost use Rattle.rules.specs.Bits.{bits};
+ghost use Rattle.rules.specs.Layout.{field};
 ghost use Rattle.rules.specs.Order.{cmp};
 ghost use Rattle.rules.specs.Scan.{encoded, code-point, escaped-byte, says, saying};
 ghost use Rattle.saying.specs.Said.{remaining, Inside, Stepped, is-own, own-end};
@@ -198,10 +199,13 @@ pub fn next_byte(s: &[u8], at: usize, k: usize) -> Step
     Step::Byte(b, Cursor { at: at + n, k: 0 })
 }
 
-// Whether a byte stands for itself.
+// Whether a byte stands for itself. One test says it of a small letter.
 fn is_own(c: u8) -> bool
     ensures { λ r. ⌜ r ≡ is-own c ⌝ }
 {
+    if 92 < c {
+        return true;
+    }
     (32 <= c) & ((c != 34) & (c != 92))
 }
 
@@ -360,16 +364,56 @@ pub fn remaining_packed(s: &[u8], i: usize, j: usize, w: &[u8], p: usize, n: usi
     packed_steps(s, i, j, w, p, n)
 }
 
-// Whether the string at i says the n bytes that are packed into w from the bit place p on. Most names differ in their first byte.
+fn least(a: usize, b: usize) -> usize
+    ensures { λ r. ⌜ r ≡ min a b ⌝ }
+{
+    if a < b { a } else { b }
+}
+
+// The same from where a character starts. The number x is the first seven packed bytes, so that most names are compared without another read.
+fn packed_headed(s: &[u8], i: usize, w: &[u8], p: usize, n: usize, x: u64) -> bool
+    requires { ⌜ (length (now s) ≤ 65536) × (i ≤ 65548) × (p + 8 * n < 18446744073709551616) × (x ≡ field (bits (now w)) 56 p) ⌝ }
+    ensures { λ r. ⌜ r ≡ same (remaining (now (s .entry)) i 0) (bytes-at (bits (now (w .entry))) p n) ⌝ }
+{
+    let m = least(n, 7);
+    let mut k: usize = 0;
+    while k < m {
+        let c = byte(s, i + k);
+        if !is_own(c) {
+            return packed_from(s, i + k, w, p + 8 * k, n - k);
+        }
+        if ((x >> (48 - 8 * k)) % 256) as u8 != c {
+            return false;
+        }
+        k += 1;
+    }
+    let left = n - k;
+    if byte(s, i + k) == 34 {
+        return left == 0;
+    }
+    packed_from(s, i + k, w, p + 8 * k, left)
+}
+
+// Whether the string at i says the n bytes that are packed into w from the bit place p on. The number x is the first seven of them: a caller
+// reads it once for many strings. Most names differ in their first byte.
+pub fn says_headed(s: &[u8], i: usize, w: &[u8], p: usize, n: usize, x: u64) -> bool
+    requires { ⌜ (length (now s) ≤ 65536) × (i ≤ 65536) × (p + 8 * n < 18446744073709551616) × (x ≡ field (bits (now w)) 56 p) ⌝ }
+    ensures { λ r. ⌜ r ≡ same (saying (now (s .entry)) i) (bytes-at (bits (now (w .entry))) p n) ⌝ }
+{
+    let c = byte(s, i + 1);
+    let first = ((x >> 48) % 256) as u8;
+    if (first != c) & is_own(c) {
+        return false;
+    }
+    packed_headed(s, i + 1, w, p, n, x)
+}
+
+// The same for one string.
 pub fn says_packed(s: &[u8], i: usize, w: &[u8], p: usize, n: usize) -> bool
     requires { ⌜ (length (now s) ≤ 65536) × (i ≤ 65536) × (p + 8 * n < 18446744073709551616) ⌝ }
     ensures { λ r. ⌜ r ≡ same (saying (now (s .entry)) i) (bytes-at (bits (now (w .entry))) p n) ⌝ }
 {
-    let c = byte(s, i + 1);
-    if is_own(c) & (bits::byte(w, p) != c) {
-        return false;
-    }
-    packed_from(s, i + 1, w, p, n)
+    says_headed(s, i, w, p, n, bits::field(w, p, 56))
 }
 
 // Whether the strings at i and j say the same.
