@@ -25,17 +25,18 @@ use Rattle.value.specs.declared.Value.the-variants.{Missing, Null, False, True,
 use Rattle.meaning.specs.Entries.{hash-base}
 use Rattle.meaning.specs.Meaning.{plain-json, pairs, merged-of, context-place, json-of}
 use Rattle.meaning.specs.MeaningLaws.{plain-is}
-use Rattle.meaning.specs.Standing.{plain, stands-plain, MergedStands, stands-merged}
+use Rattle.meaning.specs.Standing.{Stands, plain, stands-plain, MergedStands, stands-merged}
 use Rattle.meaning.specs.Kept.{stands-merged-is}
 use Rattle.meaning.specs.Forms.{Known, ListForm, ObjectForm, StringForm, Formed}
 use Rattle.meaning.specs.declared.Form.{Form}
 use Rattle.meaning.specs.declared.Form.the-variants as form
-use Rattle.lookup.specs.Answers.{Held, Finds, PlainFinds, Leads, DataGot}
+use Rattle.lookup.specs.Answers.{Held, pathless, Finds, PlainFinds, Leads, DataGot}
 use Rattle.lookup.specs.Places.{placed-at, reached-at, list-reached, Reaches, with-path, without-path, from-member}
 use Rattle.lookup.specs.declared.Reached.{Reached}
 use Rattle.lookup.specs.declared.Reached.the-variants.{At as ReachedAt, Nothing as ReachedNothing, BadIndex as ReachedBad}
 use Rattle.lookup.specs.declared.Found.{Found}
 use Rattle.lookup.specs.declared.Found.the-variants.{Is, Nothing}
+use Rattle.lookup.proofs.Told.{pathless-json, pathless-stands}
 use Rattle.lookup.proofs.Finding.{list-placed}
 
 -- What a form says of a value's meaning
@@ -182,6 +183,20 @@ module _ (s b : Bytes) (ent : List ℕ) where
       leads = subst (λ (o : Option ℕ). Leads s o q w) (sym p) (k .no-path);
     }
     derived-member e Nothing k = ap (λ (j : Json). get-data (some j) q) e ∙ ap got k
+
+-- A value that is the place i of the plan, with its path or without
+module _ (s b : Bytes) (ent : List ℕ) (v : Value) (i : ℕ) (e : pathless v ≡ Place i) where
+  pub placed-json : json-of s b ent v ≡ json-at s i
+  placed-json = sym (pathless-json s b ent v) ∙ ap (json-of s b ent) e ∙ plain-is s b ent (Place i) refl
+
+  pub placed-within : Held s b ent v → i < places s
+  placed-within h = stands-plain s b ent (h .used) (Place i) refl (subst (Stands s b ent (h .used)) e (pathless-stands s b ent (h .used) v (h .stands)))
+
+  pub placed-context : (j : ℕ) → v ≡ Context j → (q : Bytes) (r : Reached) → Reaches s i q r → DataGot s b ent v q (with-path r)
+  placed-context j f q r k =
+      let x : Place j ≡ Place i = sym (ap pathless f) ∙ e in
+      let y : i ≡ j = cc in
+      subst (λ (u : Value). DataGot s b ent u q (with-path r)) (sym f) (context-data s b ent j q r (subst (λ (n : ℕ). Reaches s n q r) y k))
 
 abbrev pub Leaf : Form → Type 0
 Leaf form.Null = Unit {0}

@@ -2,7 +2,7 @@
 use Prim.Native.Nat.{ℕ}
 use mathlib.Core.List.{List, [], _∷_}
 use mathlib.Core.Option.{none}
-use mathlib.Core.Path.{_≡_, refl, sym, _∙_}
+use mathlib.Core.Path.{_≡_, refl, sym, _∙_, subst}
 use types.Run.{OneOf, miss}
 use denote.Enum.Declared.{tagOf}
 use Rattle.value.proofs.Value.{the-type}
@@ -47,6 +47,27 @@ no-merged (Text p) k = refl
 no-merged (SaidChar o n) k = refl
 no-merged (PackedChar p n) k = refl
 no-merged (Merged h n) k = absurd (miss (0 ∷ 1 ∷ 2 ∷ 3 ∷ 4 ∷ 5 ∷ 6 ∷ 7 ∷ 8 ∷ 9 ∷ 10 ∷ 11 ∷ 12 ∷ 13 ∷ []) 14 tt k)
+
+-- of what is no place without its path, which r is
+pub no-place : (v r : Value) → r ≡ pathless v → OneOf (0 ∷ 1 ∷ 2 ∷ 3 ∷ 4 ∷ 5 ∷ 7 ∷ 8 ∷ 9 ∷ 10 ∷ 11 ∷ 12 ∷ 13 ∷ 14 ∷ []) (tagOf the-type r) → context-place v ≡ none
+no-place v r e k = go v (subst (λ (x : Value). OneOf (0 ∷ 1 ∷ 2 ∷ 3 ∷ 4 ∷ 5 ∷ 7 ∷ 8 ∷ 9 ∷ 10 ∷ 11 ∷ 12 ∷ 13 ∷ 14 ∷ []) (tagOf the-type x)) e k)
+  where
+    go : (v : Value) → OneOf (0 ∷ 1 ∷ 2 ∷ 3 ∷ 4 ∷ 5 ∷ 7 ∷ 8 ∷ 9 ∷ 10 ∷ 11 ∷ 12 ∷ 13 ∷ 14 ∷ []) (tagOf the-type (pathless v)) → context-place v ≡ none
+    go Missing k = refl
+    go Null k = refl
+    go False k = refl
+    go True k = refl
+    go Empty k = refl
+    go (Context i) k = absurd (miss (0 ∷ 1 ∷ 2 ∷ 3 ∷ 4 ∷ 5 ∷ 7 ∷ 8 ∷ 9 ∷ 10 ∷ 11 ∷ 12 ∷ 13 ∷ 14 ∷ []) 6 tt k)
+    go (Place i) k = refl
+    go (Literal p) k = refl
+    go (Index n) k = refl
+    go (IndexText n) k = refl
+    go (Name o) k = refl
+    go (Text p) k = refl
+    go (SaidChar o n) k = refl
+    go (PackedChar p n) k = refl
+    go (Merged h n) k = refl
 
 -- the same without its path
 

@@ -32,7 +32,6 @@ use decimal::Parsed;
 use meaning::Form;
 use parts::Literal;
 use places::Kind;
-use saying::Name;
 use text::Step;
 use text::Text;
 use value::Value;
@@ -138,7 +137,7 @@ fn object_member(s: &[u8], tab: &[u64], b: &[u8], i: usize, t: Text) -> places::
     ensures { λ r. ⌜ found r ≡ member (now (s .entry)) i (rest (now (s .entry)) (now (b .entry)) t) ⌝ }
 {
     match t {
-        Text::Packed(p, n) => places::member(s, tab, i, b, Name::Packed(p, n)),
+        Text::Packed(p, n) => places::member_packed(s, tab, i, b, p, n),
         u => any_member(s, tab, b, i, u),
     }
 }
@@ -378,16 +377,31 @@ fn derived_data(s: &[u8], tab: &[u64], b: &[u8], ent: &[u64], v: Value, t: Text)
     }
 }
 
-// One segment of a path, the string at the bit place q of the bundle, from the value v.
+// One segment of a path, the string at the bit place q of the bundle, from the place i of the plan. Most often an object stands there.
+fn segment_data(s: &[u8], tab: &[u64], b: &[u8], i: usize, q: usize) -> Reached
+    requires { ⌜ Accepted (now s) (now tab) × (length (now b) ≤ 65536) × (i < places (now s)) × Holds string (bits (now b)) q ⌝ }
+    ensures { λ r. ⌜ Reaches (now (s .entry)) i (text-at (bits (now (b .entry))) q) r ⌝ }
+{
+    if places::is_object(s, tab, i) {
+        let n = bits::field(b, q, 16) as usize;
+        return from_place(places::member_packed(s, tab, i, b, q + 16, n));
+    }
+    place_data(s, tab, b, i, text_of(s, b, q))
+}
+
+// The same from the value v.
 pub fn get_data(s: &[u8], tab: &[u64], b: &[u8], ent: &[u64], v: Value, q: usize) -> Got
     requires { ⌜ Accepted (now s) (now tab) × (length (now b) ≤ 65536) × Held (now s) (now b) (now ent) v × Holds string (bits (now b)) q ⌝ }
     ensures { λ r. ⌜ DataGot (now (s .entry)) (now (b .entry)) (now (ent .entry)) v (text-at (bits (now (b .entry))) q) r ⌝ }
 {
-    let t = text_of(s, b, q);
-    let Value::Context(i) = v else {
-        return derived_data(s, tab, b, ent, v, t);
+    let Value::Place(i) = pathless(v) else {
+        return derived_data(s, tab, b, ent, v, text_of(s, b, q));
     };
-    with_path(place_data(s, tab, b, i, t))
+    let at = segment_data(s, tab, b, i, q);
+    let Value::Context(_) = v else {
+        return without_path(at);
+    };
+    with_path(at)
 }
 
 // The helper `lookup`

@@ -1,53 +1,74 @@
-use Rattle.rules.specs.Bits.{bits}
 use Rattle.layout.specs.Text.{text-at}
-use Rattle.lookup.proofs.Leading.{context-data}
-use Rattle.lookup.proofs.Told.{no-context}
-use Rattle.meaning.specs.Standing.{stands-plain}
-use Rattle.lookup.specs.Places as spec
-use Rattle.lookup.specs.Answers.{DataGot, Held}
-use Rattle.value.specs.declared.Value.the-variants.{Context}
-use Rattle.value.specs.declared.Value.{Value}
+use Rattle.lookup.proofs.Leading.{derived-place, placed-context, placed-json, placed-within}
+use Rattle.lookup.proofs.Told.{no-context, no-place}
+use Rattle.lookup.specs.Answers.{DataGot}
+use Rattle.rules.specs.Bits.{bits}
 use Rattle.rules.specs.Bytes.{Bytes}
-use Rattle.text.specs.Rest.{rest}
-use mathlib.Core.Path.{refl, sym, subst}
 use borrow.Author.Needs.{needs}
+use mathlib.Core.Path.{_∙_, subst, sym}
 use Rattle.lookup.proofs.get_data.Statement.{statement}
 use Rattle.lookup.proofs.get_data.Tie as tie
 
-text-of-requires : tie.Need-text-of-requires
-text-of-requires c κs = (c .before .before .before .before .pre .1, c .before .before .before .before .pre .3)
+pathless-requires : tie.Need-pathless-requires
+pathless-requires c κs = search needs
 
-enum-known-v : tie.Need-enum-known-v
-enum-known-v c = search needs
+enum-known-i : tie.Need-enum-known-i
+enum-known-i c = search needs
+
+text-of-requires : tie.Need-text-of-requires
+text-of-requires c κs = search needs
 
 derived-data-requires : tie.Need-derived-data-requires
-derived-data-requires c κs = (c .before .before .before .before .before .before .pre .0, c .before .before .before .before .before .before .pre .1, c .before .before .before .before .before .before .pre .2, no-context (c .before .before .before .before .before .before .args .v) (c .match .keys2) .0, c .before .text-of .ensures .1)
+derived-data-requires c κs =
+    let z = c .before .before .before .before .before .before .before in
+    (z .pre .0, z .pre .1, z .pre .2, no-place (z .args .v) (c .before .before .pathless .result) (c .before .before .pathless .ensures) (c .before .match .keys2), c .text-of .ensures .1)
 
 returns : tie.Need-returns
-returns c = subst (λ (q : Bytes). DataGot (c .before .before .before .before .before .before .before .args .s .now) (c .before .before .before .before .before .before .before .args .b .now) (c .before .before .before .before .before .before .before .args .ent .now) (c .before .before .before .before .before .before .before .args .v) q (c .derived-data .result)) (c .before .before .text-of .ensures .0) (c .derived-data .ensures)
+returns c =
+    let a = c .before .before .before .before .before .before .before .before .args in
+    subst (λ (q : Bytes). DataGot (a .s .now) (a .b .now) (a .ent .now) (a .v) q (c .derived-data .result)) (c .before .text-of .ensures .0) (c .derived-data .ensures)
 
-place-data-requires : tie.Need-place-data-requires
-place-data-requires c κs =
-    let h = subst (Held (c .before .before .before .before .before .before .before .before .args .s .now) (c .before .before .before .before .before .before .before .before .args .b .now) (c .before .before .before .before .before .before .before .before .args .ent .now)) (c .before .v .given .1) (c .before .before .before .before .before .before .before .before .pre .2) in
-    (c .before .before .before .before .before .before .before .before .pre .0, stands-plain (c .before .before .before .before .before .before .before .before .args .s .now) (c .before .before .before .before .before .before .before .before .args .b .now) (c .before .before .before .before .before .before .before .before .args .ent .now) (h .used) (Context (c .before .v .given .0 .0)) refl (h .stands) .0, c .before .before .before .text-of .ensures .1)
+segment-data-requires : tie.Need-segment-data-requires
+segment-data-requires c κs =
+    let z = c .before .before .before .before .before .before .before .before in
+    let a = z .args in
+    (z .pre .0, z .pre .1, placed-within (a .s .now) (a .b .now) (a .ent .now) (a .v) (c .before .i .given .0 .0) (sym (c .before .before .before .pathless .ensures) ∙ c .before .i .given .1) (z .pre .2), z .pre .3)
+
+enum-told : tie.Need-enum-told
+enum-told c = search needs
+
+without-path-requires : tie.Need-without-path-requires
+without-path-requires c κs = search needs
+
+returns-2 : tie.Need-returns-2
+returns-2 c =
+    let a = c .before .before .before .before .before .before .before .before .before .before .before .args in
+    let i = c .before .before .before .before .i .given in
+    rw (c .without-path .ensures) (derived-place (a .s .now) (a .b .now) (a .ent .now) (a .v) (text-at (bits (a .b .now)) (a .q)) (no-context (a .v) (c .before .match2 .keys2) .0) (i .0 .0)
+    (placed-json (a .s .now) (a .b .now) (a .ent .now) (a .v) (i .0 .0) (sym (c .before .before .before .before .before .before .pathless .ensures) ∙ i .1)) (c .before .before .segment-data .result) (c .before .before .segment-data .ensures))
 
 with-path-requires : tie.Need-with-path-requires
 with-path-requires c κs = search needs
 
-returns-2 : tie.Need-returns-2
-returns-2 c =
-    let d = context-data (c .before .before .before .before .before .before .before .before .before .before .args .s .now) (c .before .before .before .before .before .before .before .before .before .before .args .b .now) (c .before .before .before .before .before .before .before .before .before .before .args .ent .now) (c .before .before .before .v .given .0 .0) (rest (c .before .before .before .before .before .before .before .before .before .before .args .s .now) (c .before .before .before .before .before .before .before .before .before .before .args .b .now) (c .before .before .before .before .before .text-of .result)) (c .before .place-data .result) (c .before .place-data .ensures) in
-    let e = subst (λ (q : Bytes). DataGot (c .before .before .before .before .before .before .before .before .before .before .args .s .now) (c .before .before .before .before .before .before .before .before .before .before .args .b .now) (c .before .before .before .before .before .before .before .before .before .before .args .ent .now) (Context (c .before .before .before .v .given .0 .0)) q (spec.with-path (c .before .place-data .result))) (c .before .before .before .before .before .text-of .ensures .0) d in
-    rw (c .with-path .ensures) (subst (λ (v : Value). DataGot (c .before .before .before .before .before .before .before .before .before .before .args .s .now) (c .before .before .before .before .before .before .before .before .before .before .args .b .now) (c .before .before .before .before .before .before .before .before .before .before .args .ent .now) v (text-at (bits (c .before .before .before .before .before .before .before .before .before .before .args .b .now)) (c .before .before .before .before .before .before .before .before .before .before .args .q)) (spec.with-path (c .before .place-data .result))) (sym (c .before .before .before .v .given .1)) e)
+returns-3 : tie.Need-returns-3
+returns-3 c =
+    let a = c .before .before .before .before .before .before .before .before .before .before .before .before .args in
+    let i = c .before .before .before .before .before .i .given in
+    rw (c .with-path .ensures) (placed-context (a .s .now) (a .b .now) (a .ent .now) (a .v) (i .0 .0) (sym (c .before .before .before .before .before .before .before .pathless .ensures) ∙ i .1) (c .before .enum-told .given .0 .0) (c .before .enum-told .given .1)
+    (text-at (bits (a .b .now)) (a .q)) (c .before .before .before .segment-data .result) (c .before .before .before .segment-data .ensures))
 
 pub get-data-spec : {M : Type 1} → statement M
 get-data-spec =
     tie.close
     (tie.spec
+    pathless-requires
+    enum-known-i
     text-of-requires
-    enum-known-v
     derived-data-requires
     returns
-    place-data-requires
+    segment-data-requires
+    enum-told
+    without-path-requires
+    returns-2
     with-path-requires
-    returns-2)
+    returns-3)

@@ -9,8 +9,8 @@ use Rattle.lookup.proofs.object_member.Tie as tie
 enum-known-t : tie.Need-enum-known-t
 enum-known-t c = search needs
 
-member-requires : tie.Need-member-requires
-member-requires c κs =
+member-packed-requires : tie.Need-member-packed-requires
+member-packed-requires c κs =
     let z = c .before .before .before .before .before .before in
     (z .pre .0, z .pre .1, subst (Stands (z .args .s .now) (z .args .b .now)) (c .before .t .given .1) (z .pre .2))
 
@@ -20,11 +20,11 @@ any-member-requires c κs = search needs
 returns : tie.Need-returns
 returns c =
     let a = c .before .before .before .before .before .before .before .args in
-    c .member .ensures ∙ ap (λ (x : Text). member (a .s .now) (a .i) (rest (a .s .now) (a .b .now) x)) (sym (c .before .before .t .given .1))
+    c .member-packed .ensures ∙ ap (λ (x : Text). member (a .s .now) (a .i) (rest (a .s .now) (a .b .now) x)) (sym (c .before .before .t .given .1))
 
 returns-2 : tie.Need-returns-2
 returns-2 c = search needs
 
 pub object-member-spec : {M : Type 1} → statement M
 object-member-spec =
-    tie.close (tie.spec enum-known-t member-requires any-member-requires returns returns-2)
+    tie.close (tie.spec enum-known-t member-packed-requires any-member-requires returns returns-2)
