@@ -7,7 +7,7 @@ use native.Mathlib.Omega.{arith}
 use lib.Dec.{eqb}
 use borrow.Author.Tests.{eq-eqb, ne-eqb}
 use Rattle.rules.specs.Bytes.{Bytes, pick, maybe, byte-at, same, before}
-use Rattle.rules.specs.Json.{Json, jnull, jbool, jpos, jneg, jstr, jarr, jobj, Map, mnil, mcons, insert, count}
+use Rattle.rules.specs.Json.{Json, jnull, jbool, jpos, jneg, jstr, jarr, Map, mnil, mcons, insert, count}
 use Rattle.rules.specs.Scan.{saying, magnitude}
 use Rattle.rules.specs.Tree.{Tree, tree, Trees, tree-nil, tree-cons}
 use Rattle.rules.specs.Plan.{size, sizes, name-of, answer, scalar-at, meaning, meanings, members-onto}

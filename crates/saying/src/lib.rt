@@ -402,8 +402,10 @@ pub fn says_headed(s: &[u8], i: usize, w: &[u8], p: usize, n: usize, x: u64) -> 
 {
     let c = byte(s, i + 1);
     let first = ((x >> 48) % 256) as u8;
-    if (first != c) & is_own(c) {
-        return false;
+    if first != c {
+        if is_own(c) {
+            return false;
+        }
     }
     packed_headed(s, i + 1, w, p, n, x)
 }

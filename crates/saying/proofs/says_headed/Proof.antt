@@ -1,13 +1,9 @@
-use Prim.Native.Nat.{_+_, _/_, _%_, _^_}
+use Prim.Native.Nat.{_+_}
 use Rattle.rules.specs.Bits.{bits}
 use Rattle.rules.specs.BundleLaws.{bits-binary}
-use Rattle.rules.specs.Order.{and-left, and-right}
 use Rattle.saying.proofs.Headed.{head-first}
 use Rattle.saying.proofs.Plain.{plain-other}
 use borrow.Author.Needs.{needs}
-use borrow.Author.Tests.{eqb-false, not-true}
-use lib.Dec.{eqb}
-use mathlib.Core.Bool.{not}
 use mathlib.Core.Path.{_∙_, sym}
 use native.Mathlib.Omega.{arith}
 use Rattle.saying.proofs.says_headed.Statement.{statement}
@@ -27,13 +23,10 @@ is-own-requires c κs = search needs
 
 returns : tie.Need-returns
 returns c =
-    let z = c .before .before .before .before .before in
+    let z = c .before .before .before .before .before .before in
     let a = z .args in
-    let y = c .before .before .byte .result in
-    let t = eqb (a .x / 2 ^ 48 % 256) y in
-    let o = sym (c .before .is-own .ensures) ∙ and-right (not t) (c .before .is-own .result) (c .if1 .taken) in
-    plain-other (a .s .now) (bits (a .w .now)) (a .i + 1) (a .p) (a .n) y (c .before .before .byte .ensures) o (omega (arith, z .pre .1)) (a .x / 2 ^ 48 % 256)
-    (head-first (bits (a .w .now)) (bits-binary (a .w .now)) (a .p) (a .x) (z .pre .3)) (eqb-false _ _ (not-true t (and-left (not t) (c .before .is-own .result) (c .if1 .taken))))
+    plain-other (a .s .now) (bits (a .w .now)) (a .i + 1) (a .p) (a .n) _ (c .before .before .before .byte .ensures) (sym (c .before .is-own .ensures) ∙ c .if2 .taken) (omega (arith, z .pre .1)) _
+    (head-first (bits (a .w .now)) (bits-binary (a .w .now)) (a .p) (a .x) (z .pre .3)) (c .before .before .if1 .taken)
 
 add-packed-headed : tie.Need-add-packed-headed
 add-packed-headed c = search needs
