@@ -1,3 +1,4 @@
 mod Lists
 mod Stripping
 pub mod Said
+pub mod Digits

@@ -3,7 +3,7 @@ ghost use mathlib.Core.Path.{_≡_};
 ghost use Prim.Native.Nat.{_+_, _-_, _*_, _≤_, _<_};
 ghost use lib.ListN.{length, take, drop};
 ghost use Rattle.rules.specs.Bytes.{same};
-ghost use Rattle.rules.specs.Json.{jbool};
+ghost use Rattle.rules.specs.Json.{jbool, jpos, jneg};
 ghost use Rattle.rules.specs.Value.{render};
 ghost use Rattle.rules.specs.Bits.{bits};
 ghost use Rattle.bits.specs.Packed.{bytes-at};
@@ -133,6 +133,24 @@ fn write_text(
     }
 }
 
+// A whole number is written at once: the digits of every u64 fit the buffer.
+fn write_digits(out: &mut [u8], indent: &[u8], w: Writer, n: u64, escape: bool) -> Writer
+    ensures { λ r. ⌜ output r (now (out .exit)) ≡ printed (now (indent .entry)) escape (render (jpos n)) (output w (now (out .entry))) ⌝ }
+{
+    let mut buf = [0u8; 20];
+    let e = decimal::write_digits(&mut buf, 0, n);
+    support::feed_bytes(out, indent, w, &buf[..e], escape)
+}
+
+// The same behind a minus.
+fn write_minus(out: &mut [u8], indent: &[u8], w: Writer, n: u64, escape: bool) -> Writer
+    ensures { λ r. ⌜ output r (now (out .exit)) ≡ printed (now (indent .entry)) escape (render (jneg n)) (output w (now (out .entry))) ⌝ }
+{
+    let mut buf = [b'-'; 21];
+    let e = decimal::write_digits(&mut buf, 1, n);
+    support::feed_bytes(out, indent, w, &buf[..e], escape)
+}
+
 fn write_bool(out: &mut [u8], indent: &[u8], w: Writer, x: bool, escape: bool) -> Writer
     ensures { λ r. ⌜ output r (now (out .exit)) ≡ printed (now (indent .entry)) escape (render (jbool x)) (output w (now (out .entry))) ⌝ }
 {
@@ -188,8 +206,8 @@ pub fn write_value(
     match meaning::form_of(s, tab, b, v) {
         Form::Null => w,
         Form::Boolean(t) => write_bool(out, indent, w, t, escape),
-        Form::Unsigned(n) => write_text(out, indent, w, s, b, Text::Digits(n, 0), escape),
-        Form::Negative(n) => write_text(out, indent, w, s, b, Text::Minus(n), escape),
+        Form::Unsigned(n) => write_digits(out, indent, w, n, escape),
+        Form::Negative(n) => write_minus(out, indent, w, n, escape),
         Form::String(t) => write_text(out, indent, w, s, b, t, escape),
         Form::List(i) => write_list(out, indent, w, s, tab, b, i, escape),
         Form::Object(i) => support::feed_bytes(out, indent, w, b"[object]", escape),

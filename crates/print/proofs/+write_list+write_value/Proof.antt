@@ -28,6 +28,8 @@ use Rattle.meaning.proofs.form_of.Reads as form-of-reads
 use Rattle.places.proofs.first.Reads as first-reads
 use Rattle.places.proofs.next.Reads as next-reads
 use Rattle.print.proofs.write_bool.Reads as write-bool-reads
+use Rattle.print.proofs.write_digits.Reads as write-digits-reads
+use Rattle.print.proofs.write_minus.Reads as write-minus-reads
 use Rattle.print.proofs.write_text.Reads as write-text-reads
 use Rattle.support.proofs.feed_bytes.Reads as feed-bytes-reads
 use Rattle.print.proofs.+write_list+write_value.{statement}
@@ -59,7 +61,7 @@ abbrev write-list-claims : ℕ → write-list-lts.Claims
 write-list-claims t = (feed-bytes-reads.Asked, feed-bytes-reads.Learnt, first-reads.Asked, first-reads.Learnt, write-value-below t, write-value.Post, next-reads.Asked, next-reads.Learnt)
 
 abbrev write-value-claims : ℕ → write-value-lts.Claims
-write-value-claims t = (form-of-reads.Asked, form-of-reads.Learnt, write-bool-reads.Asked, write-bool-reads.Learnt, write-text-reads.Asked, write-text-reads.Learnt, write-list-below t, write-list.Post, feed-bytes-reads.Asked, feed-bytes-reads.Learnt)
+write-value-claims t = (form-of-reads.Asked, form-of-reads.Learnt, write-bool-reads.Asked, write-bool-reads.Learnt, write-digits-reads.Asked, write-digits-reads.Learnt, write-minus-reads.Asked, write-minus-reads.Learnt, write-text-reads.Asked, write-text-reads.Learnt, write-list-below t, write-list.Post, feed-bytes-reads.Asked, feed-bytes-reads.Learnt)
 
 abbrev write-list-Inv-loop : write-list-lts.InvT-loop
 write-list-Inv-loop out₀ indent s tab b i escape q₀ f c₀ t15 t16 out q c =
@@ -216,20 +218,20 @@ write-value-write-bool-requires t c κs = search needs
 write-value-enum-known-n : (t : ℕ) → write-value-lts.Need-enum-known-n (write-value-claims t) (write-value-at t) write-value.Post
 write-value-enum-known-n t c = search needs
 
-write-value-write-text-requires : (t : ℕ) → write-value-lts.Need-write-text-requires (write-value-claims t) (write-value-at t) write-value.Post
-write-value-write-text-requires t c κs = (short (c .before .before .before .before .before .before .before .before .before .before .args .s .now) (c .before .before .before .before .before .before .before .before .before .before .pre .1 .0 .answers), tt)
+write-value-write-digits-requires : (t : ℕ) → write-value-lts.Need-write-digits-requires (write-value-claims t) (write-value-at t) write-value.Post
+write-value-write-digits-requires t c κs = search needs
 
 write-value-enum-known-n-2 : (t : ℕ) → write-value-lts.Need-enum-known-n-2 (write-value-claims t) (write-value-at t) write-value.Post
 write-value-enum-known-n-2 t c = search needs
 
-write-value-write-text-requires-2 : (t : ℕ) → write-value-lts.Need-write-text-requires-2 (write-value-claims t) (write-value-at t) write-value.Post
-write-value-write-text-requires-2 t c κs = (short (c .before .before .before .before .before .before .before .before .before .before .args .s .now) (c .before .before .before .before .before .before .before .before .before .before .pre .1 .0 .answers), tt)
+write-value-write-minus-requires : (t : ℕ) → write-value-lts.Need-write-minus-requires (write-value-claims t) (write-value-at t) write-value.Post
+write-value-write-minus-requires t c κs = search needs
 
 write-value-enum-known-t-2 : (t : ℕ) → write-value-lts.Need-enum-known-t-2 (write-value-claims t) (write-value-at t) write-value.Post
 write-value-enum-known-t-2 t c = search needs
 
-write-value-write-text-requires-3 : (t : ℕ) → write-value-lts.Need-write-text-requires-3 (write-value-claims t) (write-value-at t) write-value.Post
-write-value-write-text-requires-3 t c κs =
+write-value-write-text-requires : (t : ℕ) → write-value-lts.Need-write-text-requires (write-value-claims t) (write-value-at t) write-value.Post
+write-value-write-text-requires t c κs =
     let z = c .before .before .before .before .before .before .before .before .before .before in
     let a = z .args in
     let h = subst (Formed (a .s .now) (a .b .now) (a .v)) (c .before .before .t2 .given .1) (c .before .before .before .before .form-of .ensures) in
@@ -280,31 +282,31 @@ write-value-returns-2 t c =
     means (a .s .now) (a .b .now) _ (a .v) (Boolean (c .before .before .before .before .before .t .given .0 .0)) h (c .before .before .write-bool .ensures)
 
 write-value-same-length-2 : (t : ℕ) → write-value-lts.Need-same-length-2 (write-value-claims t) (write-value-at t) write-value.Post
-write-value-same-length-2 t c = c .before .before .write-text .kept .0
+write-value-same-length-2 t c = c .before .before .write-digits .kept .0
 
 write-value-returns-3 : (t : ℕ) → write-value-lts.Need-returns-3 (write-value-claims t) (write-value-at t) write-value.Post
 write-value-returns-3 t c =
     let a = c .before .before .before .before .before .before .before .before .before .before .before .before .before .args in
     let h = subst (Formed (a .s .now) (a .b .now) (a .v)) (c .before .before .before .before .before .n .given .1) (c .before .before .before .before .before .before .before .form-of .ensures) in
-    means (a .s .now) (a .b .now) _ (a .v) (Unsigned (c .before .before .before .before .before .n .given .0 .0)) h (c .before .before .write-text .ensures)
+    means (a .s .now) (a .b .now) _ (a .v) (Unsigned (c .before .before .before .before .before .n .given .0 .0)) h (c .before .before .write-digits .ensures)
 
 write-value-same-length-3 : (t : ℕ) → write-value-lts.Need-same-length-3 (write-value-claims t) (write-value-at t) write-value.Post
-write-value-same-length-3 t c = c .before .before .write-text2 .kept .0
+write-value-same-length-3 t c = c .before .before .write-minus .kept .0
 
 write-value-returns-4 : (t : ℕ) → write-value-lts.Need-returns-4 (write-value-claims t) (write-value-at t) write-value.Post
 write-value-returns-4 t c =
     let a = c .before .before .before .before .before .before .before .before .before .before .before .before .before .args in
     let h = subst (Formed (a .s .now) (a .b .now) (a .v)) (c .before .before .before .before .before .n2 .given .1) (c .before .before .before .before .before .before .before .form-of .ensures) in
-    means (a .s .now) (a .b .now) _ (a .v) (Negative (c .before .before .before .before .before .n2 .given .0 .0)) h (c .before .before .write-text2 .ensures)
+    means (a .s .now) (a .b .now) _ (a .v) (Negative (c .before .before .before .before .before .n2 .given .0 .0)) h (c .before .before .write-minus .ensures)
 
 write-value-same-length-4 : (t : ℕ) → write-value-lts.Need-same-length-4 (write-value-claims t) (write-value-at t) write-value.Post
-write-value-same-length-4 t c = c .before .before .write-text3 .kept .0
+write-value-same-length-4 t c = c .before .before .write-text .kept .0
 
 write-value-returns-5 : (t : ℕ) → write-value-lts.Need-returns-5 (write-value-claims t) (write-value-at t) write-value.Post
 write-value-returns-5 t c =
     let a = c .before .before .before .before .before .before .before .before .before .before .before .before .before .args in
     let h = subst (Formed (a .s .now) (a .b .now) (a .v)) (c .before .before .before .before .before .t2 .given .1) (c .before .before .before .before .before .before .before .form-of .ensures) in
-    means (a .s .now) (a .b .now) _ (a .v) (String (c .before .before .before .before .before .t2 .given .0 .0)) h (λ _. c .before .before .write-text3 .ensures)
+    means (a .s .now) (a .b .now) _ (a .v) (String (c .before .before .before .before .before .t2 .given .0 .0)) h (λ _. c .before .before .write-text .ensures)
 
 write-value-same-length-5 : (t : ℕ) → write-value-lts.Need-same-length-5 (write-value-claims t) (write-value-at t) write-value.Post
 write-value-same-length-5 t c = c .before .before .write-list .kept .0
@@ -367,11 +369,11 @@ pub +write-list+write-value-spec : {M : Type 1} → statement M
     (write-value-enum-known-t t)
     (write-value-write-bool-requires t)
     (write-value-enum-known-n t)
-    (write-value-write-text-requires t)
+    (write-value-write-digits-requires t)
     (write-value-enum-known-n-2 t)
-    (write-value-write-text-requires-2 t)
+    (write-value-write-minus-requires t)
     (write-value-enum-known-t-2 t)
-    (write-value-write-text-requires-3 t)
+    (write-value-write-text-requires t)
     (write-value-enum-known-i t)
     (write-value-write-list-requires t)
     (write-value-enum-known-i-2 t)
