@@ -1,1 +1,1 @@
-mod Forming
+pub mod Forming

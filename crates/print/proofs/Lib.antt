@@ -2,3 +2,4 @@ mod Lists
 mod Stripping
 pub mod Said
 pub mod Digits
+mod Held

@@ -6,7 +6,10 @@ ghost use Rattle.rules.specs.Bytes.{same};
 ghost use Rattle.rules.specs.Json.{jbool, jpos, jneg};
 ghost use Rattle.rules.specs.Value.{render};
 ghost use Rattle.rules.specs.Bits.{bits};
+ghost use Rattle.rules.specs.Bundle.{string};
 ghost use Rattle.bits.specs.Packed.{bytes-at};
+ghost use Rattle.layout.specs.Text.{text-at};
+ghost use Rattle.parts.specs.Holds.{Holds};
 ghost use Rattle.saying.specs.Said.{remaining, Inside};
 ghost use Rattle.output.specs.Writer.{output};
 ghost use Rattle.places.specs.Accepted.{Accepted};
@@ -367,10 +370,25 @@ pub fn text_is(s: &[u8], tab: &[u64], b: &[u8], v: Value, w: &[u8]) -> bool
     requires { ⌜ Accepted (now s) (now tab) × (length (now b) ≤ 65536) × Known (now s) (now b) v ⌝ }
     ensures { λ r. ⌜ Means (now (s .entry)) (now (b .entry)) v (λ j. r ≡ same (render j) (now (w .entry))) ⌝ }
 {
+    if let Value::Text(p) = v {
+        return parts::text_is(b, p, w);
+    }
     let Form::String(t) = meaning::form_of(s, tab, b, v) else {
         return all_met(s, b, w, strip_value(s, tab, b, w, Target::Lent(0), v));
     };
     text::is(s, b, t, w)
+}
+
+// Whether the string at the bit place p of the bundle is the text t. (Names of partials are such strings on both sides.)
+fn held_same(s: &[u8], b: &[u8], p: usize, t: Text) -> bool
+    requires { ⌜ (length (now s) ≤ 65536) × (length (now b) ≤ 65536) × Holds string (bits (now b)) p × Stands (now s) (now b) t ⌝ }
+    ensures { λ r. ⌜ r ≡ same (text-at (bits (now (b .entry))) p) (rest (now (s .entry)) (now (b .entry)) t) ⌝ }
+{
+    let x = parts::text_at(b, p);
+    let Text::Packed(q, m) = t else {
+        return text::same(s, b, Text::Packed(x.first, x.count), t);
+    };
+    bits::same_at(b, x.first, x.count, q, m)
 }
 
 // Whether it prints just the text t. (No lent bytes are looked at.)
@@ -378,6 +396,9 @@ pub fn text_same(s: &[u8], tab: &[u64], b: &[u8], v: Value, t: Text) -> bool
     requires { ⌜ Accepted (now s) (now tab) × (length (now b) ≤ 65536) × Known (now s) (now b) v × Stands (now s) (now b) t ⌝ }
     ensures { λ r. ⌜ Means (now (s .entry)) (now (b .entry)) v (λ j. r ≡ same (render j) (rest (now (s .entry)) (now (b .entry)) t)) ⌝ }
 {
+    if let Value::Text(p) = v {
+        return held_same(s, b, p, t);
+    }
     let Form::String(u) = meaning::form_of(s, tab, b, v) else {
         return all_met(s, b, b, strip_value(s, tab, b, b, Target::Text(t), v));
     };
