@@ -69,7 +69,7 @@ stored-whole i v out w h k =
     let c = getD v (length v - 1) 0 in
     let fits : length v ≤ room o = rw (t .page) (let e = t .fits in omega arith) in
     let puts : all-put v (all-put (indent-before i (getD v 0 0) (begun w)) o) ≡ stored v o =
-        ap (λ (x : Bytes). all-put v (all-put x o)) (no-indent i (getD v 0 0) w (t .flush)) ∙ all-put-nil v o ∙ all-put-fits v o fits in
+    ap (λ (x : Bytes). all-put v (all-put x o)) (no-indent i (getD v 0 0) w (t .flush)) ∙ all-put-nil v o ∙ all-put-fits v o fits in
     let feeds : all-emitted i v o ≡ over (penned c) (stored v o) = run-whole i v o (t .some) k ∙ ap (over (penned c)) puts in
     let ends : output (behind (length v) c w) (sets out (w .written) v) ≡ over finished (over (penned c) (stored v o)) = rw (t .page) refl in
     ends ∙ ap (over finished) (sym feeds)

@@ -6,7 +6,7 @@ ghost use mathlib.Core.List.{List};
 ghost use mathlib.Core.Path.{_≡_};
 ghost use Prim.Native.Nat.{ℕ, _+_, _*_, _^_, _≤_, _<_};
 ghost use lib.ListN.{length, take, drop};
-ghost use Rattle.rules.specs.Bytes.{Bytes};
+ghost use Rattle.rules.specs.Bytes.{Bytes, digits};
 ghost use Rattle.rules.specs.Bits.{bits};
 ghost use Rattle.rules.specs.Bundle.{string};
 ghost use Rattle.rules.specs.Output.{write, do-escape, indent-aware-write};
@@ -29,7 +29,8 @@ ghost use Rattle.state.specs.Context.{whole};
 ghost use Rattle.state.specs.World.{world};
 ghost use Rattle.saying.specs.Said.{Inside};
 ghost use Rattle.writing.specs.Writes.{Wrote, Writes};
-ghost use Rattle.writing.specs.Spans.{SaidAt, PrintedAt};
+ghost use Rattle.text.specs.Rest as text;
+ghost use Rattle.writing.specs.Spans.{SaidAt, TextAt, PrintedAt};
 use meaning::Form;
 use output::Writer;
 use state::RenderContext;
@@ -127,10 +128,12 @@ fn feed_value(
     print::write_value(page, indent, w, s, tab, b, v, escape)
 }
 
-// Where what a value prints stands in the plan as it is: a string in which nothing is escaped.
+// What is known of the text that a value prints.
 enum Span {
-    // from a place up to another
+    // it stands in the plan as it is, from a place up to another: a string in which nothing is escaped
     Is(usize, usize),
+    // it is the digits of a number
+    Digits(u64),
     Nothing,
 }
 
@@ -149,17 +152,39 @@ fn said_span(s: &[u8], at: usize, k: usize) -> Span
     }
 }
 
-fn printed_span(s: &[u8], tab: &[u64], b: &[u8], v: Value) -> Span
-    requires { ⌜ Accepted (now s) (now tab) × (length (now b) ≤ 65536) × Known (now s) (now b) v ⌝ }
-    ensures { λ r. ⌜ PrintedAt (now (s .entry)) (now (b .entry)) v r ⌝ }
+fn text_span(s: &[u8], b: &[u8], t: Text) -> Span
+    requires { ⌜ (length (now s) ≤ 65536) × text.Stands (now s) (now b) t ⌝ }
+    ensures { λ r. ⌜ TextAt (now (s .entry)) (now (b .entry)) t r ⌝ }
 {
-    let Form::String(t) = meaning::form_of(s, tab, b, v) else {
-        return Span::Nothing;
-    };
     let Text::Said(at, k) = t else {
         return Span::Nothing;
     };
     said_span(s, at, k)
+}
+
+fn printed_span(s: &[u8], tab: &[u64], b: &[u8], v: Value) -> Span
+    requires { ⌜ Accepted (now s) (now tab) × (length (now b) ≤ 65536) × Known (now s) (now b) v ⌝ }
+    ensures { λ r. ⌜ PrintedAt (now (s .entry)) (now (b .entry)) v r ⌝ }
+{
+    match meaning::form_of(s, tab, b, v) {
+        Form::Unsigned(n) => Span::Digits(n),
+        Form::String(t) => text_span(s, b, t),
+        _ => Span::Nothing,
+    }
+}
+
+// The digits of a number, and how many.
+struct Digits {
+    bytes: [u8; 20],
+    count: usize,
+}
+
+fn digits_of(n: u64) -> Digits
+    ensures { λ r. ⌜ (take (r .count) (r .bytes) ≡ digits n) × (r .count ≤ length (r .bytes)) × (r .count ≡ length (take (r .count) (r .bytes))) ⌝ }
+{
+    let mut bytes = [0u8; 20];
+    let count = decimal::write_digits(&mut bytes, 0, n);
+    Digits { bytes, count }
 }
 
 // Whether lent bytes go to the page at once.
@@ -188,10 +213,21 @@ fn write_value(
     requires { ⌜ Accepted (now s) (now tab) × (length (now b) ≤ 65536) × Known (now s) (now b) v ⌝ }
     ensures { λ r. ⌜ Means (now (s .entry)) (now (b .entry)) v (λ j. outputs r (now (page .exit)) (now (texts .exit)) ≡ fed (now (indent .entry)) (escaped escape (render j)) (outputs w (now (page .entry)) (now (texts .entry)))) ⌝ }
 {
-    if let Span::Is(at, e) = printed_span(s, tab, b, v) {
-        if is_plain(w, page.len(), &s[at..e], escape) {
-            return direct::put_bytes(page, w, &s[at..e]);
+    match printed_span(s, tab, b, v) {
+        Span::Is(at, e) => {
+            if is_plain(w, page.len(), &s[at..e], escape) {
+                return direct::put_bytes(page, w, &s[at..e]);
+            }
         }
+        Span::Digits(n) => {
+            let d = digits_of(n);
+            let x = d.bytes;
+            let k = d.count;
+            if is_plain(w, page.len(), &x[..k], escape) {
+                return direct::put_bytes(page, w, &x[..k]);
+            }
+        }
+        Span::Nothing => {}
     }
     let q = support::begin(w);
     support::finish(feed_value(page, texts, indent, q, s, tab, b, v, escape))

@@ -36,7 +36,7 @@ same-length c = search needs
 
 -- src/lib.rt:76:1
 returns : tie.Need-returns
-returns c = 
+returns c =
     let a = c .before .before .before .before .before .before .before .before .args in
     let h = c .before .before .before .before .before .before .before .before .pre in
     let v = a .v .now in

@@ -48,7 +48,7 @@ same-length c = search needs
 
 -- src/lib.rt:67:1
 returns : tie.Need-returns
-returns c = 
+returns c =
     let a = c .before .before .before .before .before .before .before .before .args in
     let h = c .before .before .before .before .before .before .before .before .pre in
     let b = bits (a .s .now) in

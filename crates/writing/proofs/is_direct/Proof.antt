@@ -29,15 +29,15 @@ line-end-requires c κs = search needs
 
 -- src/lib.rt:60:9
 returns : tie.Need-returns
-returns c = 
+returns c =
     let a = c .before .before .before .before .args in
     let has = a .w .«has_indent» in
     let v = bytes-at (bits (a .b .now)) (a .p) (a .n) in
     let n : length v ≡ a .n = bytes-length (bits (a .b .now)) (a .p) (a .n) in
     λ h.
-        let e : c .line-end .result ≡ a .n = eqb-true (c .line-end .result) (a .n) h in
-        let l : length v ≤ line-length has v = omega (arith, e, n, c .line-end .ensures) in
-        (sym (c .before .before .takes .ensures) ∙ c .before .if1 .taken, ap (calm has) (sym (take-all (line-length has v) v l)) ∙ line-calm has v)
+    let e : c .line-end .result ≡ a .n = eqb-true (c .line-end .result) (a .n) h in
+    let l : length v ≤ line-length has v = omega (arith, e, n, c .line-end .ensures) in
+    (sym (c .before .before .takes .ensures) ∙ c .before .if1 .taken, ap (calm has) (sym (take-all (line-length has v) v l)) ∙ line-calm has v)
 
 -- src/lib.rt:55:1
 returns-2 : tie.Need-returns-2

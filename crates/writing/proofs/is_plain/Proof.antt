@@ -27,15 +27,15 @@ quiet-requires c κs = search needs
 
 -- src/lib.rt:171:9
 returns : tie.Need-returns
-returns c = 
+returns c =
     let a = c .before .before .before .before .args in
     let has = a .w .«has_indent» in
     let v = a .v .now in
     λ h.
-        let e : c .quiet .result ≡ length v = eqb-true (c .quiet .result) (length v) h in
-        let n : run (quiet-byte has (a .escape)) v ≡ length v = omega (arith, e, c .quiet .ensures .0) in
-        let whole : take (run (quiet-byte has (a .escape)) v) v ≡ v = ap (λ (k : ℕ). take k v) n ∙ take-length v in
-        (sym (c .before .before .takes .ensures) ∙ c .before .if1 .taken, ap (calm has) (sym whole) ∙ calm-run has (a .escape) v, ap (escaped (a .escape)) (sym whole) ∙ plain-run has (a .escape) v ∙ whole)
+    let e : c .quiet .result ≡ length v = eqb-true (c .quiet .result) (length v) h in
+    let n : run (quiet-byte has (a .escape)) v ≡ length v = omega (arith, e, c .quiet .ensures .0) in
+    let whole : take (run (quiet-byte has (a .escape)) v) v ≡ v = ap (λ (k : ℕ). take k v) n ∙ take-length v in
+    (sym (c .before .before .takes .ensures) ∙ c .before .if1 .taken, ap (calm has) (sym whole) ∙ calm-run has (a .escape) v, ap (escaped (a .escape)) (sym whole) ∙ plain-run has (a .escape) v ∙ whole)
 
 -- src/lib.rt:166:1
 returns-2 : tie.Need-returns-2

@@ -34,14 +34,14 @@ near b p le H = omega (arith, le, string-in (bits b) p H, bits-size b)
 
 -- src/lib.rt:98:9
 text-at-requires : tie.Need-text-at-requires
-text-at-requires c κs = 
+text-at-requires c κs =
     let s = c .before .before .before .before in
     let n = near (s .args .b .now) (s .args .p) (s .pre .0) (s .pre .1) in
     omega (arith, n)
 
 -- src/lib.rt:101:9
 write-packed-requires : tie.Need-write-packed-requires
-write-packed-requires c κs = 
+write-packed-requires c κs =
     let s = c .before .before .before .before .before .before .before in
     let n = near (s .args .b .now) (s .args .p) (s .pre .0) (s .pre .1) in
     rw (c .before .before .text-at .ensures) (omega (arith, n))
@@ -60,7 +60,7 @@ same-length-2 c = search needs
 
 -- src/lib.rt:86:1
 returns : tie.Need-returns
-returns c = 
+returns c =
     let a = c .before .before .before .before .before .before .before .before .before .before .before .before .before .args in
     let t = c .before .before .before .before .before .before .before .before .text-at in
     let f = c .before .before .before .before .before .write-packed in
@@ -69,8 +69,8 @@ returns c =
     let z = bits (a .b .now) in
     let e : bytes-at z (t .result .first) (t .result .count) ≡ text-at z (a .p) = ap (λ (x : Text). bytes-at z (x .first) (x .count)) (t .ensures) in
     let w : (l : List ℕ) → Wrote (whole (a .rc) l) (whole (c .wrote .result) l) page texts (fed (a .indent .now) (text-at z (a .p)) (outputs (a .rc .writer) (a .page .now) (a .texts .now))) =
-        λ l. wrote-by (whole (a .rc) l) (whole (c .wrote .result) l) (f .result) page texts (fed (a .indent .now) (text-at z (a .p)) (outputs (a .rc .writer) (a .page .now) (a .texts .now)))
-        (f .ensures ∙ ap (λ (v : Bytes). fed (a .indent .now) v (outputs (a .rc .writer) (a .page .now) (a .texts .now))) e) (c .wrote .ensures l) in
+    λ l. wrote-by (whole (a .rc) l) (whole (c .wrote .result) l) (f .result) page texts (fed (a .indent .now) (text-at z (a .p)) (outputs (a .rc .writer) (a .page .now) (a .texts .now)))
+    (f .ensures ∙ ap (λ (v : Bytes). fed (a .indent .now) v (outputs (a .rc .writer) (a .page .now) (a .texts .now))) e) (c .wrote .ensures l) in
     (w, λ l s ent r. draws-fed s (a .b .now) (world (whole (a .rc) l) (a .page .now) (a .texts .now) (a .indent .now) ent) (whole (c .wrote .result) l) page texts r (text-at z (a .p)) (w l))
 
 pub raw-string-spec : {M : Type 1} → statement M

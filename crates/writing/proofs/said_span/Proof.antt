@@ -25,7 +25,7 @@ returns c = search needs
 
 -- src/lib.rt:146:11
 next-byte-requires : tie.Need-next-byte-requires
-next-byte-requires c κs = 
+next-byte-requires c κs =
     let s = c .before .before .before in
     let e = c .before .own-end in
     (s .pre .0, part-inside (s .args .s .now) (s .args .at) (e .result) (e .ensures) (s .args .k) (s .pre .0) (s .pre .1))
@@ -44,20 +44,21 @@ returns-2 c = search needs
 
 -- src/lib.rt:138:1
 returns-3 : tie.Need-returns-3
-returns-3 c = 
+returns-3 c =
     let s = c .before .before .before .before .before .before in
     let t = s .args .s .now in
     let at = s .args .at in
     let e = c .before .before .before .before .own-end in
     let lt : at < e .result = omega (arith, c .before .before .before .if1 .left) in
     let z : remaining t (e .result) (s .args .k) ≡ _ = subst (Stepped t (remaining t (e .result) (s .args .k))) (c .enum-told2 .given .1) (c .before .before .next-byte .ensures) in
-    let m : e .result - at ≡ run is-own (drop at t) = omega (arith, e .ensures) in
-    (record { order = omega arith; end = part-in t at (e .result) (e .ensures) lt },
-     own-run t at (s .args .k) (s .pre .0) (s .pre .1) .is
-     ∙ ap (λ (n : ℕ). take (run is-own (drop at t)) (drop at t) ++ remaining t n (s .args .k)) (sym (e .ensures))
-     ∙ ap (λ (l : Bytes). take (run is-own (drop at t)) (drop at t) ++ l) z
-     ∙ append-nil (take (run is-own (drop at t)) (drop at t))
-     ∙ ap (λ (n : ℕ). take n (drop at t)) (sym m))
+    let m : e .result - at ≡ run is-own (drop at t) = omega (arith, e .ensures) in (
+      record { order = omega arith; end = part-in t at (e .result) (e .ensures) lt },
+      own-run t at (s .args .k) (s .pre .0) (s .pre .1) .is
+          ∙ ap (λ (n : ℕ). take (run is-own (drop at t)) (drop at t) ++ remaining t n (s .args .k)) (sym (e .ensures))
+          ∙ ap (λ (l : Bytes). take (run is-own (drop at t)) (drop at t) ++ l) z
+          ∙ append-nil (take (run is-own (drop at t)) (drop at t))
+          ∙ ap (λ (n : ℕ). take n (drop at t)) (sym m),
+    )
 
 pub said-span-spec : {M : Type 1} → statement M
 said-span-spec =

@@ -39,7 +39,7 @@ same-length-2 c = search needs
 
 -- src/lib.rt:201:1
 returns : tie.Need-returns
-returns c = 
+returns c =
     let a = c .before .before .before .before .before .before .before .before .before .before .before .before .before .before .before .args in
     let f = c .before .before .before .before .before .write-value in
     let page = f .last .0 in

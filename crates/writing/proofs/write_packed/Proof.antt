@@ -33,7 +33,7 @@ same-length c = search needs
 
 -- src/lib.rt:79:9
 returns : tie.Need-returns
-returns c = 
+returns c =
     let a = c .before .before .before .before .before .before .before .before .before .before .args in
     let v = bytes-at (bits (a .b .now)) (a .p) (a .n) in
     let d = c .before .before .before .before .before .is-direct .ensures (c .before .before .before .before .if1 .taken) in
@@ -62,7 +62,7 @@ same-length-3 c = search needs
 
 -- src/lib.rt:66:1
 returns-2 : tie.Need-returns-2
-returns-2 c = 
+returns-2 c =
     let a = c .before .before .before .before .before .before .before .before .before .before .before .before .before .before .before .args in
     let v = bytes-at (bits (a .b .now)) (a .p) (a .n) in
     let f = c .before .before .before .before .before .feed-packed in
