@@ -56,3 +56,43 @@ field-of-byte s k (suc j) h =
 
 pub field-byte : (s : Bytes) (k : ℕ) → field (bits s) 8 (8 * k) ≡ byte-at s k % 256
 field-byte s k = field-of-byte s k 8 (omega arith) ∙ ap (λ (n : ℕ). n % 256) (div-one (byte-at s k))
+
+-- n bytes from the place p on as a number, the least significant first
+unfoldable pub little : Bits → ℕ → ℕ → ℕ
+little b zero p = 0
+little b (suc n) p = field b 8 p + 256 * little b n (p + 8)
+
+module _ (b : Bits) where
+  -- with the byte behind them
+  pub little-more : (n p : ℕ) → little b (suc n) p ≡ little b n p + field b 8 (p + 8 * n) * 2 ^ (8 * n)
+  unfolding little
+  little-more zero p =
+      let e : p + 8 * 0 ≡ p = omega arith in
+      rw (e, mul-one) (omega arith)
+  little-more (suc n) p =
+      let e : p + 8 * suc n ≡ p + 8 + 8 * n = omega arith in
+      let d : 8 * suc n ≡ 8 * n + 8 = omega arith in
+      let f : field b 8 (p + 8 + 8 * n) * 2 ^ (8 * n + 8) ≡ field b 8 (p + 8 + 8 * n) * 2 ^ (8 * n) * 256 = rw (pow-add, ← mul-assoc) in
+      rw (e, d, f) (omega (arith, little-more n (p + 8)))
+
+module _ (b : Bits) (bin : Binary b) where
+  pub little-lt : (n p : ℕ) → little b n p < 2 ^ (8 * n)
+  unfolding little
+  little-lt zero p = omega arith
+  little-lt (suc n) p =
+      let d : 8 * suc n ≡ 8 * n + 8 = omega arith in
+      let e : 2 ^ (8 * n + 8) ≡ 2 ^ (8 * n) * 256 = pow-add 2 (8 * n) 8 in
+      rw (d, e) (omega (arith, little-lt n (p + 8), field-lt b bin 8 p))
+
+  -- the byte j of them
+  pub little-byte : (n p j : ℕ) → j < n → little b n p / 2 ^ (8 * j) % 256 ≡ field b 8 (p + 8 * j)
+  unfolding little
+  little-byte zero p j h = absurd (omega arith)
+  little-byte (suc n) p zero h =
+      let e : p + 8 * 0 ≡ p = omega arith in
+      rw e (omega (arith, field-lt b bin 8 p))
+  little-byte (suc n) p (suc j) h =
+      let d : 8 * suc j ≡ 8 + 8 * j = omega arith in
+      let e : p + (8 + 8 * j) ≡ p + 8 + 8 * j = omega arith in
+      let f : (field b 8 p + 256 * little b n (p + 8)) / 2 ^ 8 ≡ little b n (p + 8) = omega (arith, field-lt b bin 8 p) in
+      rw (d, e, ← shr-shr (field b 8 p + 256 * little b n (p + 8)) 8 (8 * j), f) (little-byte n (p + 8) j (omega arith))

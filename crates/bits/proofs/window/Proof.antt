@@ -1,9 +1,9 @@
-use Prim.Native.Nat.{_+_, _/_}
-use native.Mathlib.Omega.{arith}
-use borrow.Author.Needs.{needs}
-use Rattle.rules.specs.Bits.{bits}
-use Rattle.rules.specs.BundleLaws.{bits-binary}
 use Rattle.bits.proofs.Laws.{byte-past, window-of, window-end}
+use Rattle.rules.specs.BundleLaws.{bits-binary}
+use Rattle.rules.specs.Bits.{bits}
+use native.Mathlib.Omega.{arith}
+use Prim.Native.Nat.{_+_, _/_}
+use borrow.Author.Needs.{needs}
 use Rattle.bits.proofs.window.Statement.{statement}
 use Rattle.bits.proofs.window.Tie as tie
 
@@ -33,8 +33,8 @@ returns c =
     let a = c .before .before .before .before .args in
     window-of (bits (a .s .now)) (bits-binary (a .s .now)) (a .p) (c .before .word .ensures) (c .byte-at .ensures)
 
-bytes-or-zero-requires : tie.Need-bytes-or-zero-requires
-bytes-or-zero-requires c κs = search needs
+near-end-requires : tie.Need-near-end-requires
+near-end-requires c κs = search needs
 
 shl-result-2 : tie.Need-shl-result-2
 shl-result-2 c = search needs
@@ -42,7 +42,7 @@ shl-result-2 c = search needs
 returns-2 : tie.Need-returns-2
 returns-2 c =
     let a = c .before .before .before .args in
-    window-end (bits (a .s .now)) (bits-binary (a .s .now)) (a .p) (c .bytes-or-zero .ensures) (byte-past (a .s .now) (a .p / 8 + 8) (omega arith))
+    window-end (bits (a .s .now)) (bits-binary (a .s .now)) (a .p) (c .near-end .ensures) (byte-past (a .s .now) (a .p / 8 + 8) (omega arith))
 
 pub window-spec : {M : Type 1} → statement M
 window-spec =
@@ -56,6 +56,6 @@ window-spec =
     sub-result
     shr-result
     returns
-    bytes-or-zero-requires
+    near-end-requires
     shl-result-2
     returns-2)
