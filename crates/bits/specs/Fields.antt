@@ -1,6 +1,6 @@
 -- Laws of `field`, for widths that are left open: a field in two parts, its first bits, its last bits, and the bytes that it is read from.
 use Prim.Native.Nat.{ℕ, zero, suc, _+_, _-_, _*_, _/_, _%_, _^_, _≤_, _<_}
-use mathlib.Core.Path.{_≡_, sym, ap, _∙_}
+use mathlib.Core.Path.{_≡_, refl, sym, ap, _∙_}
 use native.Mathlib.Nat.{pow-suc, add-zero, add-suc, mul-assoc, mul-one, add-mul, mod-one, div-one}
 use native.Mathlib.Omega.{arith}
 use lib.Arith.{mod-mul}
@@ -9,6 +9,10 @@ use Rattle.rules.specs.Bytes.{Bytes, byte-at}
 use Rattle.rules.specs.Bits.{Bits, bits}
 use Rattle.rules.specs.Layout.{field}
 use Rattle.rules.specs.LayoutLaws.{Binary, field-lt}
+
+pub field-none : (b : Bits) (p : ℕ) → field b 0 p ≡ 0
+unfolding field
+field-none b p = refl
 
 -- a field of w + v bits is one of w bits and behind it one of v
 pub field-append : (b : Bits) (w v p : ℕ) → field b (w + v) p ≡ field b w p * 2 ^ v + field b v (p + w)

@@ -1,16 +1,18 @@
 -- Packed strings: n bytes of eight bits each, from the bit place p on.
-use Prim.Native.Nat.{ℕ, zero, suc, _+_, _*_, _≤_, _<_}
-use mathlib.Core.Bool.{Bool, true, false}
+use Prim.Native.Nat.{ℕ, zero, suc, _+_, _*_, _/_, _%_, _^_, _≤_, _<_}
+use mathlib.Core.Bool.{Bool, true, false, _&&_}
 use mathlib.Core.List.{[], _∷_, _++_}
-use mathlib.Core.Path.{_≡_, refl, sym, ap, _∙_}
+use mathlib.Core.Path.{_≡_, refl, sym, ap, ap₂, _∙_}
 use native.Mathlib.Nat.{zero-add, suc-add}
 use native.Mathlib.Omega.{arith}
-use lib.Dec.{leb}
+use lib.Dec.{eqb, leb}
 use lib.ListN.{length, getD}
-use borrow.Author.Tests.{le-leb, lt-leb, leb-true, leb-false}
-use Rattle.rules.specs.Bytes.{Bytes, pick}
+use borrow.Author.Tests.{le-leb, lt-leb, leb-true, leb-false, eq-eqb, eqb-true}
+use Rattle.rules.specs.Bytes.{Bytes, pick, same}
 use Rattle.rules.specs.Bits.{Bits}
 use Rattle.rules.specs.Layout.{Read, read, broken, onward, field, num, dec-all}
+use Rattle.rules.specs.LayoutLaws.{Binary}
+use Rattle.bits.specs.Fields.{field-none, field-append, field-first, field-last}
 use Rattle.bits.specs.Compare.{At}
 
 unfoldable pub bytes-at : Bits → ℕ → ℕ → Bytes
@@ -61,3 +63,35 @@ module _ (b : Bits) where
           let f : p + 8 * suc n ≡ p + 8 + 8 * n = omega arith in
           rw (rest (leb-true (p + 8) (b .size) e), f) (onto (leb (p + 8 + 8 * n) (b .size)) (bytes-at b (p + 8) n) (p + 8 + 8 * n))
       first rest false e = rw (lt-leb (p + 8 * suc n) (b .size) (omega (arith, leb-false (p + 8) (b .size) e)))
+
+-- k bytes of each string, compared as one number, and r bytes behind them
+module _ (b : Bits) (bin : Binary b) (r : ℕ) where
+  pub same-run : (k p q : ℕ) → field b (8 * k) p ≡ field b (8 * k) q → same (bytes-at b p (k + r)) (bytes-at b q (k + r)) ≡ same (bytes-at b (p + 8 * k) r) (bytes-at b (q + 8 * k) r)
+  unfolding bytes-at
+  same-run zero p q e =
+      let f : p + 8 * 0 ≡ p = omega arith in
+      let g : q + 8 * 0 ≡ q = omega arith in
+      rw (zero-add, f, g)
+  same-run (suc k) p q e =
+      let d : 8 * suc k ≡ 8 + 8 * k = omega arith in
+      let h : field b (8 + 8 * k) p ≡ field b (8 + 8 * k) q = rw d at e in
+      let x : field b 8 p ≡ field b 8 q = sym (field-first b bin 8 (8 * k) p) ∙ ap (λ (n : ℕ). n / 2 ^ (8 * k)) h ∙ field-first b bin 8 (8 * k) q in
+      let y : field b (8 * k) (p + 8) ≡ field b (8 * k) (q + 8) = sym (field-last b bin 8 (8 * k) p) ∙ ap (λ (n : ℕ). n % 2 ^ (8 * k)) h ∙ field-last b bin 8 (8 * k) q in
+      let f : p + 8 * suc k ≡ p + 8 + 8 * k = omega arith in
+      let g : q + 8 * suc k ≡ q + 8 + 8 * k = omega arith in
+      rw (suc-add, eq-eqb (field b 8 p) (field b 8 q) x, f, g) (same-run k (p + 8) (q + 8) y)
+
+  pub differ-run : (k p q : ℕ) → (field b (8 * k) p ≡ field b (8 * k) q → ⊥) → false ≡ same (bytes-at b p (k + r)) (bytes-at b q (k + r))
+  unfolding bytes-at
+  differ-run zero p q g = absurd (g (field-none b p ∙ sym (field-none b q)))
+  differ-run (suc k) p q g = rw suc-add (first (differ-run k (p + 8) (q + 8)) (eqb (field b 8 p) (field b 8 q)) refl)
+    where
+      both : field b 8 p ≡ field b 8 q → field b (8 * k) (p + 8) ≡ field b (8 * k) (q + 8) → field b (8 * suc k) p ≡ field b (8 * suc k) q
+      both e f =
+          let d : 8 * suc k ≡ 8 + 8 * k = omega arith in
+          rw d (field-append b 8 (8 * k) p ∙ ap₂ (λ (m n : ℕ). m * 2 ^ (8 * k) + n) e f ∙ sym (field-append b 8 (8 * k) q))
+
+      first : ((field b (8 * k) (p + 8) ≡ field b (8 * k) (q + 8) → ⊥) → false ≡ same (bytes-at b (p + 8) (k + r)) (bytes-at b (q + 8) (k + r)))
+          → (c : Bool) → eqb (field b 8 p) (field b 8 q) ≡ c → false ≡ (c && same (bytes-at b (p + 8) (k + r)) (bytes-at b (q + 8) (k + r)))
+      first rest true e = rest (λ f. g (both (eqb-true (field b 8 p) (field b 8 q) e) f))
+      first rest false e = refl

@@ -2,7 +2,7 @@
 // Past the bundle's end every bit is 0, as the definition has it, so a place needs no bound. A width is one of the layout's, at most 64.
 // Where a string's end has to fit a usize, it does: a bundle has at most 65,536 bytes.
 ghost use mathlib.Core.Path.{_≡_};
-ghost use Prim.Native.Nat.{_+_, _*_, _^_, _≤_, _<_};
+ghost use Prim.Native.Nat.{_+_, _*_, _^_, _≤_, _<_, min};
 ghost use lib.ListN.{length};
 ghost use Rattle.rules.specs.Bytes.{same, before};
 ghost use Rattle.rules.specs.Bits.{bits};
@@ -151,7 +151,13 @@ pub fn same_bytes(s: &[u8], p: usize, n: usize, t: &[u8]) -> bool
     true
 }
 
-// Whether the n packed bytes at p are the m packed bytes at q.
+fn least(a: usize, b: usize) -> usize
+    ensures { λ r. ⌜ r ≡ min a b ⌝ }
+{
+    if a < b { a } else { b }
+}
+
+// Whether the n packed bytes at p are the m packed bytes at q. As many bytes as one load holds at any bit are compared at once.
 pub fn same_at(s: &[u8], p: usize, n: usize, q: usize, m: usize) -> bool
     requires { ⌜ (p + 8 * n < 2 ^ 64) × (q + 8 * m < 2 ^ 64) ⌝ }
     ensures { λ r. ⌜ r ≡ same (bytes-at (bits (now (s .entry))) p n) (bytes-at (bits (now (s .entry))) q m) ⌝ }
@@ -161,10 +167,11 @@ pub fn same_at(s: &[u8], p: usize, n: usize, q: usize, m: usize) -> bool
     }
     let mut i: usize = 0;
     while i < n {
-        if byte(s, p + 8 * i) != byte(s, q + 8 * i) {
+        let k = least(n - i, 7);
+        if field(s, p + 8 * i, 8 * k) != field(s, q + 8 * i, 8 * k) {
             return false;
         }
-        i += 1;
+        i += k;
     }
     true
 }
