@@ -12,7 +12,7 @@ use Rattle.rules.specs.Bytes.{Bytes, pick, same}
 use Rattle.rules.specs.Bits.{Bits}
 use Rattle.rules.specs.Layout.{Read, read, broken, onward, field, num, dec-all}
 use Rattle.rules.specs.LayoutLaws.{Binary}
-use Rattle.bits.specs.Fields.{field-none, field-append, field-first, field-last}
+use Rattle.bits.specs.Fields.{field-none, field-append, field-first, field-last, field-middle}
 use Rattle.bits.specs.Compare.{At}
 
 unfoldable pub bytes-at : Bits → ℕ → ℕ → Bytes
@@ -63,6 +63,21 @@ module _ (b : Bits) where
           let f : p + 8 * suc n ≡ p + 8 + 8 * n = omega arith in
           rw (rest (leb-true (p + 8) (b .size) e), f) (onto (leb (p + 8 + 8 * n) (b .size)) (bytes-at b (p + 8) n) (p + 8 + 8 * n))
       first rest false e = rw (lt-leb (p + 8 * suc n) (b .size) (omega (arith, leb-false (p + 8) (b .size) e)))
+
+-- the last n bytes of a number, the most significant first
+unfoldable pub number-bytes : ℕ → ℕ → Bytes
+number-bytes zero x = []
+number-bytes (suc n) x = x / 2 ^ (8 * n) % 256 ∷ number-bytes n x
+
+-- those of a field are the packed ones, behind its first w bits
+pub number-packed : (b : Bits) (bin : Binary b) (n w p x : ℕ) → x ≡ field b (w + 8 * n) p → number-bytes n x ≡ bytes-at b (p + w) n
+unfolding bytes-at number-bytes
+number-packed b bin zero w p x e = refl
+number-packed b bin (suc n) w p x e =
+    let d : w + 8 * suc n ≡ w + 8 + 8 * n = omega arith in
+    let f : x ≡ field b (w + 8 + 8 * n) p = rw d at e in
+    let g : p + w + 8 ≡ p + (w + 8) = omega arith in
+    ap₂ _∷_ (ap (λ (y : ℕ). y / 2 ^ (8 * n) % 256) f ∙ field-middle b bin w 8 (8 * n) p) (number-packed b bin n (w + 8) p x f ∙ ap (λ (q : ℕ). bytes-at b q n) (sym g))
 
 -- k bytes of each string, compared as one number, and r bytes behind them
 module _ (b : Bits) (bin : Binary b) (r : ℕ) where

@@ -4,10 +4,11 @@ use Prim.Native.Nat.{ℕ, _+_, _-_, _*_, _≤_, _<_}
 use native.Mathlib.Omega.{arith}
 use mathlib.Core.List.{_++_}
 use lib.ListN.{length, take, drop}
-use lib.Seq.{take-at, drop-at}
+use lib.Seq.{sets, take-at, drop-at}
 use Rattle.rules.specs.Bytes.{Bytes}
 use Rattle.rules.specs.Bits.{Bits}
 use Rattle.bits.specs.Packed.{bytes-at, bytes-length, bytes-append}
+use Rattle.output.proofs.Texts.{sets-behind}
 
 module _ (b : Bits) (p n k : ℕ) (h : k ≤ n) where
   parts : bytes-at b p n ≡ bytes-at b p k ++ bytes-at b (p + 8 * k) (n - k)
@@ -22,3 +23,9 @@ module _ (b : Bits) (p n k : ℕ) (h : k ≤ n) where
 -- m bytes from the byte k on
 pub part-packed : (b : Bits) (p n k m : ℕ) → k + m ≤ n → take m (drop k (bytes-at b p n)) ≡ bytes-at b (p + 8 * k) m
 part-packed b p n k m h = ap (take m) (drop-packed b p n k (omega arith)) ∙ take-packed b (p + 8 * k) (n - k) m (omega arith)
+
+-- k bytes more are copied
+pub copy-packed-more : (l : Bytes) (b : Bits) (at p i k : ℕ) → sets (sets l at (bytes-at b p i)) (at + i) (bytes-at b (p + 8 * i) k) ≡ sets l at (bytes-at b p (i + k))
+copy-packed-more l b at p i k =
+    ap (λ (j : ℕ). sets (sets l at (bytes-at b p i)) (at + j) (bytes-at b (p + 8 * i) k)) (sym (bytes-length b p i))
+    ∙ sets-behind (bytes-at b p i) (bytes-at b (p + 8 * i) k) l at ∙ ap (sets l at) (sym (bytes-append b p i k))

@@ -63,10 +63,14 @@ pub move-more : (t₀ t : Bytes) (i j i′ j′ low : ℕ) → suc i ≡ i′ �
 move-more t₀ t i j i′ j′ low ei ej il lt ij e =
     rw (e, ← ei, ← ej, slice-cons i low t₀ 0 il lt, getD-sets (slice (suc i) low t₀) t₀ i (suc j) (omega arith)) (set-sets (slice (suc i) low t₀) t₀ j (suc j) (getD t₀ i 0) (omega arith))
 
+-- a run of stores behind another
+pub sets-behind : (u v l : Bytes) (i : ℕ) → sets (sets l i u) (i + length u) v ≡ sets l i (u ++ v)
+sets-behind [] v l i = rw add-zero
+sets-behind (a ∷ u) v l i = let e : i + suc (length u) ≡ suc i + length u = omega arith in rw e (sets-behind u v (set l i a) (suc i))
+
 -- a byte more is copied
 pub set-behind : (v l : Bytes) (i x : ℕ) → set (sets l i v) (i + length v) x ≡ sets l i (v ++ (x ∷ []))
-set-behind [] l i x = rw add-zero
-set-behind (a ∷ v) l i x = let e : i + suc (length v) ≡ suc i + length v = omega arith in rw e (set-behind v (set l i a) (suc i) x)
+set-behind v l i x = sets-behind v (x ∷ []) l i
 
 pub copy-more : (l v : Bytes) (at i : ℕ) → i < length v → set (sets l at (take i v)) (at + i) (getD v i 0) ≡ sets l at (take (i + 1) v)
 copy-more l v at i h =

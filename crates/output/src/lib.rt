@@ -6,7 +6,8 @@ ghost use Prim.Native.Nat.{_+_, _-_, _*_, _^_, _≤_, _<_, min};
 ghost use lib.ListN.{length, take, drop};
 ghost use lib.Seq.{sets, slice};
 ghost use Rattle.rules.specs.Bits.{bits};
-ghost use Rattle.bits.specs.Packed.{bytes-at};
+ghost use Rattle.rules.specs.Bytes.{pick};
+ghost use Rattle.bits.specs.Packed.{bytes-at, number-bytes};
 ghost use Rattle.output.specs.Writer.{output, fresh, advanced, filled-if, place-of, limit-of, put as put-byte, all-put};
 ghost use Rattle.output.specs.Outputs.{outputs, on};
 
@@ -59,11 +60,17 @@ fn least(a: usize, b: usize) -> usize
     if a < b { a } else { b }
 }
 
-// The place of the next byte.
+fn either(first: bool, a: usize, b: usize) -> usize
+    ensures { λ r. ⌜ r ≡ pick first a b ⌝ }
+{
+    if first { a } else { b }
+}
+
+// The place of the next byte. (A choice between two fields where they lie in memory would keep the whole writer there.)
 fn place(w: Writer) -> usize
     ensures { λ r. ⌜ r ≡ place-of w ⌝ }
 {
-    if w.block_text { w.low } else { w.written }
+    either(w.block_text, w.low, w.written)
 }
 
 // Where the bytes that may be taken end, in a buffer of n bytes.
@@ -152,8 +159,23 @@ pub fn write(out: &mut [u8], w: Writer, v: &[u8]) -> Writer
     fill(advance(w, n), n, v.len())
 }
 
-// The n bytes of a packed string that starts at the bit p, stored from a place on.
-pub fn copy_packed(out: &mut [u8], at: usize, s: &[u8], p: usize, n: usize)
+// The bytes of a word, stored from a place on. The compiler makes one store of this row.
+fn put_word(out: &mut [u8], at: usize, x: u64)
+    requires { ⌜ at + 8 ≤ length (now out) ⌝ }
+    ensures { λ _. ⌜ now (out .exit) ≡ sets (now (out .entry)) at (number-bytes 8 x) ⌝ }
+{
+    out[at] = ((x >> 56) % 256) as u8;
+    out[at + 1] = ((x >> 48) % 256) as u8;
+    out[at + 2] = ((x >> 40) % 256) as u8;
+    out[at + 3] = ((x >> 32) % 256) as u8;
+    out[at + 4] = ((x >> 24) % 256) as u8;
+    out[at + 5] = ((x >> 16) % 256) as u8;
+    out[at + 6] = ((x >> 8) % 256) as u8;
+    out[at + 7] = (x % 256) as u8;
+}
+
+// The n bytes of a packed string that starts at the bit p, stored from a place on: byte by byte.
+fn copy_bytes(out: &mut [u8], at: usize, s: &[u8], p: usize, n: usize)
     requires { ⌜ (n ≤ length (now out) - at) × (p + 8 * n < 2 ^ 64) ⌝ }
     ensures { λ _. ⌜ now (out .exit) ≡ sets (now (out .entry)) at (bytes-at (bits (now (s .entry))) p n) ⌝ }
 {
@@ -162,6 +184,19 @@ pub fn copy_packed(out: &mut [u8], at: usize, s: &[u8], p: usize, n: usize)
         out[at + i] = bits::byte(s, p + 8 * i);
         i += 1;
     }
+}
+
+// The same: eight bytes at a time, and what is left.
+pub fn copy_packed(out: &mut [u8], at: usize, s: &[u8], p: usize, n: usize)
+    requires { ⌜ (n ≤ length (now out) - at) × (p + 8 * n < 2 ^ 64) ⌝ }
+    ensures { λ _. ⌜ now (out .exit) ≡ sets (now (out .entry)) at (bytes-at (bits (now (s .entry))) p n) ⌝ }
+{
+    let mut i = 0;
+    while i + 8 <= n {
+        put_word(out, at + i, bits::field(s, p + 8 * i, 64));
+        i += 8;
+    }
+    copy_bytes(out, at + i, s, p + 8 * i, n - i);
 }
 
 // The same as `write` for the n bytes of a packed string that starts at the bit p. (Strings lie within a bundle, so the sum fits.)
