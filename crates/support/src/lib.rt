@@ -324,7 +324,8 @@ fn quiet_packed(s: &[u8], p: usize, i: usize, n: usize, has_indent: bool) -> usi
     j
 }
 
-// All of a packed string, escaped, by runs: as `feed_bytes`.
+// All of a packed string, escaped, by runs: as `feed_bytes`. (`feed_packed_run` would do for a run, but with a second caller the
+// compiler would keep it out of `feed_packed`, which feeds most texts.)
 pub fn feed_packed_escaped(
     out: &mut [u8],
     indent: &[u8],
@@ -340,7 +341,7 @@ pub fn feed_packed_escaped(
     let mut i = 0;
     while i < n {
         let e = quiet_packed(s, p, i, n, q.has_indent);
-        q = feed_packed_run(out, indent, q, s, p + 8 * i, e - i);
+        q = feed_packed(out, indent, q, s, p + 8 * i, e - i);
         if n <= e {
             return q;
         }

@@ -9,9 +9,9 @@ use Rattle.bits.specs.Packed.{bytes-at, bytes-length, bytes-get}
 use Rattle.output.specs.Writer.{output}
 use Rattle.output.proofs.Packed.{part-packed}
 use Rattle.support.specs.Feed.{all-emitted, entity-or, escaped}
-use Rattle.support.specs.Runs.{calm, quiet-byte}
+use Rattle.support.specs.Runs.{quiet-byte}
 use Rattle.support.proofs.Steps.{feed-more, feed-done}
-use Rattle.support.proofs.Runs.{calm-run, plain-run, run-step}
+use Rattle.support.proofs.Runs.{plain-run, run-step}
 use borrow.Author.Needs.{needs}
 use Rattle.support.proofs.feed_packed_escaped.Statement.{statement}
 use Rattle.support.proofs.feed_packed_escaped.Tie as tie
@@ -31,30 +31,19 @@ loop-holds c = search needs
 quiet-packed-requires : tie.Need-quiet-packed-requires Inv-loop μ-loop
 quiet-packed-requires c κs = search needs
 
-mul-feed-packed-run : tie.Need-mul-feed-packed-run Inv-loop μ-loop
-mul-feed-packed-run c = search needs
+mul-feed-packed : tie.Need-mul-feed-packed Inv-loop μ-loop
+mul-feed-packed c = search needs
 
-add-feed-packed-run : tie.Need-add-feed-packed-run Inv-loop μ-loop
-add-feed-packed-run c = search needs
+add-feed-packed : tie.Need-add-feed-packed Inv-loop μ-loop
+add-feed-packed c = search needs
 
-sub-feed-packed-run : tie.Need-sub-feed-packed-run Inv-loop μ-loop
-sub-feed-packed-run c =
+sub-feed-packed : tie.Need-sub-feed-packed Inv-loop μ-loop
+sub-feed-packed c =
     omega (arith, c .before .quiet-packed .ensures .0)
 
-feed-packed-run-requires : tie.Need-feed-packed-run-requires Inv-loop μ-loop
-feed-packed-run-requires c κs =
-    let a = c .before .before .before .before .before .before .before .args in
-    let l = c .before .before .before .loop in
-    let b = bits (a .s .now) in
-    let v = bytes-at b (a .p) (a .n) in
-    let n = bytes-length b (a .p) (a .n) in
-    let has = l .q .«has_indent» in
-    let d = drop (l .i) v in
-    let m = c .before .quiet-packed .result - l .i in
-    let e : m ≡ run (quiet-byte has true) d = omega (arith, c .before .quiet-packed .ensures .0) in
-    let k : l .i + m ≡ c .before .quiet-packed .result = omega (arith, c .before .quiet-packed .ensures .0) in
-    let f : l .i + m ≤ a .n = omega (arith, c .before .quiet-packed .ensures .1) in
-    (omega arith, ap (calm has) (sym (part-packed b (a .p) (a .n) (l .i) m f) ∙ ap (λ (x : ℕ). take x d) e) ∙ calm-run has true d)
+feed-packed-requires : tie.Need-feed-packed-requires Inv-loop μ-loop
+feed-packed-requires c κs =
+    omega (arith, c .before .quiet-packed .ensures .0, c .before .quiet-packed .ensures .1)
 
 same-length : tie.Need-same-length Inv-loop μ-loop
 same-length c = search needs
@@ -72,7 +61,7 @@ returns c =
     let e : m ≡ run (quiet-byte has true) d = omega (arith, c .before .before .before .before .before .quiet-packed .ensures .0) in
     let k : l .i + m ≡ c .before .before .before .before .before .quiet-packed .result = omega (arith, c .before .before .before .before .before .quiet-packed .ensures .0) in
     let f : l .i + m ≤ a .n = omega (arith, c .before .before .before .before .before .quiet-packed .ensures .1) in
-    let p = c .before .before .before .feed-packed-run in
+    let p = c .before .before .before .feed-packed in
     let o = output (l .q) (l .out) in
     let o′ = output (p .result) (p .last .0) in
     let plain : escaped true (take m d) ≡ take m d = rw e (plain-run has true d) in
@@ -114,7 +103,7 @@ loop-again c =
     let e : m ≡ run (quiet-byte has true) d = omega (arith, c .before .before .before .before .before .before .before .before .before .before .quiet-packed .ensures .0) in
     let k : l .i + m ≡ c .before .before .before .before .before .before .before .before .before .before .quiet-packed .result = omega (arith, c .before .before .before .before .before .before .before .before .before .before .quiet-packed .ensures .0) in
     let f : l .i + m ≤ a .n = omega (arith, c .before .before .before .before .before .before .before .before .before .before .quiet-packed .ensures .1) in
-    let p = c .before .before .before .before .before .before .before .before .feed-packed-run in
+    let p = c .before .before .before .before .before .before .before .before .feed-packed in
     let o = output (l .q) (l .out) in
     let o′ = output (p .result) (p .last .0) in
     let plain : escaped true (take m d) ≡ take m d = rw e (plain-run has true d) in
@@ -149,10 +138,10 @@ feed-packed-escaped-spec =
     μ-loop
     loop-holds
     quiet-packed-requires
-    mul-feed-packed-run
-    add-feed-packed-run
-    sub-feed-packed-run
-    feed-packed-run-requires
+    mul-feed-packed
+    add-feed-packed
+    sub-feed-packed
+    feed-packed-requires
     same-length
     returns
     mul-byte
