@@ -1,6 +1,6 @@
 -- Recursive lookup, and where a start leads.
 use Prim.Native.Nat.{ℕ, _-_, _<_}
-use mathlib.Core.Bool.{true, false}
+use mathlib.Core.Bool.{Bool, true, false}
 use mathlib.Core.List.{List, [], _∷_, _++_}
 use mathlib.Core.Option.{Option, none, some}
 use mathlib.Core.Path.{_≡_, refl, sym, ap, ap₂, _∙_, subst}
@@ -139,7 +139,7 @@ module _ (s b : Bytes) (ent tab : List ℕ) (acc : Accepted s tab) where
   -- Where a value leads
 
   module _ (v : Value) (t : ℕ) (st : Stands s b ent t v) (q : List Bytes) where
-    pub followed : follow (json-at s 0) false (resolved s b ent v q) ≡ walked (path-of s v) (json-of s b ent v) q
+    followed : follow (json-at s 0) false (resolved s b ent v q) ≡ walked (path-of s v) (json-of s b ent v) q
     followed = go (context-place v) refl
       where
         go : (o : Option ℕ) → context-place v ≡ o → follow (json-at s 0) false (resolved s b ent v q) ≡ walked (path-of s v) (json-of s b ent v) q
@@ -151,8 +151,10 @@ module _ (s b : Bytes) (ent tab : List ℕ) (acc : Accepted s tab) where
             ∙ follow-place s (acc .answers) i q (y .0) (y .1)
             ∙ sym (ap₂ (λ (o : Option (List Bytes)) (j : Json). walked o j q) (ap (path-of s) x) (ap (json-of s b ent) x ∙ plain-is s b ent (Context i) refl))
 
-    pub followed-value : context-place v ≡ none → follow (json-at s 0) true (resolved s b ent v q) ≡ walked (path-of s v) (json-of s b ent v) q
-    followed-value e = rw e (follow-value (json-at s 0) true (json-of s b ent v) q)
+    -- recursive lookup or not, where recursive lookup starts from no place
+    pub followed-either : (f : Bool) → (f ≡ true → context-place v ≡ none) → follow (json-at s 0) f (resolved s b ent v q) ≡ walked (path-of s v) (json-of s b ent v) q
+    followed-either false e = followed
+    followed-either true e = rw (e refl) (follow-value (json-at s 0) true (json-of s b ent v) q)
 
 pub no-context : (v : Value) → OneOf (0 ∷ 1 ∷ 2 ∷ 3 ∷ 4 ∷ 6 ∷ 7 ∷ 8 ∷ 9 ∷ 10 ∷ 11 ∷ 12 ∷ 13 ∷ 14 ∷ []) (tagOf value-type v) → context-place v ≡ none
 no-context (Context i) k = absurd (miss (0 ∷ 1 ∷ 2 ∷ 3 ∷ 4 ∷ 6 ∷ 7 ∷ 8 ∷ 9 ∷ 10 ∷ 11 ∷ 12 ∷ 13 ∷ 14 ∷ []) 5 tt k)

@@ -5,8 +5,6 @@ use mathlib.Core.List.{List, [], _∷_, _++_}
 use mathlib.Core.Option.{Option, none, some}
 use mathlib.Core.Path.{_≡_, refl, sym, ap, ap₂, _∙_, subst}
 use native.Mathlib.Omega.{arith}
-use types.Run.{OneOf, miss}
-use denote.Enum.Declared.{tagOf}
 use lib.Dec.{eqb}
 use borrow.Author.Tests.{eqb-true}
 use lib.ListN.{length, getD}
@@ -18,9 +16,8 @@ use Rattle.rules.specs.Path.{PathSeg, named, path-root, path-up, merge-json-pat
 use Rattle.rules.specs.Block.{Block, BlockParamHolder}
 use Rattle.rules.specs.Context.{absolute-path, peek, front, get-or-front, get-in-block-params, from-block, from-holder, without-block-param, visit, parse-json-visitor, is-lone-name, follow}
 use Rattle.layout.specs.Text.{text-at}
-use Rattle.parts.proofs.Segment.{the-type as segment-type}
 use Rattle.parts.specs.declared.Segment.{Segment}
-use Rattle.parts.specs.declared.Segment.the-variants.{Named, Root, Up}
+use Rattle.parts.specs.declared.Segment.the-variants.{Named}
 use Rattle.parts.specs.Holds.{Holds, end, row}
 use Rattle.parts.specs.HoldsLaws.{Passed, row-start, passed-again, passed-value, row-length, none-left-value}
 use Rattle.parts.specs.Says.{segment-at, segments-at, segment-says, SegmentStands}
@@ -35,10 +32,9 @@ use Rattle.scope.specs.Scopes.{base-of, blocks-of, blank}
 use Rattle.scope.specs.Standing.{ScopesStand}
 use Rattle.scope.specs.Names.{resolved, ParamIs, level-place}
 use Rattle.scope.specs.NamesLaws.{or-front-is, level-within, follow-base}
-use Rattle.context.specs.declared.Peeked.{Peeked}
 use Rattle.context.specs.declared.Start.{Start}
 use Rattle.context.proofs.Walking.{segments-on, rest-holds}
-use Rattle.context.specs.Start.{PeekedIs, Behind, BasedAt, Based, StartsAt, Starts}
+use Rattle.context.specs.Start.{Behind, BasedAt, Based, StartsAt, Starts}
 
 -- The ups in front: k of them are passed
 
@@ -46,12 +42,6 @@ pub record Peeks (b : Bits) (p n k at : ℕ) : Type 0 where
   pub passed : Passed seg b n k at (end (row seg n) b p)
   pub depth : peek (segments-at n b p) .path-context-depth ≡ k + peek (segments-at (n - k) b at) .path-context-depth
   pub is : peek (segments-at n b p) .behind ≡ peek (segments-at (n - k) b at) .behind
-
-still : (b : Bits) (v : Segment) → OneOf (0 ∷ 1 ∷ []) (tagOf segment-type v) → (l : List PathSeg)
-    → (peek (segment-says b v ∷ l) .path-context-depth ≡ 0) × (peek (segment-says b v ∷ l) .behind ≡ segment-says b v ∷ l)
-still b (Named q z) k l = (refl, refl)
-still b (Root z) k l = (refl, refl)
-still b (Up z) k l = absurd (miss (0 ∷ 1 ∷ []) 2 tt k)
 
 module _ (b : Bits) (p n : ℕ) where
   pub peek-start : Holds (row seg n) b p → Peeks b p n 0 p
@@ -71,30 +61,43 @@ module _ (b : Bits) (p n : ℕ) where
           is = P .is ∙ ap (λ (l : List PathSeg). peek l .behind) g;
         }
 
-    pub peek-stop : (v : Segment) → OneOf (0 ∷ 1 ∷ []) (tagOf segment-type v) → segment-at b at ≡ segment-says b v → k < n → PeekedIs b p n (record { ups = k; place = at })
-    peek-stop v o e lt =
-        let rest = segments-at (n - (k + 1)) b (end seg b at) in
-        let g : segments-at (n - k) b at ≡ segment-says b v ∷ rest =
-        passed-value seg b n k at (end (row seg n) b p) (P .passed) lt path-up ∙ ap (λ (x : PathSeg). x ∷ rest) e in
-        let d : peek (segments-at (n - k) b at) .path-context-depth ≡ 0 = ap (λ (l : List PathSeg). peek l .path-context-depth) g ∙ still b v o rest .0 in
-        record {
-          within = P .passed .within;
-          holds = P .passed .left;
-          depth = P .depth ∙ ap (λ (x : ℕ). k + x) d ∙ omega arith;
-          is = P .is ∙ ap (λ (l : List PathSeg). peek l .behind) g ∙ still b v o rest .1 ∙ sym g;
-        }
+    -- what is left of the segments starts with no up
+    module _ (l : List PathSeg) (e : segments-at (n - k) b at ≡ l) (z : peek l .path-context-depth ≡ 0) (f : peek l .behind ≡ l) where
+      depth-is : peek (segments-at n b p) .path-context-depth ≡ k
+      depth-is = P .depth ∙ ap (λ (x : List PathSeg). k + peek x .path-context-depth) e ∙ omega arith
 
-    pub peek-end : n ≤ k → PeekedIs b p n (record { ups = k; place = at })
-    peek-end le =
+      behind-are : peek (segments-at n b p) .behind ≡ l
+      behind-are = P .is ∙ ap (λ (x : List PathSeg). peek x .behind) e ∙ f
+
+      begins : (c : List Block) → parse-json-visitor (segments-at n b p) c ≡ visit (segments-at n b p) k l c
+      begins c = ap₂ (λ (d : ℕ) (x : List PathSeg). visit (segments-at n b p) d x c) depth-is behind-are
+
+    pub begin-end : n ≤ k → (c : List Block) → parse-json-visitor (segments-at n b p) c ≡ without-block-param (segments-at n b p) k false c
+    begin-end le =
         let e : n - k ≡ 0 = omega arith in
-        let g : segments-at (n - k) b at ≡ [] = ap (λ (x : ℕ). segments-at x b at) e ∙ none-left-value seg b at in
-        let d : peek (segments-at (n - k) b at) .path-context-depth ≡ 0 = ap (λ (l : List PathSeg). peek l .path-context-depth) g in
-        record {
-          within = P .passed .within;
-          holds = P .passed .left;
-          depth = P .depth ∙ ap (λ (x : ℕ). k + x) d ∙ omega arith;
-          is = P .is ∙ ap (λ (l : List PathSeg). peek l .behind) g ∙ sym g;
-        }
+        begins [] (ap (λ (x : ℕ). segments-at x b at) e ∙ none-left-value seg b at) refl refl
+
+    module _ (lt : k < n) where
+      first-is : (x : PathSeg) → segment-at b at ≡ x → segments-at (n - k) b at ≡ x ∷ segments-at (n - k - 1) b (end seg b at)
+      first-is x e =
+          segments-on b at (n - k) (omega arith) (P .passed .left)
+          ∙ ap (λ (y : PathSeg). y ∷ segments-at (n - k - 1) b (end seg b at)) e
+
+      pub begin-root : segment-at b at ≡ path-root → (c : List Block) → parse-json-visitor (segments-at n b p) c ≡ without-block-param (segments-at n b p) k true c
+      begin-root e = begins (path-root ∷ segments-at (n - k - 1) b (end seg b at)) (first-is path-root e) refl refl
+
+      pub begin-named : Holds (row seg n) b p → (q z : ℕ) → SegmentStands b at (Named q z) → Behind b p n k q z
+      begin-named H q z x =
+          let l = named (text-at b q) ∷ segments-at (n - k - 1) b (end seg b at) in
+          record {
+            all = H;
+            some = lt;
+            depth = depth-is l (first-is (named (text-at b q)) (x .is)) refl refl;
+            is =
+                behind-are l (first-is (named (text-at b q)) (x .is)) refl refl
+                ∙ ap (λ (m : ℕ). named (text-at b q) ∷ segments-at (n - k - 1) b m) (sym (x .next));
+            holds = rest-holds b at (n - k) z (omega arith) (P .passed .left) (x .next);
+          }
 
 -- Without a block name
 
@@ -227,28 +230,3 @@ based-first l used ups root e =
     let f = each-true (eqb ups 0) root e in
     subst (λ (k : ℕ). Based l used k root (Context 0)) (sym (eqb-true ups 0 (f .0)))
     (subst (λ (r : Bool). Based l used 0 r (Context 0)) (sym (f .1)) (based-root l used))
-
-module _ (b : Bits) (p n : ℕ) (r : Peeked) (P : PeekedIs b p n r) where
-  -- nothing but ups
-  pub begin-end : r .ups ≡ n → (k : List Block) → parse-json-visitor (segments-at n b p) k ≡ without-block-param (segments-at n b p) (r .ups) false k
-  begin-end e k =
-      let z : n - r .ups ≡ 0 = omega arith in
-      ap₂ (λ (d : ℕ) (l : List PathSeg). visit (segments-at n b p) d l k) (P .depth) (P .is ∙ ap (λ (m : ℕ). segments-at m b (r .place)) z ∙ none-left-value seg b (r .place))
-
-  behind-list : r .ups < n → (x : PathSeg) → segment-at b (r .place) ≡ x → peek (segments-at n b p) .behind ≡ x ∷ segments-at (n - r .ups - 1) b (end seg b (r .place))
-  behind-list lt x e =
-      P .is ∙ segments-on b (r .place) (n - r .ups) (omega arith) (P .holds)
-      ∙ ap (λ (y : PathSeg). y ∷ segments-at (n - r .ups - 1) b (end seg b (r .place))) e
-
-  pub begin-with : r .ups < n → (x : PathSeg) → segment-at b (r .place) ≡ x → (k : List Block)
-      → parse-json-visitor (segments-at n b p) k ≡ visit (segments-at n b p) (r .ups) (x ∷ segments-at (n - r .ups - 1) b (end seg b (r .place))) k
-  begin-with lt x e k = ap₂ (λ (d : ℕ) (l : List PathSeg). visit (segments-at n b p) d l k) (P .depth) (behind-list lt x e)
-
-  pub behind-is : r .ups < n → Holds (row seg n) b p → (q z : ℕ) → SegmentStands b (r .place) (Named q z) → Behind b p n (r .ups) q z
-  behind-is lt H q z x = record {
-    all = H;
-    some = lt;
-    depth = P .depth;
-    is = behind-list lt (named (text-at b q)) (x .is) ∙ ap (λ (m : ℕ). named (text-at b q) ∷ segments-at (n - r .ups - 1) b m) (sym (x .next));
-    holds = rest-holds b (r .place) (n - r .ups) z (omega arith) (P .holds) (x .next);
-  }

@@ -1,5 +1,5 @@
 -- Where a path starts.
-use Prim.Native.Nat.{ℕ, _-_, _≤_, _<_}
+use Prim.Native.Nat.{ℕ, _-_, _<_}
 use mathlib.Core.Bool.{Bool, true, false}
 use mathlib.Core.List.{List, _∷_}
 use mathlib.Core.Path.{_≡_}
@@ -19,17 +19,9 @@ use Rattle.scope.specs.declared.Scope.{Scope}
 use Rattle.scope.specs.Scopes.{blocks-of}
 use Rattle.scope.specs.Standing.{ScopesStand}
 use Rattle.scope.specs.Names.{resolved}
-use Rattle.context.specs.declared.Peeked.{Peeked}
 use Rattle.context.specs.declared.Start.{Start}
 
--- the ups in front of the n segments at p, and what stands behind them
-pub record PeekedIs (b : Bits) (p n : ℕ) (r : Peeked) : Type 0 where
-  pub within : r .ups ≤ n
-  pub holds : Holds (row seg (n - r .ups)) b (r .place)
-  pub depth : peek (segments-at n b p) .path-context-depth ≡ r .ups
-  pub is : peek (segments-at n b p) .behind ≡ segments-at (n - r .ups) b (r .place)
-
--- the first behind them is the name at q
+-- the first of the n segments at p behind the ups in front is the name at q
 pub record Behind (b : Bits) (p n ups q next : ℕ) : Type 0 where
   pub all : Holds (row seg n) b p
   pub some : ups < n

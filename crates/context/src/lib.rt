@@ -23,12 +23,12 @@ ghost use Rattle.meaning.specs.Standing.{Stands};
 ghost use Rattle.scope.specs.Scopes.{blocks-of};
 ghost use Rattle.scope.specs.Words.{scopes-of};
 ghost use Rattle.scope.specs.Standing.{ScopesStand};
-ghost use Rattle.scope.specs.Names.{AllReadable, resolved, local-at};
+ghost use Rattle.scope.specs.Names.{AllReadable, local-at};
 ghost use Rattle.lookup.specs.Answers.{Held};
 ghost use Rattle.context.specs.Walk.{walked};
 ghost use Rattle.context.specs.Recursive.{looked};
 ghost use Rattle.context.specs.Evaluated.{path-of, Evaluates, present, NamedStep, Stepped, stopped};
-ghost use Rattle.context.specs.Start.{PeekedIs, Behind, Based, Starts};
+ghost use Rattle.context.specs.Start.{Behind, Based, Starts};
 use lookup::Got;
 use parts::Path;
 use parts::Segment;
@@ -113,29 +113,6 @@ fn walk(s: &[u8], tab: &[u64], b: &[u8], ent: &[u64], v: Value, p: usize, n: usi
     Evaluated::Is(cur)
 }
 
-// The ups in front: how many, and where the segments behind them stand.
-struct Peeked {
-    ups: usize,
-    place: usize,
-}
-
-fn peek(b: &[u8], p: usize, n: usize) -> Peeked
-    requires { ⌜ (length (now b) ≤ 65536) × Holds (row seg n) (bits (now b)) p ⌝ }
-    ensures { λ r. ⌜ PeekedIs (bits (now (b .entry))) p n r ⌝ }
-{
-    let mut at = p;
-    let mut k: usize = 0;
-    while k < n {
-        let segment = parts::segment_at(b, at);
-        let Segment::Up(next) = segment else {
-            return Peeked { ups: k, place: at };
-        };
-        at = next;
-        k += 1;
-    }
-    Peeked { ups: k, place: at }
-}
-
 // Where a path starts: a value, and the segments to follow from it, so many.
 struct Start {
     value: Value,
@@ -194,21 +171,29 @@ fn named_start(
     }
 }
 
+// The ups in front are counted until a name, the root or the end comes.
 fn begin(b: &[u8], ent: &[u64], sc: &[u64], used: usize, p: usize, n: usize) -> Start
     requires { ⌜ (length (now b) ≤ 65536) × (0 < used) × (used ≤ 32) × AllReadable (now b) (now ent) (scopes-of (now sc)) used × Holds (row seg n) (bits (now b)) p × (length (now sc) ≡ 96) ⌝ }
     ensures { λ r. ⌜ Starts (now (b .entry)) (now (ent .entry)) (scopes-of (now (sc .entry))) used p n r ⌝ }
 {
-    let front = peek(b, p, n);
-    let ups = front.ups;
-    if ups == n {
-        return based(sc, used, p, n, ups, false);
+    let mut at = p;
+    let mut ups: usize = 0;
+    while ups < n {
+        let segment = parts::segment_at(b, at);
+        match segment {
+            Segment::Named(q, next) => {
+                return named_start(b, ent, sc, used, p, n, ups, q, next);
+            }
+            Segment::Root(_) => {
+                return based(sc, used, p, n, ups, true);
+            }
+            Segment::Up(next) => {
+                at = next;
+            }
+        }
+        ups += 1;
     }
-    let segment = parts::segment_at(b, front.place);
-    match segment {
-        Segment::Named(q, next) => named_start(b, ent, sc, used, p, n, ups, q, next),
-        Segment::Root(_) => based(sc, used, p, n, ups, true),
-        Segment::Up(_) => based(sc, used, p, n, ups, false),
-    }
+    based(sc, used, p, n, ups, false)
 }
 
 // Recursive lookup
@@ -249,24 +234,6 @@ fn alone(s: &[u8], tab: &[u64], b: &[u8], ent: &[u64], i: usize, p: usize, n: us
     Value::Context(i)
 }
 
-fn recursively(
-    s: &[u8],
-    tab: &[u64],
-    b: &[u8],
-    ent: &[u64],
-    v: Value,
-    p: usize,
-    n: usize,
-) -> Evaluated
-    requires { ⌜ Accepted (now s) (now tab) × (length (now b) ≤ 65536) × Held (now s) (now b) (now ent) v × Holds (row seg n) (bits (now b)) p × (0 < n → is-lone-name (segments-at n (bits (now b)) p) ≡ true) ⌝ }
-    ensures { λ r. ⌜ ((t : ℕ) → Stands (now (s .entry)) (now (b .entry)) (now (ent .entry)) t v → is-missing v ≡ false → Evaluates (now (s .entry)) (now (b .entry)) (now (ent .entry)) t (follow (json-at (now (s .entry)) 0) true (resolved (now (s .entry)) (now (b .entry)) (now (ent .entry)) v (merge-json-path (segments-at n (bits (now (b .entry))) p)))) r) ⌝ }
-{
-    let Value::Context(i) = v else {
-        return walk(s, tab, b, ent, v, p, n);
-    };
-    Evaluated::Is(alone(s, tab, b, ent, i, p, n))
-}
-
 // Whether the n segments at p are one name.
 fn is_lone_name(b: &[u8], p: usize, n: usize) -> bool
     requires { ⌜ (length (now b) ≤ 65536) × Holds (row seg n) (bits (now b)) p ⌝ }
@@ -283,7 +250,7 @@ fn is_lone_name(b: &[u8], p: usize, n: usize) -> bool
     }
 }
 
-// Where the n segments at p lead.
+// Where the n segments at p lead. Recursive lookup is for a lone name from a place of the plan.
 fn navigate(
     s: &[u8],
     tab: &[u64],
@@ -300,9 +267,12 @@ fn navigate(
 {
     let from = begin(b, ent, sc, used, p, n);
     let v = from.value;
-    let lone = is_lone_name(b, p, n);
-    if recursive & lone {
-        return recursively(s, tab, b, ent, v, from.place, from.left);
+    if recursive {
+        if is_lone_name(b, p, n) {
+            if let Value::Context(i) = v {
+                return Evaluated::Is(alone(s, tab, b, ent, i, from.place, from.left));
+            }
+        }
     }
     walk(s, tab, b, ent, v, from.place, from.left)
 }
