@@ -244,7 +244,7 @@ fn local_key(c: Scope) -> Param
     Param::Nothing
 }
 
-// The local variable of the scope that the string at p names.
+// The local variable of the scope that the string at p names. Its count and its first byte, read at once, leave one name at most to be compared.
 fn local_variable(b: &[u8], c: Scope, p: usize) -> Param
     requires { ⌜ p ≤ 524288 ⌝ }
     ensures { λ r. ⌜ (c .index < 65536) × (r ≡ local-variable c (text-at (bits (now (b .entry))) p)) ⌝ }
@@ -254,16 +254,17 @@ fn local_variable(b: &[u8], c: Scope, p: usize) -> Param
         return Param::Nothing;
     }
     let turn = c.locals - 1;
-    if parts::text_is(b, p, b"first") {
+    let x = bits::field(b, p, 24);
+    if x == 1382 && parts::text_is(b, p, b"first") {
         return Param::Is(flag(turn % 2 == 1));
     }
-    if parts::text_is(b, p, b"last") {
+    if x == 1132 && parts::text_is(b, p, b"last") {
         return Param::Is(flag(turn / 2 % 2 == 1));
     }
-    if parts::text_is(b, p, b"index") {
+    if x == 1385 && parts::text_is(b, p, b"index") {
         return Param::Is(Value::Index(index));
     }
-    if parts::text_is(b, p, b"key") {
+    if x == 875 && parts::text_is(b, p, b"key") {
         return local_key(c);
     }
     Param::Nothing
