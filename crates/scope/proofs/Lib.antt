@@ -1,2 +1,3 @@
 mod Heads
+mod Searching
 mod Tags

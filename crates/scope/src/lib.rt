@@ -67,6 +67,15 @@ pub fn scope_at(sc: &[u64], i: usize) -> Scope
     }
 }
 
+// The kind alone: a scope without names need not be taken apart.
+fn kind_at(sc: &[u64], i: usize) -> u8
+    requires { ⌜ (length (now sc) ≡ 96) × (i < 32) ⌝ }
+    ensures { λ r. ⌜ r ≡ getD (scopes-of (now (sc .entry))) i blank .kind ⌝ }
+{
+    let x = sc[3 * i + 2];
+    (x / 4294967296 % 256) as u8
+}
+
 // One scope as words. Each says how large its numbers are: that they come out again rests on it.
 fn first_word(c: Scope) -> u64
     ensures { λ r. ⌜ (r ≡ first-word c) × (c .base < 4294967296) × (c .names < 4294967296) ⌝ }
@@ -116,14 +125,18 @@ pub fn without_path(v: Value) -> Value
     }
 }
 
-// Whether the strings at the bits p and q are the same bytes.
+// Whether the strings at the bits p and q are the same bytes. Counts and first bytes are read at once: strings that differ there are the same only where both are empty.
 fn same_name(b: &[u8], p: usize, q: usize) -> bool
     requires { ⌜ (p ≤ 524288) × (q ≤ 524288) ⌝ }
     ensures { λ r. ⌜ r ≡ same (text-at (bits (now (b .entry))) p) (text-at (bits (now (b .entry))) q) ⌝ }
 {
-    let m = bits::field(b, p, 16) as usize;
-    let n = bits::field(b, q, 16) as usize;
-    bits::same_at(b, p + 16, m, q + 16, n)
+    let x = bits::field(b, p, 24);
+    let y = bits::field(b, q, 24);
+    if x != y {
+        return (x < 256) & (y < 256);
+    }
+    let n = (x / 256) as usize;
+    bits::same_at(b, p + 16, n, q + 16, n)
 }
 
 // Among the n hash pairs from h on.
@@ -205,10 +218,12 @@ pub fn get_in_block_params(b: &[u8], ent: &[u64], sc: &[u64], used: usize, p: us
     let mut i = used;
     while 0 < i {
         i -= 1;
-        let c = scope_at(sc, i);
-        let found = block_param(b, ent, c, p);
-        if let Param::Is(w) = found {
-            return Param::Is(w);
+        if kind_at(sc, i) != 0 {
+            let c = scope_at(sc, i);
+            let found = block_param(b, ent, c, p);
+            if let Param::Is(w) = found {
+                return Param::Is(w);
+            }
         }
     }
     Param::Nothing
