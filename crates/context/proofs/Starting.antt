@@ -14,10 +14,10 @@ use Rattle.rules.specs.Bundle.{seg}
 use Rattle.rules.specs.Order.{differ}
 use Rattle.rules.specs.Path.{PathSeg, named, path-root, path-up, merge-json-path}
 use Rattle.rules.specs.Block.{Block, BlockParamHolder}
-use Rattle.rules.specs.Context.{absolute-path, peek, front, get-or-front, get-in-block-params, from-block, from-holder, without-block-param, visit, parse-json-visitor, is-lone-name, follow}
+use Rattle.rules.specs.Context.{ResolvedPath, absolute-path, peek, front, get-or-front, get-in-block-params, from-block, from-holder, without-block-param, visit, parse-json-visitor, is-lone-name, follow}
 use Rattle.layout.specs.Text.{text-at}
 use Rattle.parts.specs.declared.Segment.{Segment}
-use Rattle.parts.specs.declared.Segment.the-variants.{Named}
+use Rattle.parts.specs.declared.Segment.the-variants.{Named, Root}
 use Rattle.parts.specs.Holds.{Holds, end, row}
 use Rattle.parts.specs.HoldsLaws.{Passed, row-start, passed-again, passed-value, row-length, none-left-value}
 use Rattle.parts.specs.Says.{segment-at, segments-at, segment-says, SegmentStands}
@@ -34,7 +34,7 @@ use Rattle.scope.specs.Names.{resolved, ParamIs, level-place}
 use Rattle.scope.specs.NamesLaws.{or-front-is, level-within, follow-base}
 use Rattle.context.specs.declared.Start.{Start}
 use Rattle.context.proofs.Walking.{segments-on, rest-holds}
-use Rattle.context.specs.Start.{Behind, BasedAt, Based, StartsAt, Starts}
+use Rattle.context.specs.Start.{FirstIs, First, BasedAt, Based, OpensAt, Opens, Starts, NameStarts}
 
 -- The ups in front: k of them are passed
 
@@ -42,10 +42,12 @@ pub record Peeks (b : Bits) (p n k at : ℕ) : Type 0 where
   pub passed : Passed seg b n k at (end (row seg n) b p)
   pub depth : peek (segments-at n b p) .path-context-depth ≡ k + peek (segments-at (n - k) b at) .path-context-depth
   pub is : peek (segments-at n b p) .behind ≡ peek (segments-at (n - k) b at) .behind
+  pub merged : merge-json-path (segments-at n b p) ≡ merge-json-path (segments-at (n - k) b at)
+  pub lone : is-lone-name (segments-at n b p) ≡ true → is-lone-name (segments-at (n - k) b at) ≡ true
 
 module _ (b : Bits) (p n : ℕ) where
   pub peek-start : Holds (row seg n) b p → Peeks b p n 0 p
-  peek-start H = let e : n - 0 ≡ n = omega arith in record { passed = row-start seg b n p H; depth = rw e (omega arith); is = rw e }
+  peek-start H = let e : n - 0 ≡ n = omega arith in record { passed = row-start seg b n p H; depth = rw e (omega arith); is = rw e; merged = rw e; lone = rw e (λ h. h) }
 
   module _ (k at : ℕ) (P : Peeks b p n k at) where
     pub peek-again : (next : ℕ) → k < n → segment-at b at ≡ path-up → next ≡ end seg b at → Peeks b p n (k + 1) next
@@ -59,6 +61,8 @@ module _ (b : Bits) (p n : ℕ) where
           passed = passed-again seg b n k at q (P .passed) lt next f;
           depth = omega (arith, d);
           is = P .is ∙ ap (λ (l : List PathSeg). peek l .behind) g;
+          merged = P .merged ∙ ap merge-json-path g;
+          lone = λ h. differ (sym (P .lone h) ∙ ap is-lone-name g);
         }
 
     -- what is left of the segments starts with no up
@@ -72,7 +76,7 @@ module _ (b : Bits) (p n : ℕ) where
       begins : (c : List Block) → parse-json-visitor (segments-at n b p) c ≡ visit (segments-at n b p) k l c
       begins c = ap₂ (λ (d : ℕ) (x : List PathSeg). visit (segments-at n b p) d x c) depth-is behind-are
 
-    pub begin-end : n ≤ k → (c : List Block) → parse-json-visitor (segments-at n b p) c ≡ without-block-param (segments-at n b p) k false c
+    begin-end : n ≤ k → (c : List Block) → parse-json-visitor (segments-at n b p) c ≡ without-block-param (segments-at n b p) k false c
     begin-end le =
         let e : n - k ≡ 0 = omega arith in
         begins [] (ap (λ (x : ℕ). segments-at x b at) e ∙ none-left-value seg b at) refl refl
@@ -83,21 +87,16 @@ module _ (b : Bits) (p n : ℕ) where
           segments-on b at (n - k) (omega arith) (P .passed .left)
           ∙ ap (λ (y : PathSeg). y ∷ segments-at (n - k - 1) b (end seg b at)) e
 
-      pub begin-root : segment-at b at ≡ path-root → (c : List Block) → parse-json-visitor (segments-at n b p) c ≡ without-block-param (segments-at n b p) k true c
+      begin-root : segment-at b at ≡ path-root → (c : List Block) → parse-json-visitor (segments-at n b p) c ≡ without-block-param (segments-at n b p) k true c
       begin-root e = begins (path-root ∷ segments-at (n - k - 1) b (end seg b at)) (first-is path-root e) refl refl
 
-      pub begin-named : Holds (row seg n) b p → (q z : ℕ) → SegmentStands b at (Named q z) → Behind b p n k q z
-      begin-named H q z x =
-          let l = named (text-at b q) ∷ segments-at (n - k - 1) b (end seg b at) in
-          record {
-            all = H;
-            some = lt;
-            depth = depth-is l (first-is (named (text-at b q)) (x .is)) refl refl;
-            is =
-                behind-are l (first-is (named (text-at b q)) (x .is)) refl refl
-                ∙ ap (λ (m : ℕ). named (text-at b q) ∷ segments-at (n - k - 1) b m) (sym (x .next));
-            holds = rest-holds b at (n - k) z (omega arith) (P .passed .left) (x .next);
-          }
+      begin-named : (m : Bytes) → segment-at b at ≡ named m → (c : List Block) → parse-json-visitor (segments-at n b p) c ≡ visit (segments-at n b p) k (segments-at (n - k) b at) c
+      begin-named m e c =
+          begins (named m ∷ segments-at (n - k - 1) b (end seg b at)) (first-is (named m) e) refl refl c
+          ∙ ap (λ (l : List PathSeg). visit (segments-at n b p) k l c) (sym (first-is (named m) e))
+
+      pub first-name : (q z : ℕ) → SegmentStands b at (Named q z) → FirstIs b at (n - k) q z
+      first-name q z x = record { all = P .passed .left; some = omega arith; text = x .parts; is = x .is; behind = x .next }
 
 -- Without a block name
 
@@ -133,27 +132,74 @@ based-scope l used ups root v lt e f s b ent t st =
       present = st .each i w .present;
     })
 
--- All
+-- A start
 
-pub starts-based : (b : Bytes) (ent : List ℕ) (l : List Scope) (used p n ups : ℕ) (root : Bool) (x : Start) → Holds (row seg n) (bits b) p → x .place ≡ p → x .left ≡ n → Based l used ups root (x .value)
-    → ((s : Bytes) (t : ℕ) → ScopesStand s b ent l used t
-    → parse-json-visitor (segments-at n (bits b) p) (blocks-of s b ent l used) ≡ without-block-param (segments-at n (bits b) p) ups root (blocks-of s b ent l used))
-    → Starts b ent l used p n x
-starts-based b ent l used p n ups root x H e f B g =
-    let same : segments-at (x .left) (bits b) (x .place) ≡ segments-at n (bits b) p = ap₂ (λ (k q : ℕ). segments-at k (bits b) q) f e in
-    record {
-      holds = subst (λ (q : ℕ). Holds (row seg (x .left)) (bits b) q) (sym e) (subst (λ (k : ℕ). Holds (row seg k) (bits b) p) (sym f) H);
-      lone = λ h lt. ap is-lone-name same ∙ h;
-      at = λ s t st.
-          let y = B s b ent t st in
-          record {
-            leads = λ plan r.
-                ap (follow plan r) (g s t st) ∙ y .leads plan r (segments-at n (bits b) p)
-                ∙ ap (λ (k : List PathSeg). follow plan r (resolved s b ent (x .value) (merge-json-path k))) (sym same);
-            stands = y .stands;
-            present = y .present;
-          };
-    }
+module _ (b : Bytes) (ent : List ℕ) (l : List Scope) (used : ℕ) where
+  abbrev rest-of : Start → List PathSeg
+  rest-of x = segments-at (x .left) (bits b) (x .place)
+
+  opens-based : (segs : List PathSeg) (ups : ℕ) (root : Bool) (x : Start) (from : List Block → ResolvedPath) → Holds (row seg (x .left)) (bits b) (x .place) → First (bits b) x
+      → merge-json-path segs ≡ merge-json-path (rest-of x) → (is-lone-name segs ≡ true → 0 < x .left → is-lone-name (rest-of x) ≡ true) → Based l used ups root (x .value)
+      → ((s : Bytes) (t : ℕ) → ScopesStand s b ent l used t → from (blocks-of s b ent l used) ≡ without-block-param segs ups root (blocks-of s b ent l used)) → Opens b ent l used segs from x
+  opens-based segs ups root x from H f e o B g = record {
+    holds = H;
+    first = f;
+    lone = o;
+    at = λ s t st.
+        let y = B s b ent t st in
+        record {
+          leads = λ plan r. ap (follow plan r) (g s t st) ∙ y .leads plan r segs ∙ ap (λ (m : List Bytes). follow plan r (resolved s b ent (x .value) m)) e;
+          stands = y .stands;
+          present = y .present;
+        };
+  }
+
+  opens-as : (segs : List PathSeg) (x : Start) (from to : List Block → ResolvedPath) → ((c : List Block) → to c ≡ from c) → Opens b ent l used segs from x → Opens b ent l used segs to x
+  opens-as segs x from to e O = record {
+    holds = O .holds;
+    first = O .first;
+    lone = O .lone;
+    at = λ s t st.
+        let y = O .at s t st in
+        record { leads = λ plan r. ap (follow plan r) (e (blocks-of s b ent l used)) ∙ y .leads plan r; stands = y .stands; present = y .present };
+  }
+
+  module _ (p n k at : ℕ) (P : Peeks (bits b) p n k at) (x : Start) where
+    abbrev all : List PathSeg
+    all = segments-at n (bits b) p
+
+    -- nothing is left to follow, or what stands behind the root
+    plain-start : (root : Bool) (m q : ℕ) → Holds (row seg m) (bits b) q → merge-json-path (segments-at (n - k) (bits b) at) ≡ merge-json-path (segments-at m (bits b) q)
+        → (is-lone-name all ≡ true → 0 < m → ⊥) → ((c : List Block) → parse-json-visitor all c ≡ without-block-param all k root c)
+        → x .place ≡ q → x .left ≡ m → x .name ≡ 0 → Based l used k root (x .value) → Starts b ent l used p n x
+    plain-start root m q H e o g f h z B =
+        opens-based all k root x (parse-json-visitor all)
+        (subst (λ (y : ℕ). Holds (row seg (x .left)) (bits b) y) (sym f) (subst (λ (y : ℕ). Holds (row seg y) (bits b) q) (sym h) H))
+        (λ y. absurd (y z))
+        (P .merged ∙ e ∙ sym (ap₂ (λ (y w : ℕ). merge-json-path (segments-at y (bits b) w)) h f))
+        (λ y lt. absurd (o y (omega arith)))
+        B
+        (λ s t st. g (blocks-of s b ent l used))
+
+    pub starts-end : n ≤ k → x .place ≡ at → x .left ≡ 0 → x .name ≡ 0 → Based l used k false (x .value) → Starts b ent l used p n x
+    starts-end le =
+        let e : n - k ≡ 0 = omega arith in
+        plain-start false 0 at (subst (λ (y : ℕ). Holds (row seg y) (bits b) at) e (P .passed .left)) (ap (λ (y : ℕ). merge-json-path (segments-at y (bits b) at)) e)
+        (λ h lt. omega arith) (begin-end (bits b) p n k at P le)
+
+    pub starts-root : k < n → (next : ℕ) → SegmentStands (bits b) at (Root next) → x .place ≡ next → x .left ≡ n - k - 1 → x .name ≡ 0 → Based l used k true (x .value) → Starts b ent l used p n x
+    starts-root lt next y =
+        let e = first-is (bits b) p n k at P lt path-root (y .is) in
+        plain-start true (n - k - 1) next (rest-holds (bits b) at (n - k) next (omega arith) (P .passed .left) (y .next))
+        (ap merge-json-path e ∙ ap (λ (z : ℕ). merge-json-path (segments-at (n - k - 1) (bits b) z)) (sym (y .next)))
+        (λ h z. differ (sym (P .lone h) ∙ ap is-lone-name e)) (begin-root (bits b) p n k at P lt (y .is))
+
+    pub starts-named : k < n → (q z : ℕ) → SegmentStands (bits b) at (Named q z) → NameStarts b ent l used at (n - k) k x → Starts b ent l used p n x
+    starts-named lt q z y N =
+        opens-as all x (visit all k (segments-at (n - k) (bits b) at)) (parse-json-visitor all) (begin-named (bits b) p n k at P lt (text-at (bits b) q) (y .is))
+        (N all (P .merged) (P .lone))
+
+-- From a name
 
 one-segment : (l : List PathSeg) → is-lone-name l ≡ true → length l ≡ 1
 one-segment [] e = differ (sym e)
@@ -162,41 +208,48 @@ one-segment (named m ∷ x ∷ l) e = differ (sym e)
 one-segment (path-root ∷ l) e = differ (sym e)
 one-segment (path-up ∷ l) e = differ (sym e)
 
-module _ (b : Bytes) (ent : List ℕ) (l : List Scope) (used p n ups q next : ℕ) (B : Behind (bits b) p n ups q next) where
+module _ (b : Bytes) (ent : List ℕ) (l : List Scope) (used p n ups q next : ℕ) (F : FirstIs (bits b) p n q next) where
   abbrev name : Bytes
   name = text-at (bits b) q
 
-  abbrev all : List PathSeg
-  all = segments-at n (bits b) p
+  abbrev here : List PathSeg
+  here = segments-at n (bits b) p
 
   abbrev rest : List PathSeg
-  rest = segments-at (n - ups - 1) (bits b) next
+  rest = segments-at (n - 1) (bits b) next
 
-  visits : (k : List Block) → parse-json-visitor all k ≡ maybe (get-in-block-params k name) (without-block-param all ups false k) (λ h. from-holder (h .0) (h .1) (merge-json-path rest))
-  visits k = ap₂ (λ (d : ℕ) (r : List PathSeg). visit all d r k) (B .depth) (B .is)
+  visits : (segs : List PathSeg) (k : List Block)
+      → visit segs ups here k ≡ maybe (get-in-block-params k name) (without-block-param segs ups false k) (λ h. from-holder (h .0) (h .1) (merge-json-path rest))
+  visits segs k =
+      ap (λ (m : List PathSeg). visit segs ups m k)
+      (segments-on (bits b) p n (F .some) (F .all) ∙ ap₂ (λ (x : PathSeg) (z : ℕ). x ∷ segments-at (n - 1) (bits b) z) (F .is) (sym (F .behind)))
 
-  pub named-based : (x : Start) → x .place ≡ p → x .left ≡ n → Based l used ups false (x .value)
-      → ((s : Bytes) (t : ℕ) → ScopesStand s b ent l used t → ParamIs s b ent t (get-in-block-params (blocks-of s b ent l used) name) Nothing) → Starts b ent l used p n x
-  named-based x e f A g = starts-based b ent l used p n ups false x (B .all) e f A (λ s t st. visits (blocks-of s b ent l used) ∙ none-found (blocks-of s b ent l used) s t (get-in-block-params (blocks-of s b ent l used) name) (g s t st))
+  pub name-based : (v : Value) → Based l used ups false v
+      → ((s : Bytes) (t : ℕ) → ScopesStand s b ent l used t → ParamIs s b ent t (get-in-block-params (blocks-of s b ent l used) name) Nothing)
+      → NameStarts b ent l used p n ups (record { value = v; place = p; left = n; name = q; next = next })
+  name-based v B g segs e o =
+      opens-based b ent l used segs ups false (record { value = v; place = p; left = n; name = q; next = next }) (visit segs ups here) (F .all) (λ h. F) e (λ h lt. o h) B
+      (λ s t st. visits segs (blocks-of s b ent l used) ∙ none-found (blocks-of s b ent l used) s t (get-in-block-params (blocks-of s b ent l used) name) (g s t st))
     where
       none-found : (k : List Block) (s : Bytes) (t : ℕ) (o : Option (BlockParamHolder × List Bytes)) → ParamIs s b ent t o Nothing
-          → maybe o (without-block-param all ups false k) (λ h. from-holder (h .0) (h .1) (merge-json-path rest)) ≡ without-block-param all ups false k
+          → maybe o (without-block-param segs ups false k) (λ h. from-holder (h .0) (h .1) (merge-json-path rest)) ≡ without-block-param segs ups false k
       none-found k s t none y = refl
       none-found k s t (some h) y = absurd y
 
-  pub named-found : (w : Value) → ((s : Bytes) (t : ℕ) → ScopesStand s b ent l used t → ParamIs s b ent t (get-in-block-params (blocks-of s b ent l used) name) (Is w))
-      → Starts b ent l used p n (record { value = w; place = next; left = n - ups - 1 })
-  named-found w g =
-      let few : is-lone-name all ≡ true → n ≡ 1 = λ h. sym (row-length seg n (bits b) p (B .all)) ∙ one-segment all h in
+  pub name-found : (w : Value) → ((s : Bytes) (t : ℕ) → ScopesStand s b ent l used t → ParamIs s b ent t (get-in-block-params (blocks-of s b ent l used) name) (Is w))
+      → NameStarts b ent l used p n ups (record { value = w; place = next; left = n - 1; name = 0; next = 0 })
+  name-found w g segs e o =
+      let few : is-lone-name here ≡ true → n ≡ 1 = λ h. sym (row-length seg n (bits b) p (F .all)) ∙ one-segment here h in
       record {
-        holds = B .holds;
-        lone = λ h lt. let e : n ≡ 1 = few h in absurd (omega arith);
-        at = λ s t st. go s t (blocks-of s b ent l used) (get-in-block-params (blocks-of s b ent l used) name) (visits (blocks-of s b ent l used)) (g s t st);
+        holds = rest-holds (bits b) p n next (F .some) (F .all) (F .behind);
+        first = λ h. absurd (h refl);
+        lone = λ h lt. let e : n ≡ 1 = few (o h) in absurd (omega arith);
+        at = λ s t st. go s t (blocks-of s b ent l used) (get-in-block-params (blocks-of s b ent l used) name) (visits segs (blocks-of s b ent l used)) (g s t st);
       }
     where
       go : (s : Bytes) (t : ℕ) (k : List Block) (o : Option (BlockParamHolder × List Bytes))
-          → parse-json-visitor all (blocks-of s b ent l used) ≡ maybe o (without-block-param all ups false k) (λ h. from-holder (h .0) (h .1) (merge-json-path rest))
-          → ParamIs s b ent t o (Is w) → StartsAt s b ent l used t p n (record { value = w; place = next; left = n - ups - 1 })
+          → visit segs ups here (blocks-of s b ent l used) ≡ maybe o (without-block-param segs ups false k) (λ h. from-holder (h .0) (h .1) (merge-json-path rest))
+          → ParamIs s b ent t o (Is w) → OpensAt s b ent l used t (visit segs ups here) (record { value = w; place = next; left = n - 1; name = 0; next = 0 })
       go s t k none v x = absurd x
       go s t k (some h) v x = record {
         leads = λ plan r. ap (follow plan r) (v ∙ x .leads (merge-json-path rest));

@@ -30,6 +30,7 @@ use Rattle.context.specs.Evaluated.{path-of, Evaluates, scoped-is, prese
 use Rattle.context.proofs.Step.{the-type}
 use Rattle.context.specs.declared.Step.{Step}
 use Rattle.context.specs.declared.Step.the-variants.{On, Nothing, BadIndex}
+use Rattle.context.specs.declared.Evaluated.{Evaluated}
 use Rattle.context.specs.declared.Evaluated.the-variants.{Is}
 
 no-place : {C : Type 0} {i : ℕ} → none ≡ some i → C
@@ -201,3 +202,15 @@ module _ (s b : Bytes) (ent : List ℕ) (v : Value) (p n : ℕ) where
           ∙ walk-end (path-of s cur) (json-of s b ent cur) ∙ ap got (scoped-is s b ent cur (W .present x)),
       W .stands t st,
     )
+
+    -- what is left leads where all leads
+    pub walk-from : (r : Evaluated)
+        → ((t : ℕ) → Stands s b ent t cur → is-missing cur ≡ false → Evaluates s b ent t (walked (path-of s cur) (json-of s b ent cur) (merge-json-path (segments-at left (bits b) at))) r)
+        → (t : ℕ) → Stands s b ent t v → is-missing v ≡ false → Evaluates s b ent t (walked (path-of s v) (json-of s b ent v) (merge-json-path (segments-at n (bits b) p))) r
+    walk-from r h t st x = subst (λ (y : Got Rattle.rules.specs.Value.ScopedJson). Evaluates s b ent t y r) (sym (W .walks x)) (h t (W .stands t st) (W .present x))
+
+    -- the same under other names
+    pub walk-as : (w : Value) (q m : ℕ) → w ≡ cur → q ≡ at → m ≡ left → Walks s b ent v p n w q m
+    walk-as w q m e f g =
+        subst (λ (x : Value). Walks s b ent v p n x q m) (sym e)
+        (subst (λ (x : ℕ). Walks s b ent v p n cur x m) (sym f) (subst (λ (x : ℕ). Walks s b ent v p n cur at x) (sym g) W))

@@ -28,7 +28,7 @@ ghost use Rattle.lookup.specs.Answers.{Held};
 ghost use Rattle.context.specs.Walk.{walked};
 ghost use Rattle.context.specs.Recursive.{looked};
 ghost use Rattle.context.specs.Evaluated.{path-of, Evaluates, present, NamedStep, Stepped, stopped};
-ghost use Rattle.context.specs.Start.{Behind, Based, Starts};
+ghost use Rattle.context.specs.Start.{FirstIs, First, Based, NameStarts, Starts};
 use lookup::Got;
 use parts::Path;
 use parts::Segment;
@@ -113,11 +113,14 @@ fn walk(s: &[u8], tab: &[u64], b: &[u8], ent: &[u64], v: Value, p: usize, n: usi
     Evaluated::Is(cur)
 }
 
-// Where a path starts: a value, and the segments to follow from it, so many.
+// Where a path starts: a value, and the segments to follow from it, so many. Where the first is a name that is read already, its string, and the place behind it.
 struct Start {
     value: Value,
     place: usize,
     left: usize,
+    // 0 where it is not read
+    name: usize,
+    next: usize,
 }
 
 // Without a block name: from the root, or from the scope that the ups lead to.
@@ -132,21 +135,23 @@ fn without_block_param(sc: &[u64], used: usize, ups: usize, root: bool) -> Value
     value::decode(c.base)
 }
 
-// With all n segments at p to follow.
-fn based(sc: &[u64], used: usize, p: usize, n: usize, ups: usize, root: bool) -> Start
+// With the n segments at p to follow.
+fn from_base(sc: &[u64], used: usize, p: usize, n: usize, ups: usize, root: bool) -> Start
     requires { ⌜ (0 < used) × (used ≤ 32) × (length (now sc) ≡ 96) ⌝ }
-    ensures { λ r. ⌜ (r .place ≡ p) × (r .left ≡ n) × Based (scopes-of (now (sc .entry))) used ups root (r .value) ⌝ }
+    ensures { λ r. ⌜ (r .place ≡ p) × (r .left ≡ n) × (r .name ≡ 0) × Based (scopes-of (now (sc .entry))) used ups root (r .value) ⌝ }
 {
     let base = without_block_param(sc, used, ups, root);
     Start {
         value: base,
         place: p,
         left: n,
+        name: 0,
+        next: 0,
     }
 }
 
-// Behind the ups stands the name at q, and `next` is the place behind it.
-fn named_start(
+// The first of the n segments at p, which stand behind the ups, is the name at q, and `next` is the place behind it.
+fn from_name(
     b: &[u8],
     ent: &[u64],
     sc: &[u64],
@@ -157,21 +162,30 @@ fn named_start(
     q: usize,
     next: usize,
 ) -> Start
-    requires { ⌜ (length (now b) ≤ 65536) × (0 < used) × (used ≤ 32) × AllReadable (now b) (now ent) (scopes-of (now sc)) used × Holds string (bits (now b)) q × Behind (bits (now b)) p n ups q next × (length (now sc) ≡ 96) ⌝ }
-    ensures { λ r. ⌜ Starts (now (b .entry)) (now (ent .entry)) (scopes-of (now (sc .entry))) used p n r ⌝ }
+    requires { ⌜ (length (now b) ≤ 65536) × (0 < used) × (used ≤ 32) × AllReadable (now b) (now ent) (scopes-of (now sc)) used × FirstIs (bits (now b)) p n q next × (length (now sc) ≡ 96) ⌝ }
+    ensures { λ r. ⌜ NameStarts (now (b .entry)) (now (ent .entry)) (scopes-of (now (sc .entry))) used p n ups r ⌝ }
 {
     let found = scope::get_in_block_params(b, ent, sc, used, q);
     let Param::Is(w) = found else {
-        return based(sc, used, p, n, ups, false);
+        let base = without_block_param(sc, used, ups, false);
+        return Start {
+            value: base,
+            place: p,
+            left: n,
+            name: q,
+            next: next,
+        };
     };
     Start {
         value: w,
         place: next,
-        left: n - ups - 1,
+        left: n - 1,
+        name: 0,
+        next: 0,
     }
 }
 
-// The ups in front are counted until a name, the root or the end comes.
+// The ups in front are counted until a name, the root or the end comes: they lead to a scope, and are not followed.
 fn begin(b: &[u8], ent: &[u64], sc: &[u64], used: usize, p: usize, n: usize) -> Start
     requires { ⌜ (length (now b) ≤ 65536) × (0 < used) × (used ≤ 32) × AllReadable (now b) (now ent) (scopes-of (now sc)) used × Holds (row seg n) (bits (now b)) p × (length (now sc) ≡ 96) ⌝ }
     ensures { λ r. ⌜ Starts (now (b .entry)) (now (ent .entry)) (scopes-of (now (sc .entry))) used p n r ⌝ }
@@ -182,10 +196,10 @@ fn begin(b: &[u8], ent: &[u64], sc: &[u64], used: usize, p: usize, n: usize) -> 
         let segment = parts::segment_at(b, at);
         match segment {
             Segment::Named(q, next) => {
-                return named_start(b, ent, sc, used, p, n, ups, q, next);
+                return from_name(b, ent, sc, used, at, n - ups, ups, q, next);
             }
-            Segment::Root(_) => {
-                return based(sc, used, p, n, ups, true);
+            Segment::Root(next) => {
+                return from_base(sc, used, next, n - ups - 1, ups, true);
             }
             Segment::Up(next) => {
                 at = next;
@@ -193,7 +207,28 @@ fn begin(b: &[u8], ent: &[u64], sc: &[u64], used: usize, p: usize, n: usize) -> 
         }
         ups += 1;
     }
-    based(sc, used, p, n, ups, false)
+    from_base(sc, used, at, 0, ups, false)
+}
+
+// Along what is left. A first name that is read already is not read again.
+fn onward(s: &[u8], tab: &[u64], b: &[u8], ent: &[u64], from: Start) -> Evaluated
+    requires { ⌜ Accepted (now s) (now tab) × (length (now b) ≤ 65536) × Held (now s) (now b) (now ent) (from .value) × Holds (row seg (from .left)) (bits (now b)) (from .place) × First (bits (now b)) from ⌝ }
+    ensures { λ r. ⌜ ((t : ℕ) → Stands (now (s .entry)) (now (b .entry)) (now (ent .entry)) t (from .value) → is-missing (from .value) ≡ false → Evaluates (now (s .entry)) (now (b .entry)) (now (ent .entry)) t (walked (path-of (now (s .entry)) (from .value)) (json-of (now (s .entry)) (now (b .entry)) (now (ent .entry)) (from .value)) (merge-json-path (segments-at (from .left) (bits (now (b .entry))) (from .place)))) r) ⌝ }
+{
+    let mut cur = from.value;
+    let mut at = from.place;
+    let mut left = from.left;
+    let q = from.name;
+    if q != 0 {
+        let r = named(s, tab, b, ent, cur, q, from.next);
+        let Step::On(w, next) = r else {
+            return stopped(r);
+        };
+        cur = w;
+        at = next;
+        left -= 1;
+    }
+    walk(s, tab, b, ent, cur, at, left)
 }
 
 // Recursive lookup
@@ -274,7 +309,7 @@ fn navigate(
             }
         }
     }
-    walk(s, tab, b, ent, v, from.place, from.left)
+    onward(s, tab, b, ent, from)
 }
 
 fn local_value(b: &[u8], sc: &[u64], used: usize, level: usize, p: usize) -> Evaluated

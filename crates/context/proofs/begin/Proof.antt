@@ -1,15 +1,13 @@
 -- `context::begin` meets its contract.
 use Prim.Native.Nat.{_-_}
-use mathlib.Core.Bool.{true, false}
-use mathlib.Core.Path.{sym, _∙_, subst}
+use mathlib.Core.Path.{subst}
 use native.Mathlib.Omega.{arith}
 use Rattle.rules.specs.Bits.{bits}
 use Rattle.rules.specs.Bundle.{seg}
 use Rattle.parts.specs.HoldsLaws.{passed-first}
-use Rattle.parts.specs.Says.{SegmentStands, segment-stands}
-use Rattle.scope.specs.Scopes.{blocks-of}
+use Rattle.parts.specs.Says.{segment-read, SegmentStands}
 use Rattle.scope.specs.Words.{scopes-of}
-use Rattle.context.proofs.Starting.{Peeks, peek-start, peek-again, begin-end, begin-root, begin-named, starts-based}
+use Rattle.context.proofs.Starting.{Peeks, peek-start, peek-again, first-name, starts-end, starts-root, starts-named}
 use borrow.Author.Needs.{needs}
 use Rattle.context.proofs.begin.Statement.{statement}
 use Rattle.context.proofs.begin.Tie as tie
@@ -20,6 +18,10 @@ Inv-loop b ent sc used p n at₀ ups₀ at ups = Peeks (bits b) p n ups at
 abbrev μ-loop : tie.MeasureT-loop
 μ-loop b ent sc used p n at₀ ups₀ at ups = n - ups
 
+-- the segment that is read
+read : (c : tie.After-segment-at Inv-loop μ-loop) → SegmentStands (bits (c .before .before .before .before .before .before .args .b .now)) (c .before .before .loop .at) (c .segment-at .result)
+read c = segment-read (bits (c .before .before .before .before .before .before .args .b .now)) (c .before .before .loop .at) (passed-first seg (bits (c .before .before .before .before .before .before .args .b .now)) _ _ _ _ (c .before .before .loop .inv .passed) (omega arith)) (c .segment-at .result) (c .segment-at .ensures)
+
 loop-holds : tie.Need-loop-holds Inv-loop μ-loop
 loop-holds c = peek-start (bits (c .before .before .before .args .b .now)) (c .before .before .before .args .p) (c .before .before .before .args .n) (c .before .before .before .pre .4)
 
@@ -29,42 +31,45 @@ segment-at-requires c κs = (c .before .before .before .before .before .pre .0, 
 enum-known-segment : tie.Need-enum-known-segment Inv-loop μ-loop
 enum-known-segment c = search needs
 
-named-start-requires : tie.Need-named-start-requires Inv-loop μ-loop
-named-start-requires c κs =
+sub-from-name : tie.Need-sub-from-name Inv-loop μ-loop
+sub-from-name c = search needs
+
+from-name-requires : tie.Need-from-name-requires Inv-loop μ-loop
+from-name-requires c κs =
     let b = c .before .before .before .before .before .before .before .before .before .args .b .now in
     let at = c .before .before .before .before .before .loop .at in
-    let P = c .before .before .before .before .before .loop .inv in
-    let H = passed-first seg (bits b) _ _ _ _ (P .passed) (omega arith) in
-    let x = subst (SegmentStands (bits b) at) (sym (c .before .before .before .segment-at .ensures) ∙ c .before .segment .given .1) (segment-stands (bits b) at H) in
-    (c .before .before .before .before .before .before .before .before .before .pre .0, c .before .before .before .before .before .before .before .before .before .pre .1, c .before .before .before .before .before .before .before .before .before .pre .2, c .before .before .before .before .before .before .before .before .before .pre .3, x .parts, begin-named (bits b) (c .before .before .before .before .before .before .before .before .before .args .p) (c .before .before .before .before .before .before .before .before .before .args .n) (c .before .before .before .before .before .loop .ups) at P (omega arith) (c .before .before .before .before .before .before .before .before .before .pre .4) (c .before .segment .given .0 .0) (c .before .segment .given .0 .1 .0) x, c .before .before .before .before .before .before .before .before .before .pre .5)
+    let x = subst (SegmentStands (bits b) at) (c .before .segment .given .1) (read (c .before .before .before)) in
+    (c .before .before .before .before .before .before .before .before .before .pre .0, c .before .before .before .before .before .before .before .before .before .pre .1, c .before .before .before .before .before .before .before .before .before .pre .2, c .before .before .before .before .before .before .before .before .before .pre .3, first-name (bits b) (c .before .before .before .before .before .before .before .before .before .args .p) (c .before .before .before .before .before .before .before .before .before .args .n) (c .before .before .before .before .before .loop .ups) at (c .before .before .before .before .before .loop .inv) (omega arith) (c .before .segment .given .0 .0) (c .before .segment .given .0 .1 .0) x, c .before .before .before .before .before .before .before .before .before .pre .5)
 
 returns : tie.Need-returns Inv-loop μ-loop
-returns c = c .named-start .ensures
-
-enum-told : tie.Need-enum-told Inv-loop μ-loop
-enum-told c = search needs
-
-based-requires : tie.Need-based-requires Inv-loop μ-loop
-based-requires c κs = (c .before .before .before .before .before .before .before .before .pre .1, c .before .before .before .before .before .before .before .before .pre .2, c .before .before .before .before .before .before .before .before .pre .5)
-
-returns-2 : tie.Need-returns-2 Inv-loop μ-loop
-returns-2 c =
-    let b = c .before .before .before .before .before .before .before .before .before .args .b .now in
-    let ent = c .before .before .before .before .before .before .before .before .before .args .ent .now in
-    let used = c .before .before .before .before .before .before .before .before .before .args .used in
-    let p = c .before .before .before .before .before .before .before .before .before .args .p in
-    let n = c .before .before .before .before .before .before .before .before .before .args .n in
-    let l = scopes-of (c .before .before .before .before .before .before .before .before .before .args .sc .now) in
-    let ups = c .before .before .before .before .before .loop .ups in
-    let at = c .before .before .before .before .before .loop .at in
-    let P = c .before .before .before .before .before .loop .inv in
-    let H = passed-first seg (bits b) _ _ _ _ (P .passed) (omega arith) in
-    let x = subst (SegmentStands (bits b) at) (sym (c .before .before .before .segment-at .ensures) ∙ c .before .enum-told .given .1) (segment-stands (bits b) at H) in
-    starts-based b ent l used p n ups true (c .based .result) (c .before .before .before .before .before .before .before .before .before .pre .4) (c .based .ensures .0) (c .based .ensures .1) (c .based .ensures .2)
-    (λ s t st. begin-root (bits b) p n ups at P (omega arith) (x .is) (blocks-of s b ent l used))
+returns c =
+    let b = c .before .before .before .before .before .before .before .before .before .before .args .b .now in
+    let at = c .before .before .before .before .before .before .loop .at in
+    let x = subst (SegmentStands (bits b) at) (c .before .before .segment .given .1) (read (c .before .before .before .before)) in
+    starts-named b (c .before .before .before .before .before .before .before .before .before .before .args .ent .now) (scopes-of (c .before .before .before .before .before .before .before .before .before .before .args .sc .now)) (c .before .before .before .before .before .before .before .before .before .before .args .used) (c .before .before .before .before .before .before .before .before .before .before .args .p) (c .before .before .before .before .before .before .before .before .before .before .args .n) (c .before .before .before .before .before .before .loop .ups) at (c .before .before .before .before .before .before .loop .inv) (c .from-name .result) (omega arith) (c .before .before .segment .given .0 .0) (c .before .before .segment .given .0 .1 .0) x (c .from-name .ensures)
 
 enum-known-segment-2 : tie.Need-enum-known-segment-2 Inv-loop μ-loop
 enum-known-segment-2 c = search needs
+
+sub-from-base : tie.Need-sub-from-base Inv-loop μ-loop
+sub-from-base c = search needs
+
+sub-from-base-2 : tie.Need-sub-from-base-2 Inv-loop μ-loop
+sub-from-base-2 c = search needs
+
+from-base-requires : tie.Need-from-base-requires Inv-loop μ-loop
+from-base-requires c κs = (c .before .before .before .before .before .before .before .before .before .pre .1, c .before .before .before .before .before .before .before .before .before .pre .2, c .before .before .before .before .before .before .before .before .before .pre .5)
+
+returns-2 : tie.Need-returns-2 Inv-loop μ-loop
+returns-2 c =
+    let b = c .before .before .before .before .before .before .before .before .before .before .args .b .now in
+    let at = c .before .before .before .before .before .before .loop .at in
+    let x = subst (SegmentStands (bits b) at) (c .before .before .segment2 .given .1) (read (c .before .before .before .before)) in
+    let E = c .from-base .ensures in
+    starts-root b (c .before .before .before .before .before .before .before .before .before .before .args .ent .now) (scopes-of (c .before .before .before .before .before .before .before .before .before .before .args .sc .now)) (c .before .before .before .before .before .before .before .before .before .before .args .used) (c .before .before .before .before .before .before .before .before .before .before .args .p) (c .before .before .before .before .before .before .before .before .before .before .args .n) (c .before .before .before .before .before .before .loop .ups) at (c .before .before .before .before .before .before .loop .inv) (c .from-base .result) (omega arith) (c .before .before .segment2 .given .0 .0) x (E .0) (E .1) (E .2) (E .3)
+
+enum-known-segment-3 : tie.Need-enum-known-segment-3 Inv-loop μ-loop
+enum-known-segment-3 c = search needs
 
 add-ups : tie.Need-add-ups Inv-loop μ-loop
 add-ups c = search needs
@@ -76,24 +81,16 @@ loop-again : tie.Need-loop-again Inv-loop μ-loop
 loop-again c =
     let b = c .before .before .before .before .before .before .before .before .before .args .b .now in
     let at = c .before .before .before .before .before .loop .at in
-    let P = c .before .before .before .before .before .loop .inv in
-    let H = passed-first seg (bits b) _ _ _ _ (P .passed) (omega arith) in
-    let x = subst (SegmentStands (bits b) at) (sym (c .before .before .before .segment-at .ensures) ∙ c .before .segment2 .given .1) (segment-stands (bits b) at H) in
-    peek-again (bits b) (c .before .before .before .before .before .before .before .before .before .args .p) (c .before .before .before .before .before .before .before .before .before .args .n) (c .before .before .before .before .before .loop .ups) at P (c .before .segment2 .given .0 .0) (omega arith) (x .is) (x .next)
+    let x = subst (SegmentStands (bits b) at) (c .before .segment3 .given .1) (read (c .before .before .before)) in
+    peek-again (bits b) (c .before .before .before .before .before .before .before .before .before .args .p) (c .before .before .before .before .before .before .before .before .before .args .n) (c .before .before .before .before .before .loop .ups) at (c .before .before .before .before .before .loop .inv) (c .before .segment3 .given .0 .0) (omega arith) (x .is) (x .next)
 
-based-requires-2 : tie.Need-based-requires-2 Inv-loop μ-loop
-based-requires-2 c κs = (c .before .before .before .before .before .pre .1, c .before .before .before .before .before .pre .2, c .before .before .before .before .before .pre .5)
+from-base-requires-2 : tie.Need-from-base-requires-2 Inv-loop μ-loop
+from-base-requires-2 c κs = (c .before .before .before .before .before .pre .1, c .before .before .before .before .before .pre .2, c .before .before .before .before .before .pre .5)
 
 returns-3 : tie.Need-returns-3 Inv-loop μ-loop
 returns-3 c =
-    let b = c .before .before .before .before .before .before .args .b .now in
-    let ent = c .before .before .before .before .before .before .args .ent .now in
-    let used = c .before .before .before .before .before .before .args .used in
-    let p = c .before .before .before .before .before .before .args .p in
-    let n = c .before .before .before .before .before .before .args .n in
-    let l = scopes-of (c .before .before .before .before .before .before .args .sc .now) in
-    starts-based b ent l used p n (c .before .before .loop .ups) false (c .based2 .result) (c .before .before .before .before .before .before .pre .4) (c .based2 .ensures .0) (c .based2 .ensures .1) (c .based2 .ensures .2)
-    (λ s t st. begin-end (bits b) p n (c .before .before .loop .ups) (c .before .before .loop .at) (c .before .before .loop .inv) (omega arith) (blocks-of s b ent l used))
+    let E = c .from-base2 .ensures in
+    starts-end (c .before .before .before .before .before .before .args .b .now) (c .before .before .before .before .before .before .args .ent .now) (scopes-of (c .before .before .before .before .before .before .args .sc .now)) (c .before .before .before .before .before .before .args .used) (c .before .before .before .before .before .before .args .p) (c .before .before .before .before .before .before .args .n) (c .before .before .loop .ups) (c .before .before .loop .at) (c .before .before .loop .inv) (c .from-base2 .result) (omega arith) (E .0) (E .1) (E .2) (E .3)
 
 pub begin-spec : {M : Type 1} → statement M
 begin-spec =
@@ -104,14 +101,17 @@ begin-spec =
     loop-holds
     segment-at-requires
     enum-known-segment
-    named-start-requires
+    sub-from-name
+    from-name-requires
     returns
-    enum-told
-    based-requires
-    returns-2
     enum-known-segment-2
+    sub-from-base
+    sub-from-base-2
+    from-base-requires
+    returns-2
+    enum-known-segment-3
     add-ups
     loop-less
     loop-again
-    based-requires-2
+    from-base-requires-2
     returns-3)

@@ -69,15 +69,15 @@ returns c =
       c .alone .ensures .1 t,
     )
 
-walk-requires : tie.Need-walk-requires
-walk-requires c κs =
+onward-requires : tie.Need-onward-requires
+onward-requires c κs =
     let s = c .before .before .before .before .before .before .before .args .s .now in
     let b = c .before .before .before .before .before .before .before .args .b .now in
     let ent = c .before .before .before .before .before .before .before .args .ent .now in
     let z = c .before .before .before .before .before .before .before .pre .4 in
     let S = c .before .begin .ensures in
     let h : Held s b ent (c .before .begin .result .value) = record { used = z .0; room = z .1 .entries; stands = S .at s (z .0) (z .1) .stands } in
-    (c .before .before .before .before .before .before .before .pre .0, c .before .before .before .before .before .before .before .pre .1, h, S .holds)
+    (c .before .before .before .before .before .before .before .pre .0, c .before .before .before .before .before .before .before .pre .1, h, S .holds, S .first)
 
 returns-2 : tie.Need-returns-2
 returns-2 c =
@@ -99,9 +99,9 @@ returns-2 c =
     (c .before .if1 .came) in
     λ t st.
     let A = c .before .before .begin .ensures .at s t st in
-    subst (λ (y : Got ScopedJson). Evaluates s b ent t y (c .walk .result))
+    subst (λ (y : Got ScopedJson). Evaluates s b ent t y (c .onward .result))
     (sym (A .leads (json-at s 0) deep ∙ followed-either s b ent tab (c .before .before .before .before .before .before .before .before .pre .0) (from .value) t (A .stands) (merge-json-path (segments-at (from .left) (bits b) (from .place))) deep k))
-    (c .walk .ensures t (A .stands) (A .present))
+    (c .onward .ensures t (A .stands) (A .present))
 
 pub navigate-spec : {M : Type 1} → statement M
 navigate-spec =
@@ -112,5 +112,5 @@ navigate-spec =
     enum-known-v
     alone-requires
     returns
-    walk-requires
+    onward-requires
     returns-2)
