@@ -111,3 +111,20 @@ pub fn get_named(b: &[u8], w: usize, at: usize) -> Found
     }
     Found::Missing
 }
+
+// The same by the places of the templates.
+pub fn get_indexed(b: &[u8], places: &[u32], at: usize) -> Found
+    requires { ⌜ (length (now b) ≤ 65536) × Holds (templates 16) (bits (now b)) 8 × (field (bits (now b)) 8 8 ≤ length (now places)) × Indexed (body 16 16) (bits (now b)) (field (bits (now b)) 8 8) (now places) × (at ≤ 524288) ⌝ }
+    ensures { λ r. ⌜ r ≡ found-view (body 16 16) (bits (now (b .entry))) (find-template (templates-at 16 (bits (now (b .entry)))) (text-at (bits (now (b .entry))) at)) ⌝ }
+{
+    let n = template_count(b);
+    let mut i: usize = 0;
+    while i < n {
+        let p = places[i] as usize;
+        if layout::same_text(b, p, at) {
+            return Found::Template(i, p, parts::skip_string(b, p));
+        }
+        i += 1;
+    }
+    Found::Missing
+}
