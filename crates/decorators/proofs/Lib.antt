@@ -1,2 +1,2 @@
 pub mod Inlining
-mod Naming
+pub mod Naming

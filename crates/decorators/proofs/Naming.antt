@@ -1,5 +1,5 @@
 -- The name of an inline partial, and whether a value is a string.
-use Prim.Native.Nat.{ℕ, _+_}
+use Prim.Native.Nat.{ℕ, zero, suc, _+_, _/_, _%_}
 use mathlib.Core.Bool.{Bool, true, false}
 use mathlib.Core.List.{List, [], _∷_}
 use mathlib.Core.Option.{Option, none, some}
@@ -14,11 +14,20 @@ use Rattle.rules.specs.Bytes.{Bytes, same}
 use Rattle.rules.specs.Json.{Json, jnull, jbool, jpos, jneg, jstr, jarr, jobj, as-str}
 use Rattle.rules.specs.Order.{differ}
 use Rattle.rules.specs.Value.{render}
+use Rattle.rules.specs.Template.{literal-json}
+use Rattle.rules.specs.Bits.{Bits, bits}
+use Rattle.rules.specs.Layout.{field}
+use Rattle.rules.specs.Bundle.{string}
+use Rattle.layout.specs.Text.{text-at}
+use Rattle.parts.specs.Holds.{Holds}
+use Rattle.parts.specs.Views.{literal-of}
+use Rattle.parts.specs.Says.{literal-at, LiteralStands, literal-stands}
 use Rattle.text.specs.declared.Text.{Text}
 use Rattle.text.specs.Rest as text
 use Rattle.text.specs.Rest.{rest}
 use Rattle.value.specs.declared.Value.{Value}
-use Rattle.value.specs.Numbers.{decoded}
+use Rattle.value.specs.declared.Value.the-variants as value
+use Rattle.value.specs.Numbers.{decoded, place-of}
 use Rattle.meaning.specs.declared.Form.{Form}
 use Rattle.meaning.specs.declared.Form.the-variants.{Null, Boolean, Unsigned, Negative, String, List as Row, Object, Merged}
 use Rattle.meaning.specs.Entries.{low}
@@ -84,6 +93,44 @@ module _ (s b : Bytes) (ent : List ℕ) (e : ℕ) (st : InlineStands s b ent e) 
   no-other (Row i) k f = let h : jarr _ ≡ jstr (inline-name s b ent e) = sym (f .is .is) ∙ says in let z : _≡_ {A = ℕ} 0 1 = cc in omega arith
   no-other (Object i) k f = let h : jobj _ ≡ jstr (inline-name s b ent e) = sym (f .is .is) ∙ says in let z : _≡_ {A = ℕ} 0 1 = cc in omega arith
   no-other (Merged h n) k f = let g : _≡_ {A = Option (ℕ × ℕ)} (some (h, n)) none = sym f ∙ plain-v in let z : _≡_ {A = ℕ} 0 1 = cc in omega arith
+
+-- A name that stands in the bundle
+
+string-literal : (b : Bits) (p : ℕ) (n : Bytes) (k : ℕ) → LiteralStands b p (literal-of b (p + 3) k) → literal-json (literal-at b p) ≡ jstr n → Holds string b (p + 3) × (text-at b (p + 3) ≡ n)
+string-literal b p n zero h e = let j : jnull ≡ jstr n = sym (ap literal-json (h .is)) ∙ e in let z : _≡_ {A = ℕ} 0 1 = cc in absurd (omega arith)
+string-literal b p n (suc zero) h e = let j : jbool false ≡ jstr n = sym (ap literal-json (h .is)) ∙ e in let z : _≡_ {A = ℕ} 0 1 = cc in absurd (omega arith)
+string-literal b p n (suc (suc zero)) h e = let j : jbool true ≡ jstr n = sym (ap literal-json (h .is)) ∙ e in let z : _≡_ {A = ℕ} 0 1 = cc in absurd (omega arith)
+string-literal b p n (suc (suc (suc zero))) h e = let j : jpos _ ≡ jstr n = sym (ap literal-json (h .is)) ∙ e in let z : _≡_ {A = ℕ} 0 1 = cc in absurd (omega arith)
+string-literal b p n (suc (suc (suc (suc zero)))) h e = let j : jneg _ ≡ jstr n = sym (ap literal-json (h .is)) ∙ e in let z : _≡_ {A = ℕ} 0 1 = cc in absurd (omega arith)
+string-literal b p n (suc (suc (suc (suc (suc k))))) h e = let j : jstr (text-at b (p + 3)) ≡ jstr n = sym (ap literal-json (h .is)) ∙ e in (h .parts, cc)
+
+-- the value of a number, by its last four bits
+decoded-literal : (n : ℕ) → n % 16 ≡ 7 → decoded n ≡ value.Literal (n / 16)
+unfolding decoded place-of
+decoded-literal n e = rw e
+
+decoded-text : (n : ℕ) → n % 16 ≡ 11 → decoded n ≡ value.Text (n / 16)
+unfolding decoded place-of
+decoded-text n e = rw e
+
+module _ (s b : Bytes) (ent : List ℕ) (e : ℕ) (st : InlineStands s b ent e) (n : ℕ) (q : n ≡ low ent e) where
+  pub literal-name : n % 16 ≡ 7 → Holds string (bits b) (n / 16 + 3) × (text-at (bits b) (n / 16 + 3) ≡ inline-name s b ent e)
+  literal-name h =
+      let v = sym (decoded-literal n h) ∙ ap decoded q in
+      string-literal (bits b) (n / 16) (inline-name s b ent e) (field (bits b) 3 (n / 16)) (literal-stands (bits b) (n / 16) (name-known s b ent e st _ v refl)) (says s b ent e st _ v)
+
+  pub string-named : n % 16 ≡ 11 → Holds string (bits b) (n / 16) × (text-at (bits b) (n / 16) ≡ inline-name s b ent e)
+  string-named h =
+      let v = sym (decoded-text n h) ∙ ap decoded q in
+      let j : jstr (text-at (bits b) (n / 16)) ≡ jstr (inline-name s b ent e) = says s b ent e st _ v in
+      (name-known s b ent e st _ v refl, cc)
+
+-- what a string of the bundle prints, and that it is there
+pub text-name : (s b : Bytes) (ent : List ℕ) (v : Value) (q : ℕ) → v ≡ value.Text q → name-of s b ent v ≡ text-at (bits b) q
+text-name s b ent v q e = ap (name-of s b ent) e ∙ ap render (plain-is s b ent (value.Text q) refl)
+
+pub text-held : (s b : Bytes) (v : Value) (q : ℕ) → v ≡ value.Text q → Known s b v → Holds string (bits b) q
+text-held s b v q e k = subst (Known s b) e k refl
 
 -- what a comparison of the entry e says
 pub one-compared : (s b : Bytes) (ent : List ℕ) (e : ℕ) (v : Value) (x : Bool) (l : Bytes) → x ≡ same (name-of s b ent v) l → l ≡ inline-name s b ent e → (y : Bool) → x ≡ y

@@ -5,12 +5,15 @@ ghost use mathlib.Core.Option.{none, some};
 ghost use Prim.Native.Nat.{ℕ, _+_, _*_, _≤_, _<_};
 ghost use lib.ListN.{length};
 ghost use lib.Seq.{sets};
-ghost use Rattle.rules.specs.Bytes.{Bytes, pick};
+ghost use Rattle.rules.specs.Bytes.{Bytes, pick, same};
 ghost use Rattle.rules.specs.Bits.{bits};
+ghost use Rattle.rules.specs.Bundle.{string};
 ghost use Rattle.rules.specs.Value.{render};
 ghost use Rattle.rules.specs.Registry.{Registry, is-inline};
 ghost use Rattle.rules.specs.Render.{join-indent, indent-fits};
 ghost use Rattle.rules.specs.State.{text-size};
+ghost use Rattle.layout.specs.Text.{text-at};
+ghost use Rattle.parts.specs.Holds.{Holds};
 ghost use Rattle.text.specs.Rest as text;
 ghost use Rattle.text.specs.Rest.{rest};
 ghost use Rattle.places.specs.Accepted.{Accepted};
@@ -126,8 +129,48 @@ fn inline_name(s: &[u8], tab: &[u64], b: &[u8], ent: &[u64], e: usize) -> Text
     t
 }
 
-// Of the n inline partials from e on, the one whose name v prints.
-pub fn get_local_partial(
+// Whether the inline partial that the entry e holds has the name of the string at the bit q. Most names are literals, which are strings behind three
+// bits, or strings of the bundle: the number of the value tells them by its last four bits, so that they are compared where they stand.
+fn has_name(s: &[u8], tab: &[u64], b: &[u8], ent: &[u64], e: usize, q: usize) -> bool
+    requires { ⌜ Accepted (now s) (now tab) × (length (now b) ≤ 65536) × (2 * e < length (now ent)) × InlineStands (now s) (now b) (now ent) e × Holds string (bits (now b)) q ⌝ }
+    ensures { λ r. ⌜ r ≡ same (inline-name (now (s .entry)) (now (b .entry)) (now (ent .entry)) e) (text-at (bits (now (b .entry))) q) ⌝ }
+{
+    let n = entries::low(ent, e);
+    let p = (n / 16) as usize;
+    if n % 16 == 7 {
+        return layout::same_text(b, p + 3, q);
+    }
+    if n % 16 == 11 {
+        return layout::same_text(b, p, q);
+    }
+    text::same(s, b, inline_name(s, tab, b, ent, e), lookup::text_of(s, b, q))
+}
+
+// Of the n inline partials from e on, the one that has the name of the string at the bit q.
+fn get_named_partial(
+    s: &[u8],
+    tab: &[u64],
+    b: &[u8],
+    ent: &[u64],
+    e: usize,
+    n: usize,
+    q: usize,
+) -> Local
+    requires { ⌜ Accepted (now s) (now tab) × (length (now b) ≤ 65536) × Holds string (bits (now b)) q × (2 * (e + n) ≤ length (now ent)) × ((i : ℕ) → i < n → InlineStands (now s) (now b) (now ent) (e + i)) ⌝ }
+    ensures { λ r. ⌜ LocalIs (now (s .entry)) (now (b .entry)) (now (ent .entry)) e n (text-at (bits (now (b .entry))) q) r ⌝ }
+{
+    let mut i: usize = 0;
+    while i < n {
+        if has_name(s, tab, b, ent, e + i, q) {
+            return Local::At(e + i);
+        }
+        i += 1;
+    }
+    Local::Nothing
+}
+
+// The one whose name v prints, whatever v is.
+fn get_printed_partial(
     s: &[u8],
     tab: &[u64],
     b: &[u8],
@@ -148,6 +191,25 @@ pub fn get_local_partial(
         i += 1;
     }
     Local::Nothing
+}
+
+// The one whose name v prints: mostly v is a string of the bundle.
+pub fn get_local_partial(
+    s: &[u8],
+    tab: &[u64],
+    b: &[u8],
+    ent: &[u64],
+    e: usize,
+    n: usize,
+    v: Value,
+) -> Local
+    requires { ⌜ Accepted (now s) (now tab) × (length (now b) ≤ 65536) × Known (now s) (now b) v × (2 * (e + n) ≤ length (now ent)) × ((i : ℕ) → i < n → InlineStands (now s) (now b) (now ent) (e + i)) ⌝ }
+    ensures { λ r. ⌜ ((t : ℕ) → Stands (now (s .entry)) (now (b .entry)) (now (ent .entry)) t v → LocalIs (now (s .entry)) (now (b .entry)) (now (ent .entry)) e n (name-of (now (s .entry)) (now (b .entry)) (now (ent .entry)) v) r) ⌝ }
+{
+    if let Value::Text(q) = v {
+        return get_named_partial(s, tab, b, ent, e, n, q);
+    }
+    get_printed_partial(s, tab, b, ent, e, n, v)
 }
 
 // What `inline` does with a body, where there is one; so many entries are taken.

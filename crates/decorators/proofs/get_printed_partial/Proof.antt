@@ -1,4 +1,4 @@
--- `decorators::get_local_partial` meets its contract.
+-- `decorators::get_printed_partial` meets its contract.
 use Rattle.decorators.proofs.Naming.{one-compared, one-more-unnamed}
 use Rattle.decorators.specs.Inlined.{Unnamed}
 use Rattle.expand.specs.Answers.{name-of}
@@ -9,8 +9,8 @@ use mathlib.Core.Path.{_≡_, refl, subst}
 use mathlib.Core.Bool.{true, false}
 use native.Mathlib.Omega.{arith}
 use borrow.Author.Needs.{needs}
-use Rattle.decorators.proofs.get_local_partial.Statement.{statement}
-use Rattle.decorators.proofs.get_local_partial.Tie as tie
+use Rattle.decorators.proofs.get_printed_partial.Statement.{statement}
+use Rattle.decorators.proofs.get_printed_partial.Tie as tie
 
 abbrev Inv-loop : tie.InvT-loop
 Inv-loop s tab b ent e n v i₀ i = (i ≤ n) × ((t : ℕ) → Stands s b ent t v → Unnamed s b ent e i (name-of s b ent v))
@@ -48,8 +48,8 @@ loop-again c = let z = c .before .before .before .before .before .before .before
 returns-2 : tie.Need-returns-2 Inv-loop μ-loop
 returns-2 c = let z = c .before .before .before .before .before .before in let e : c .before .loop .i ≡ z .args .n = omega (arith, c .loop-test .left, c .before .loop .inv .0) in λ t st. subst (λ (k : ℕ). Unnamed (z .args .s .now) (z .args .b .now) (z .args .ent .now) (z .args .e) k (name-of (z .args .s .now) (z .args .b .now) (z .args .ent .now) (z .args .v))) e (c .before .loop .inv .1 t st)
 
-pub get-local-partial-spec : {M : Type 1} → statement M
-get-local-partial-spec =
+pub get-printed-partial-spec : {M : Type 1} → statement M
+get-printed-partial-spec =
     tie.close
     (tie.spec
     Inv-loop
