@@ -143,7 +143,12 @@ fn has_name(s: &[u8], tab: &[u64], b: &[u8], ent: &[u64], e: usize, q: usize) ->
     if n % 16 == 11 {
         return layout::same_text(b, p, q);
     }
-    text::same(s, b, inline_name(s, tab, b, ent, e), lookup::text_of(s, b, q))
+    text::same(
+        s,
+        b,
+        inline_name(s, tab, b, ent, e),
+        lookup::text_of(s, b, q),
+    )
 }
 
 // Of the n inline partials from e on, the one that has the name of the string at the bit q.

@@ -1,10 +1,11 @@
 -- Searches among inline partials and among templates.
-use Prim.Native.Nat.{ℕ, suc, _+_, _-_, _≤_, _<_}
+use Prim.Native.Nat.{ℕ, suc, _+_, _-_, _*_, _%_, _≤_, _<_}
 use mathlib.Core.Bool.{Bool, true, false}
 use mathlib.Core.List.{List}
 use mathlib.Core.Option.{Option, none, some}
 use mathlib.Core.Path.{_≡_, refl, sym, ap, ap₂, _∙_, subst}
 use native.Mathlib.Omega.{arith}
+use lib.ListN.{getD}
 use Rattle.rules.specs.Bytes.{Bytes, maybe, same}
 use Rattle.rules.specs.Template as rule
 use Rattle.rules.specs.Bits.{Bits, bits}
@@ -13,20 +14,25 @@ use Rattle.rules.specs.Bundle.{string, body, templates, find-template}
 use Rattle.rules.specs.Registry.{get-template}
 use Rattle.rules.specs.Partial.{get-partial, is-current-template}
 use Rattle.layout.specs.Text.{text-at}
-use Rattle.parts.specs.Holds.{Holds, end, value}
+use Rattle.parts.specs.Holds.{Holds, value}
 use Rattle.registry.specs.declared.Template.{Template}
 use Rattle.registry.specs.declared.Found.{Found}
 use Rattle.registry.specs.declared.Found.the-variants.{Template as Is, Missing}
-use Rattle.registry.specs.Templates.{templates-at, place-of, place-zero, found-view, FoundStands, found-stands, Searching, search-start, search-here, search-on, search-end}
+use Rattle.registry.specs.Templates.{templates-at, found-view, FoundStands, found-stands}
 use Rattle.meaning.specs.Entries.{high, place}
 use Rattle.scope.specs.declared.Scope.{Scope}
-use Rattle.scope.specs.Scopes.{inline-body, blocks-of}
+use Rattle.scope.specs.Scopes.{inline-body, blocks-of, blank}
+use Rattle.scope.specs.Words.{scopes-of, scopes-at}
 use Rattle.scope.specs.Standing.{InlineStands, ScopesStand}
 use Rattle.scope.specs.InlineLaws.{find-none, find-here}
 use Rattle.decorators.specs.declared.Local.{Local}
 use Rattle.decorators.specs.declared.Local.the-variants.{At, Nothing}
 use Rattle.decorators.specs.Inlined.{newest, Unnamed, Named, same-swap}
 use Rattle.partials.specs.Finding.{EntryFound, EntryIs, InlineFound, TemplateFound, template-name}
+
+-- A scope that has none, by its third word
+pub none-inline : (l : List ℕ) (i : ℕ) → i < 32 → getD l (3 * i + 2) 0 % 65536 ≡ 0 → getD (scopes-of l) i blank .count ≡ 0
+none-inline l i lt e = ap (λ (c : Scope). c .count) (scopes-at l i lt) ∙ e
 
 -- The newest of the first i scopes
 
@@ -57,30 +63,6 @@ module _ (s b : Bytes) (ent : List ℕ) (l : List Scope) (used t : ℕ) (st : Sc
 
 pub named-so : (x : Bool) (m l k : Bytes) → x ≡ same m l → l ≡ k → x ≡ same k m
 named-so x m l k h q = h ∙ ap (same m) q ∙ same-swap m k
-
-module _ (b : Bits) (H : Holds (templates 16) b 8) (m : Bytes) where
-  abbrev goal : Found
-  goal = found-view (body 16 16) b (find-template (templates-at 16 b) m)
-
-  abbrev pub Looking : ℕ → ℕ → Type 0
-  Looking n i = Searching (body 16 16) b m n i (place-of (body 16 16) b i) (end (templates 16) b 8) goal
-
-  pub look-start : (n : ℕ) → n ≡ field b 8 8 → Looking n 0
-  look-start n e =
-      subst (λ (p : ℕ). Searching (body 16 16) b m n 0 p (end (templates 16) b 8) goal) (place-zero (body 16 16) b) (search-start 16 b m H n e)
-
-  module _ (n i : ℕ) (S : Looking n i) (lt : i < n) (x : Bool) (e : x ≡ same (text-at b (place-of (body 16 16) b i)) m) where
-    pub look-on : x ≡ false → Looking n (i + 1)
-    look-on f =
-        let T = search-on (body 16 16) b m n i (place-of (body 16 16) b i) (end (templates 16) b 8) goal S lt _ _ x refl refl e f in
-        subst (λ (p : ℕ). Searching (body 16 16) b m n (i + 1) p (end (templates 16) b 8) goal) (T .place) T
-
-    pub look-here : x ≡ true → (p q : ℕ) → p ≡ place-of (body 16 16) b i → q ≡ end string b (place-of (body 16 16) b i) → Is i p q ≡ goal
-    look-here f p q h g =
-        ap (λ (p : ℕ). Is i p q) h ∙ search-here (body 16 16) b m n i (place-of (body 16 16) b i) (end (templates 16) b 8) goal S lt q x g e f
-
-  pub look-end : (n i : ℕ) → Looking n i → n ≤ i → Missing ≡ goal
-  look-end n i S le = search-end (body 16 16) b m n i (place-of (body 16 16) b i) (end (templates 16) b 8) goal S le
 
 -- What was found
 

@@ -14,12 +14,18 @@ use Rattle.rules.specs.Registry.{Registry, get-template}
 use Rattle.rules.specs.Partial.{Rendering, get-partial, of-template, of-partial, find-partial}
 use Rattle.layout.specs.Text.{text-at}
 use Rattle.parts.specs.Holds.{Holds, value}
+use Rattle.scope.specs.declared.Scope.{Scope}
 use Rattle.scope.specs.Scopes.{inline-body}
 use Rattle.scope.specs.Standing.{InlineStands}
 use Rattle.decorators.specs.declared.Local.{Local}
 use Rattle.decorators.specs.declared.Local.the-variants.{At, Nothing as Lacking}
+use Rattle.decorators.specs.Inlined.{LocalIs}
 use Rattle.partials.specs.declared.Found.{Found}
 use Rattle.partials.specs.declared.Found.the-variants.{Inline, Template as Named, Nothing}
+
+-- among the inline partials of a scope
+abbrev pub InScope : Bytes → Bytes → List ℕ → Scope → Bytes → Local → Type 0
+InScope s b ent c m r = LocalIs s b ent (c .inline) (c .count) m r
 
 -- the inline partial in the entry k
 pub record EntryFound (s b : Bytes) (ent : List ℕ) (o : Option Template) (k : ℕ) : Type 0 where

@@ -2,7 +2,7 @@
 // s is the plan, b the bundle, places are those of its templates, ent holds the entries of open partials.
 ghost use mathlib.Core.Path.{_≡_};
 ghost use Prim.Native.Nat.{ℕ, _-_, _≤_, _<_};
-ghost use lib.ListN.{length};
+ghost use lib.ListN.{length, getD};
 ghost use Rattle.rules.specs.Bits.{bits};
 ghost use Rattle.rules.specs.Layout.{field};
 ghost use Rattle.rules.specs.Bundle.{string, body, templates, find-template};
@@ -16,11 +16,11 @@ ghost use Rattle.places.specs.Accepted.{Accepted};
 ghost use Rattle.meaning.specs.Standing.{Stands};
 ghost use Rattle.meaning.specs.Forms.{Known};
 ghost use Rattle.meaning.specs.Means.{Means};
-ghost use Rattle.scope.specs.Scopes.{blocks-of};
+ghost use Rattle.scope.specs.Scopes.{blocks-of, blank};
 ghost use Rattle.scope.specs.Words.{scopes-of};
 ghost use Rattle.scope.specs.Standing.{ScopesStand};
 ghost use Rattle.expand.specs.Answers.{name-of};
-ghost use Rattle.partials.specs.Finding.{EntryIs, FoundIs, template-name};
+ghost use Rattle.partials.specs.Finding.{InScope, EntryIs, FoundIs, template-name};
 use decorators::Local;
 use value::Value;
 
@@ -30,6 +30,27 @@ pub enum Found {
     // a template of the bundle: its name's string, and its body
     Template(usize, usize),
     Nothing,
+}
+
+// Among the inline partials of the scope i. Most scopes have none, so their count is looked at before the scope is unpacked.
+fn get_in_scope(
+    s: &[u8],
+    tab: &[u64],
+    b: &[u8],
+    ent: &[u64],
+    sc: &[u64],
+    used: usize,
+    i: usize,
+    v: Value,
+) -> Local
+    requires { ⌜ Accepted (now s) (now tab) × (length (now b) ≤ 65536) × (used ≤ 32) × ((t : ℕ) × ScopesStand (now s) (now b) (now ent) (scopes-of (now sc)) used t) × Known (now s) (now b) v × (length (now sc) ≡ 96) × (i < used) ⌝ }
+    ensures { λ r. ⌜ ((t : ℕ) → Stands (now (s .entry)) (now (b .entry)) (now (ent .entry)) t v → InScope (now (s .entry)) (now (b .entry)) (now (ent .entry)) (getD (scopes-of (now (sc .entry))) i blank) (name-of (now (s .entry)) (now (b .entry)) (now (ent .entry)) v) r) ⌝ }
+{
+    if sc[3 * i + 2] % 65536 == 0 {
+        return Local::Nothing;
+    }
+    let c = scope::scope_at(sc, i);
+    decorators::get_local_partial(s, tab, b, ent, c.inline as usize, c.count as usize, v)
 }
 
 // Among the inline partials, from the newest scope on.
@@ -48,16 +69,7 @@ fn get_partial(
     let mut i = used;
     while 0 < i {
         i -= 1;
-        let c = scope::scope_at(sc, i);
-        let found = decorators::get_local_partial(
-            s,
-            tab,
-            b,
-            ent,
-            c.inline as usize,
-            c.count as usize,
-            v,
-        );
+        let found = get_in_scope(s, tab, b, ent, sc, used, i, v);
         if let Local::At(k) = found {
             return Local::At(k);
         }
@@ -65,8 +77,8 @@ fn get_partial(
     Local::Nothing
 }
 
-// Among the templates of the bundle.
-fn get_template(s: &[u8], tab: &[u64], b: &[u8], places: &[u32], v: Value) -> registry::Found
+// Among the templates of the bundle, whatever v is.
+fn get_printed(s: &[u8], tab: &[u64], b: &[u8], places: &[u32], v: Value) -> registry::Found
     requires { ⌜ Accepted (now s) (now tab) × (length (now b) ≤ 65536) × Holds (templates 16) (bits (now b)) 8 × (field (bits (now b)) 8 8 ≤ length (now places)) × Indexed (body 16 16) (bits (now b)) (field (bits (now b)) 8 8) (now places) × Known (now s) (now b) v ⌝ }
     ensures { λ r. ⌜ Means (now (s .entry)) (now (b .entry)) v (λ j. r ≡ found-view (body 16 16) (bits (now (b .entry))) (find-template (templates-at 16 (bits (now (b .entry)))) (render j))) ⌝ }
 {
@@ -80,6 +92,17 @@ fn get_template(s: &[u8], tab: &[u64], b: &[u8], places: &[u32], v: Value) -> re
         i += 1;
     }
     registry::Found::Missing
+}
+
+// Among the templates of the bundle: mostly v is a string of it.
+fn get_template(s: &[u8], tab: &[u64], b: &[u8], places: &[u32], v: Value) -> registry::Found
+    requires { ⌜ Accepted (now s) (now tab) × (length (now b) ≤ 65536) × Holds (templates 16) (bits (now b)) 8 × (field (bits (now b)) 8 8 ≤ length (now places)) × Indexed (body 16 16) (bits (now b)) (field (bits (now b)) 8 8) (now places) × Known (now s) (now b) v ⌝ }
+    ensures { λ r. ⌜ Means (now (s .entry)) (now (b .entry)) v (λ j. r ≡ found-view (body 16 16) (bits (now (b .entry))) (find-template (templates-at 16 (bits (now (b .entry)))) (render j))) ⌝ }
+{
+    if let Value::Text(q) = v {
+        return registry::get_indexed(b, places, q);
+    }
+    get_printed(s, tab, b, places, v)
 }
 
 // An inline partial wins over a template.
@@ -114,6 +137,9 @@ pub fn is_current_template(s: &[u8], tab: &[u64], b: &[u8], template: usize, v: 
 {
     if template == 0 {
         return false;
+    }
+    if let Value::Text(q) = v {
+        return layout::same_text(b, q, template - 1);
     }
     print::text_same(s, tab, b, v, lookup::text_of(s, b, template - 1))
 }

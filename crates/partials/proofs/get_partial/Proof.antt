@@ -1,7 +1,7 @@
 -- `partials::get_partial` meets its contract.
 use Rattle.partials.proofs.Searches.{turn-found, turn-outer}
-use Rattle.partials.specs.Finding.{EntryIs}
-use Rattle.decorators.proofs.Inlining.{front-ready, front-found}
+use Rattle.partials.specs.Finding.{InScope, EntryIs}
+use Rattle.decorators.specs.Inlined.{newest}
 use Rattle.decorators.specs.declared.Local.the-variants.{At}
 use Rattle.expand.specs.Answers.{name-of}
 use Rattle.scope.specs.Scopes.{blocks-of}
@@ -29,47 +29,35 @@ loop-holds c = (omega arith, λ t st. refl)
 sub-i : tie.Need-sub-i Inv-loop μ-loop
 sub-i c = omega arith
 
-scope-at-requires : tie.Need-scope-at-requires Inv-loop μ-loop
-scope-at-requires c κs = search needs
-
-cast-get-local-partial : tie.Need-cast-get-local-partial Inv-loop μ-loop
-cast-get-local-partial c = search needs
-
-cast-get-local-partial-2 : tie.Need-cast-get-local-partial-2 Inv-loop μ-loop
-cast-get-local-partial-2 c = search needs
-
-get-local-partial-requires : tie.Need-get-local-partial-requires Inv-loop μ-loop
-get-local-partial-requires c κs =
-    let z = c .before .before .before .before .before .before .before .before .before .before in
-    let f = front-ready (z .args .s .now) (z .args .b .now) (z .args .ent .now) (scopes-of (z .args .sc .now)) (z .args .used) (z .pre .3 .0) (z .pre .3 .1) (c .before .before .before .before .loop .i) (c .before .before .before .loop-test .taken) (c .before .before .before .before .loop .inv .0) _ (c .before .before .scope-at .ensures) in
-    (z .pre .0, z .pre .1, z .pre .4, f .0, f .1)
+get-in-scope-requires : tie.Need-get-in-scope-requires Inv-loop μ-loop
+get-in-scope-requires c κs = let z = c .before .before .before .before .before .before .before in (z .pre .0, z .pre .1, z .pre .2, z .pre .3, z .pre .4, z .pre .5, omega (arith, c .before .loop .inv .0, c .loop-test .taken))
 
 enum-known-found : tie.Need-enum-known-found Inv-loop μ-loop
 enum-known-found c = search needs
 
 returns : tie.Need-returns Inv-loop μ-loop
 returns c =
-    let z = c .before .before .before .before .before .before .before .before .before .before .before .before .before .before in
+    let z = c .before .before .before .before .before .before .before .before .before .before .before in
     let n = name-of (z .args .s .now) (z .args .b .now) (z .args .ent .now) (z .args .v) in
-    λ t st. subst (λ (o : Option Template). EntryIs (z .args .s .now) (z .args .b .now) (z .args .ent .now) o (At (c .before .found .given .0 .0))) (c .before .before .before .before .before .before .before .before .loop .inv .1 t st)
-    (turn-found (z .args .s .now) (z .args .b .now) (z .args .ent .now) (scopes-of (z .args .sc .now)) (z .args .used) (z .pre .3 .0) (z .pre .3 .1) (c .before .before .before .before .before .before .before .before .loop .i) (c .before .before .before .before .before .before .before .loop-test .taken) (c .before .before .before .before .before .before .before .before .loop .inv .0) n _
-    (front-found (z .args .s .now) (z .args .b .now) (z .args .ent .now) (scopes-of (z .args .sc .now)) (z .args .used) (z .pre .3 .0) (z .pre .3 .1) (c .before .before .before .before .before .before .before .before .loop .i) (c .before .before .before .before .before .before .before .loop-test .taken) (c .before .before .before .before .before .before .before .before .loop .inv .0) _ (c .before .before .before .before .before .before .scope-at .ensures) n _ _ (c .before .found .given .1) (c .before .before .before .get-local-partial .ensures t st)))
+    λ t st. subst (λ (o : Option Template). EntryIs (z .args .s .now) (z .args .b .now) (z .args .ent .now) o (At (c .before .found .given .0 .0))) (c .before .before .before .before .before .loop .inv .1 t st)
+    (turn-found (z .args .s .now) (z .args .b .now) (z .args .ent .now) (scopes-of (z .args .sc .now)) (z .args .used) (z .pre .3 .0) (z .pre .3 .1) (c .before .before .before .before .before .loop .i) (c .before .before .before .before .loop-test .taken) (c .before .before .before .before .before .loop .inv .0) n _
+    (subst (InScope (z .args .s .now) (z .args .b .now) (z .args .ent .now) (newest (scopes-of (z .args .sc .now)) (c .before .before .before .before .before .loop .i)) n) (c .before .found .given .1) (c .before .before .before .get-in-scope .ensures t st)))
 
 enum-told : tie.Need-enum-told Inv-loop μ-loop
 enum-told c = search needs
 
 loop-less : tie.Need-loop-less Inv-loop μ-loop
-loop-less c = omega (arith, c .before .before .before .before .before .before .loop-test .taken)
+loop-less c = omega (arith, c .before .before .before .loop-test .taken)
 
 loop-again : tie.Need-loop-again Inv-loop μ-loop
 loop-again c =
-    let z = c .before .before .before .before .before .before .before .before .before .before .before .before .before in
+    let z = c .before .before .before .before .before .before .before .before .before .before in
     let n = name-of (z .args .s .now) (z .args .b .now) (z .args .ent .now) (z .args .v) in (
-      omega (arith, c .before .before .before .before .before .before .before .loop .inv .0),
+      omega (arith, c .before .before .before .before .loop .inv .0),
       λ t st.
-          turn-outer (z .args .s .now) (z .args .b .now) (z .args .ent .now) (scopes-of (z .args .sc .now)) (z .args .used) (z .pre .3 .0) (z .pre .3 .1) (c .before .before .before .before .before .before .before .loop .i) (c .before .before .before .before .before .before .loop-test .taken) (c .before .before .before .before .before .before .before .loop .inv .0) n
-          (front-found (z .args .s .now) (z .args .b .now) (z .args .ent .now) (scopes-of (z .args .sc .now)) (z .args .used) (z .pre .3 .0) (z .pre .3 .1) (c .before .before .before .before .before .before .before .loop .i) (c .before .before .before .before .before .before .loop-test .taken) (c .before .before .before .before .before .before .before .loop .inv .0) _ (c .before .before .before .before .before .scope-at .ensures) n _ _ (c .enum-told .given .1) (c .before .before .get-local-partial .ensures t st))
-          ∙ c .before .before .before .before .before .before .before .loop .inv .1 t st,
+          turn-outer (z .args .s .now) (z .args .b .now) (z .args .ent .now) (scopes-of (z .args .sc .now)) (z .args .used) (z .pre .3 .0) (z .pre .3 .1) (c .before .before .before .before .loop .i) (c .before .before .before .loop-test .taken) (c .before .before .before .before .loop .inv .0) n
+          (subst (InScope (z .args .s .now) (z .args .b .now) (z .args .ent .now) (newest (scopes-of (z .args .sc .now)) (c .before .before .before .before .loop .i)) n) (c .enum-told .given .1) (c .before .before .get-in-scope .ensures t st))
+          ∙ c .before .before .before .before .loop .inv .1 t st,
     )
 
 returns-2 : tie.Need-returns-2 Inv-loop μ-loop
@@ -86,10 +74,7 @@ get-partial-spec =
     μ-loop
     loop-holds
     sub-i
-    scope-at-requires
-    cast-get-local-partial
-    cast-get-local-partial-2
-    get-local-partial-requires
+    get-in-scope-requires
     enum-known-found
     returns
     enum-told

@@ -1,80 +1,34 @@
 -- `partials::get_template` meets its contract.
-use Rattle.partials.proofs.Searches.{Looking, look-start, look-on, look-here, look-end, named-so}
-use Rattle.expand.specs.Answers.{name-of}
-use Rattle.meaning.specs.Standing.{Stands}
-use Rattle.registry.specs.Templates.{number-at}
-use Rattle.registry.specs.declared.Template.{Template}
-use Rattle.parts.specs.HoldsLaws.{moved}
-use Rattle.parts.specs.Holds.{Holds, end}
-use Rattle.layout.specs.Text.{text-at}
-use Rattle.rules.specs.Bundle.{string, body, templates}
+use Rattle.decorators.proofs.Naming.{text-name, text-held}
+use Rattle.lookup.proofs.Ordered.{string-near}
+use Rattle.registry.specs.Templates.{templates-at, found-view}
+use Rattle.rules.specs.Bundle.{body, find-template}
+use Rattle.rules.specs.Bytes.{Bytes}
 use Rattle.rules.specs.Bits.{bits}
-use Prim.Native.Nat.{ℕ, _-_}
 use mathlib.Core.Path.{sym, ap, _∙_}
-use mathlib.Core.List.{List}
-use native.Mathlib.Omega.{arith}
 use borrow.Author.Needs.{needs}
 use Rattle.partials.proofs.get_template.Statement.{statement}
 use Rattle.partials.proofs.get_template.Tie as tie
 
-abbrev Inv-loop : tie.InvT-loop
-Inv-loop s tab b places v n i₀ i = (H : Holds (templates 16) (bits b) 8) (ent : List ℕ) (t : ℕ) → Stands s b ent t v → Looking (bits b) H (name-of s b ent v) n i
+enum-known-v : tie.Need-enum-known-v
+enum-known-v c = search needs
 
-abbrev μ-loop : tie.MeasureT-loop
-μ-loop s tab b places v n i₀ i = n - i
+get-indexed-requires : tie.Need-get-indexed-requires
+get-indexed-requires c κs = let z = c .before .before .before .before .before .before .before in (z .pre .1, z .pre .2, z .pre .3, z .pre .4, string-near (z .args .b .now) _ (z .pre .1) (text-held (z .args .s .now) (z .args .b .now) (z .args .v) _ (c .before .v .given .1) (z .pre .5)))
 
-template-count-requires : tie.Need-template-count-requires Inv-loop μ-loop
-template-count-requires c κs = search needs
-
-loop-holds : tie.Need-loop-holds Inv-loop μ-loop
-loop-holds c = let z = c .before .before .before .before .before in λ H ent t st. look-start (bits (z .args .b .now)) H (name-of (z .args .s .now) (z .args .b .now) ent (z .args .v)) _ (c .template-count .ensures)
-
-indexed-at-requires : tie.Need-indexed-at-requires Inv-loop μ-loop
-indexed-at-requires c κs = let z = c .before .before .before .before .before .before .before in (z .pre .1, omega (arith, c .loop-test .taken, c .before .before .template-count .ensures, z .pre .3), number-at 16 (bits (z .args .b .now)) (z .pre .2) _ _ (z .pre .4 .at (c .before .loop .i) (omega (arith, c .loop-test .taken, c .before .before .template-count .ensures))) (omega (arith, c .loop-test .taken, c .before .before .template-count .ensures)) .name)
-
-text-of-requires : tie.Need-text-of-requires Inv-loop μ-loop
-text-of-requires c κs = let z = c .before .before .before .before .before .before .before .before in (z .pre .1, moved string (bits (z .args .b .now)) _ _ (sym (ap (λ (t : Template). t .name) (c .indexed-at .ensures))) (number-at 16 (bits (z .args .b .now)) (z .pre .2) _ _ (z .pre .4 .at (c .before .before .loop .i) (omega (arith, c .before .loop-test .taken, c .before .before .before .template-count .ensures))) (omega (arith, c .before .loop-test .taken, c .before .before .before .template-count .ensures)) .name))
-
-text-same-requires : tie.Need-text-same-requires Inv-loop μ-loop
-text-same-requires c κs = let z = c .before .before .before .before .before .before .before .before .before in (z .pre .0, z .pre .1, z .pre .5, c .text-of .ensures .1)
-
-returns : tie.Need-returns Inv-loop μ-loop
+returns : tie.Need-returns
 returns c =
-    let z = c .before .before .before .before .before .before .before .before .before .before .before in
+    let z = c .before .before .before .before .before .before .before .before in
     let b = bits (z .args .b .now) in
-    let p = ap (λ (t : Template). t .name) (c .before .before .before .indexed-at .ensures) ∙ z .pre .4 .at (c .before .before .before .before .before .loop .i) (omega (arith, c .before .before .before .before .loop-test .taken, c .before .before .before .before .before .before .template-count .ensures)) in
-    let q = ap (λ (t : Template). t .body) (c .before .before .before .indexed-at .ensures) ∙ ap (end string b) (z .pre .4 .at (c .before .before .before .before .before .loop .i) (omega (arith, c .before .before .before .before .loop-test .taken, c .before .before .before .before .before .before .template-count .ensures))) in
-    record { at = λ ent t st. look-here b (z .pre .2) (name-of (z .args .s .now) (z .args .b .now) ent (z .args .v)) _ (c .before .before .before .before .before .loop .i) (c .before .before .before .before .before .loop .inv (z .pre .2) ent t st) (c .before .before .before .before .loop-test .taken) _ (named-so _ _ _ _ (c .before .text-same .ensures .at ent t st) (c .before .before .text-of .ensures .0 ∙ ap (text-at b) p)) (c .if1 .taken) _ _ p q }
+    record { at = λ ent t st. c .get-indexed .ensures ∙ ap (λ (m : Bytes). found-view (body 16 16) b (find-template (templates-at 16 b) m)) (sym (text-name (z .args .s .now) (z .args .b .now) ent (z .args .v) _ (c .before .before .v .given .1))) }
 
-add-i : tie.Need-add-i Inv-loop μ-loop
-add-i c = search needs
+get-printed-requires : tie.Need-get-printed-requires
+get-printed-requires c κs = c .before .before .before .before .before .pre
 
-loop-less : tie.Need-loop-less Inv-loop μ-loop
-loop-less c = search needs
-
-loop-again : tie.Need-loop-again Inv-loop μ-loop
-loop-again c =
-    let z = c .before .before .before .before .before .before .before .before .before .before .before in
-    let b = bits (z .args .b .now) in
-    let p = ap (λ (t : Template). t .name) (c .before .before .before .indexed-at .ensures) ∙ z .pre .4 .at (c .before .before .before .before .before .loop .i) (omega (arith, c .before .before .before .before .loop-test .taken, c .before .before .before .before .before .before .template-count .ensures)) in
-    λ H ent t st. look-on b H (name-of (z .args .s .now) (z .args .b .now) ent (z .args .v)) _ (c .before .before .before .before .before .loop .i) (c .before .before .before .before .before .loop .inv H ent t st) (c .before .before .before .before .loop-test .taken) _ (named-so _ _ _ _ (c .before .text-same .ensures .at ent t st) (c .before .before .text-of .ensures .0 ∙ ap (text-at b) p)) (c .if1 .left)
-
-returns-2 : tie.Need-returns-2 Inv-loop μ-loop
-returns-2 c = let z = c .before .before .before .before .before .before .before in record { at = λ ent t st. look-end (bits (z .args .b .now)) (z .pre .2) (name-of (z .args .s .now) (z .args .b .now) ent (z .args .v)) _ (c .before .loop .i) (c .before .loop .inv (z .pre .2) ent t st) (c .loop-test .left) }
+returns-2 : tie.Need-returns-2
+returns-2 c = c .get-printed .ensures
 
 pub get-template-spec : {M : Type 1} → statement M
 get-template-spec =
     tie.close
-    (tie.spec
-    Inv-loop
-    μ-loop
-    template-count-requires
-    loop-holds
-    indexed-at-requires
-    text-of-requires
-    text-same-requires
-    returns
-    add-i
-    loop-less
-    loop-again
-    returns-2)
+    (tie.spec enum-known-v get-indexed-requires returns get-printed-requires returns-2)
