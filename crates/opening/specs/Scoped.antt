@@ -5,8 +5,10 @@ use mathlib.Core.List.{List, []}
 use mathlib.Core.Option.{Option, some}
 use mathlib.Core.Path.{_≡_, refl, sym, ap, _∙_, subst}
 use native.Mathlib.Omega.{arith}
+use lib.Dec.{ltb}
 use lib.ListN.{length, getD}
-use Rattle.rules.specs.Bytes.{Bytes}
+use borrow.Author.Tests.{ltb-true, ltb-false, lt-ltb, le-ltb}
+use Rattle.rules.specs.Bytes.{Bytes, pick}
 use Rattle.rules.specs.Bits.{bits}
 use Rattle.rules.specs.Bundle.{param, call-of}
 use Rattle.rules.specs.Json.{Json}
@@ -37,7 +39,7 @@ use Rattle.expand.specs.declared.Options.{Options}
 use Rattle.expand.specs.declared.Expanded.{Expanded}
 use Rattle.expand.specs.Answers.{Setting, IsExpanded}
 use Rattle.including.specs.Values.{HashValues}
-use Rattle.including.specs.ValuesLaws.{stands-fits}
+use Rattle.including.specs.ValuesLaws.{stands-fits, values-none}
 use Rattle.rules.specs.BundleLaws.{bits-binary}
 use Rattle.including.specs.Pairs.{PairsStand, with-pairs}
 use Rattle.including.specs.PairsLaws.{call-pairs-stand}
@@ -57,6 +59,16 @@ use Rattle.drawing.specs.Including.{too-many-pairs, too-many-entries, too-many-
 -- where the entries in use end
 abbrev pub end-of : RenderContext → ℕ
 end-of c = getD (c .scopes) (c .used - 1) blank .inline + getD (c .scopes) (c .used - 1) blank .count
+
+-- without a hash: base is the context, and t is behind the entries in use
+abbrev pub plainly-opened : Value → ℕ → RenderContext → RenderContext
+plainly-opened base t c = pick (ltb (c .used) 32) (pushed c (included base t 0 (getD (c .scopes) (c .used - 1) blank))) (failed c 23)
+
+pub plainly-room : (base : Value) (t : ℕ) (c : RenderContext) → c .used < 32 → pushed c (included base t 0 (getD (c .scopes) (c .used - 1) blank)) ≡ plainly-opened base t c
+plainly-room base t c lt = rw (lt-ltb (c .used) 32 lt)
+
+pub plainly-deep : (base : Value) (t : ℕ) (c : RenderContext) → 32 ≤ c .used → failed c 23 ≡ plainly-opened base t c
+plainly-deep base t c le = rw (le-ltb (c .used) 32 le)
 
 -- the call at p is what x says, whatever page, texts and indent there are
 pub record SomeWorked (s b : Bytes) (ent : List ℕ) (o : Options) (c : RenderContext) (d p : ℕ) (x : Expanded) : Type 0 where
@@ -243,3 +255,43 @@ module _ (s b : Bytes) (ent : List ℕ) (o : Options) (c : RenderContext) (d p :
               let K = T .at w₀ r (within-so page texts indent r y W) nb nt f i (omega arith) (omega arith) in
               subst (Draws s b w₀ (over (unless-bad (λ u. cleaned u c) (w₂ .rc)) w₂)) (sym whole)
               (unless-refused (λ u. Draws s b w₀ u (block-text-of (some E) O (render-partial (abs s b w₀ .seen .current-template) (abs s b w₀ .kept .indent-string) (joined s b w₀ ind) E) (abs s b w₁))) (λ u. cleaned u c) w₂ (λ z. K .fine z) (λ z. K .refused z))
+
+-- The same where there is no hash
+
+module _ (s b : Bytes) (ent : List ℕ) (o : Options) (c : RenderContext) (d p : ℕ) (x : Expanded) (ok : answer s ≡ 0) (small : length b ≤ 65536) (H : Holds (call-of (param d)) (bits b) p)
+    (v : Call) (view : v ≡ call-view d (bits b) p) (base : Value) (starts : StartsPartial (c .scopes) (c .used) x base) (none : v .pairs ≡ 0) where
+  no-values : (g : Registry) (st : rules.RenderContext) (t : ℕ) → Setting s b ent (c .scopes) (c .used) o g st t → HashValues s b ent t d (v .pair) (v .pairs) g st []
+  no-values g st t h = subst (λ (n : ℕ). HashValues s b ent t d (v .pair) n g st []) (sym none) (values-none s b ent t d (v .pair) g st 0)
+
+  pub plain-base : (O : SomeWorked s b ent o c d p x) → Fits base
+  plain-base = scope-base s b ent o c d p x ok small H v view base starts [] no-values
+
+  module _ (few : end-of c ≤ 4096) (total : c .total ≤ 4096) where
+    few-pairs : end-of c + v .pairs ≤ 4096
+    few-pairs = omega (arith, none)
+
+    -- the table, and the entries taken, with n pairs
+    abbrev with-so-many : ℕ → List ℕ
+    with-so-many n = with-pairs ent (bits b) (end-of c) (encoded base) [] d (v .pair) n
+
+    abbrev taken : ℕ → ℕ
+    taken n = entries-of n (json-of s b (with-so-many n) (Merged (end-of c) n))
+
+    within-limit : c .total + taken (v .pairs) ≤ 4096
+    within-limit = let e : taken (v .pairs) ≡ 0 = ap taken none in omega arith
+
+    as-before : c .total + 0 ≡ c .total
+    as-before = omega arith
+
+    room : (y : Bool) → ltb (c .used) 32 ≡ y
+        → ScopeOpened s b ent ent o c (pick y (pushed c (included base (end-of c) 0 (getD (c .scopes) (c .used - 1) blank))) (failed c 23)) d p x
+    room true e =
+        subst (λ (i : ℕ). ScopeOpened s b ent ent o c (pushed (counted c i) (included base (end-of c) 0 (getD (c .scopes) (c .used - 1) blank))) d p x) as-before
+        (subst (λ (n : ℕ). ScopeOpened s b ent (with-so-many n) o c (pushed (counted c (c .total + taken n)) (included base (end-of c) n (getD (c .scopes) (c .used - 1) blank))) d p x) none
+        (scope-opened s b ent o c d p x ok small H v view base starts [] no-values few-pairs within-limit (ltb-true (c .used) 32 e)))
+    room false e =
+        subst (λ (n : ℕ). ScopeOpened s b ent (with-so-many n) o c (failed c 23) d p x) none
+        (scope-deep s b ent o c d p x ok small H v view base starts [] no-values few-pairs within-limit (ltb-false (c .used) 32 e))
+
+    pub scope-plain : ScopeOpened s b ent ent o c (plainly-opened base (end-of c) c) d p x
+    scope-plain = room (ltb (c .used) 32) refl

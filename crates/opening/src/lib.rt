@@ -7,12 +7,14 @@ ghost use Rattle.rules.specs.Bits.{bits};
 ghost use Rattle.rules.specs.Bundle.{param, call-of};
 ghost use Rattle.parts.specs.Holds.{Holds};
 ghost use Rattle.places.specs.Accepted.{Accepted};
+ghost use Rattle.value.specs.Numbers.{Fits};
 ghost use Rattle.state.specs.Context.{whole};
 ghost use Rattle.inlining.specs.Decorated.{SomeReady};
-ghost use Rattle.opening.specs.Scoped.{end-of, SomeWorked, ScopeOpened};
+ghost use Rattle.opening.specs.Scoped.{end-of, plainly-opened, SomeWorked, ScopeOpened};
 use expand::Expanded;
 use expand::Options;
 use state::RenderContext;
+use value::Value;
 
 // Where the entries in use end.
 fn end_of(sc: &[u64], rc: RenderContext) -> usize
@@ -21,6 +23,20 @@ fn end_of(sc: &[u64], rc: RenderContext) -> usize
 {
     let c = state::front(sc, rc);
     c.inline as usize + c.count as usize
+}
+
+// The scope of a partial whose call has no hash: nothing is merged, and no entry is taken. t is behind the entries in use.
+fn open_plain(sc: &mut [u64], base: Value, t: usize, rc: RenderContext) -> RenderContext
+    requires { ⌜ Fits base × (t ≤ 4096) × (0 < rc .used) × (rc .used ≤ 32) × (length (now sc) ≡ 96) ⌝ }
+    ensures { λ r. ⌜ whole r (now (sc .exit)) ≡ plainly-opened base t (whole rc (now (sc .entry))) ⌝ }
+{
+    let n = rc.used;
+    if n < 32 {
+        let around = scope::scope_at(sc, n - 1);
+        let c = scope::child(value::encode(base), t as u16);
+        return state::push_block(sc, rc, scope::with_locals(c, around));
+    }
+    state::failed(rc, 23)
 }
 
 // The scope of a partial is opened, with the hash of the call at p merged into its context: 22 or 23 where that cannot be.
@@ -43,6 +59,9 @@ pub fn open_scope(
     let call = calls::call_at(b, p, d);
     let n = call.pairs as usize;
     let t = end_of(sc, rc);
+    if n == 0 {
+        return open_plain(sc, base, t, rc);
+    }
     let values = including::hash_values(s, tab, b, ent, sc, rc.used, options, call.pair, n, d);
     if 4096 < t + n {
         return state::failed(rc, 22);
