@@ -1,12 +1,14 @@
 -- Searches among inline partials and among templates.
-use Prim.Native.Nat.{ℕ, suc, _+_, _-_, _*_, _%_, _≤_, _<_}
+use Prim.Native.Nat.{ℕ, zero, suc, _+_, _-_, _*_, _%_, _≤_, _<_}
 use mathlib.Core.Bool.{Bool, true, false}
 use mathlib.Core.List.{List}
 use mathlib.Core.Option.{Option, none, some}
 use mathlib.Core.Path.{_≡_, refl, sym, ap, ap₂, _∙_, subst}
 use native.Mathlib.Omega.{arith}
+use lib.Dec.{eqb}
 use lib.ListN.{getD}
-use Rattle.rules.specs.Bytes.{Bytes, maybe, same}
+use borrow.Author.Tests.{eqb-true, eq-eqb, ne-eqb}
+use Rattle.rules.specs.Bytes.{Bytes, pick, maybe, same}
 use Rattle.rules.specs.Template as rule
 use Rattle.rules.specs.Bits.{Bits, bits}
 use Rattle.rules.specs.Layout.{field}
@@ -28,11 +30,7 @@ use Rattle.scope.specs.InlineLaws.{find-none, find-here}
 use Rattle.decorators.specs.declared.Local.{Local}
 use Rattle.decorators.specs.declared.Local.the-variants.{At, Nothing}
 use Rattle.decorators.specs.Inlined.{newest, Unnamed, Named, same-swap}
-use Rattle.partials.specs.Finding.{EntryFound, EntryIs, InlineFound, TemplateFound, template-name}
-
--- A scope that has none, by its third word
-pub none-inline : (l : List ℕ) (i : ℕ) → i < 32 → getD l (3 * i + 2) 0 % 65536 ≡ 0 → getD (scopes-of l) i blank .count ≡ 0
-none-inline l i lt e = ap (λ (c : Scope). c .count) (scopes-at l i lt) ∙ e
+use Rattle.partials.specs.Finding.{filled, EntryFound, EntryIs, InlineFound, TemplateFound, template-name}
 
 -- The newest of the first i scopes
 
@@ -58,6 +56,61 @@ module _ (s b : Bytes) (ent : List ℕ) (l : List Scope) (used t : ℕ) (st : Sc
       sym
       (step
       ∙ ap (λ (o : Option rule.Template). maybe o (get-partial (blocks-of s b ent l (i - 1)) m) some) (find-none s b ent m (newest l i .inline) (newest l i .count) u))
+
+-- Scopes without inline partials are passed by
+
+none-here : (sc : List ℕ) (n : ℕ) → getD (scopes-of sc) n blank .count ≡ 0 → filled sc n ≡ filled sc (suc n)
+unfolding filled
+none-here sc n e = rw (eq-eqb (getD (scopes-of sc) n blank .count) 0 e)
+
+some-here : (sc : List ℕ) (n : ℕ) → (getD (scopes-of sc) n blank .count ≡ 0 → ⊥) → suc n ≡ filled sc (suc n)
+unfolding filled
+some-here sc n h = rw (ne-eqb (getD (scopes-of sc) n blank .count) 0 h)
+
+pub filled-none : (sc : List ℕ) → 0 ≡ filled sc 0
+unfolding filled
+filled-none sc = refl
+
+pub filled-le : (sc : List ℕ) (n : ℕ) → filled sc n ≤ n
+unfolding filled
+filled-le sc zero = omega arith
+filled-le sc (suc n) = go (eqb (getD (scopes-of sc) n blank .count) 0) (filled-le sc n)
+  where
+    go : (y : Bool) → filled sc n ≤ n → pick y (filled sc n) (suc n) ≤ suc n
+    go true h = omega arith
+    go false h = omega arith
+
+-- the newest of i scopes, by its third word
+module _ (sc : List ℕ) (i : ℕ) (pos : 0 < i) (le : i ≤ 32) where
+  whole-again : suc (i - 1) ≡ i
+  whole-again = omega arith
+
+  third : getD (scopes-of sc) (i - 1) blank .count ≡ getD sc (3 * (i - 1) + 2) 0 % 65536
+  third = ap (λ (c : Scope). c .count) (scopes-at sc (i - 1) (omega arith))
+
+  pub filled-here : (getD sc (3 * (i - 1) + 2) 0 % 65536 ≡ 0 → ⊥) → i ≡ filled sc i
+  filled-here h = subst (λ (n : ℕ). n ≡ filled sc n) whole-again (some-here sc (i - 1) (λ e. h (sym third ∙ e)))
+
+  pub filled-less : getD sc (3 * (i - 1) + 2) 0 % 65536 ≡ 0 → filled sc (i - 1) ≡ filled sc i
+  filled-less e = subst (λ (n : ℕ). filled sc (i - 1) ≡ filled sc n) whole-again (none-here sc (i - 1) (third ∙ e))
+
+pub filled-outer : (s b : Bytes) (ent sc : List ℕ) (used t : ℕ) → ScopesStand s b ent (scopes-of sc) used t → (m : Bytes) (n : ℕ) → n ≤ used
+    → get-partial (blocks-of s b ent (scopes-of sc) (filled sc n)) m ≡ get-partial (blocks-of s b ent (scopes-of sc) n) m
+unfolding filled
+filled-outer s b ent sc used t st m zero le = refl
+filled-outer s b ent sc used t st m (suc n) le = go (eqb (getD (scopes-of sc) n blank .count) 0) refl (filled-outer s b ent sc used t st m n (omega arith))
+  where
+    less : suc n - 1 ≡ n
+    less = omega arith
+
+    go : (y : Bool) → eqb (getD (scopes-of sc) n blank .count) 0 ≡ y
+        → get-partial (blocks-of s b ent (scopes-of sc) (filled sc n)) m ≡ get-partial (blocks-of s b ent (scopes-of sc) n) m
+        → get-partial (blocks-of s b ent (scopes-of sc) (pick y (filled sc n) (suc n))) m ≡ get-partial (blocks-of s b ent (scopes-of sc) (suc n)) m
+    go true e h =
+        let z : newest (scopes-of sc) (suc n) .count ≡ 0 = ap (λ (j : ℕ). getD (scopes-of sc) j blank .count) less ∙ eqb-true _ 0 e in
+        h ∙ ap (λ (j : ℕ). get-partial (blocks-of s b ent (scopes-of sc) j) m) (sym less)
+        ∙ turn-outer s b ent (scopes-of sc) used t st (suc n) (omega arith) le m (λ i lt. absurd (omega arith))
+    go false e h = refl
 
 -- Templates, by their places
 

@@ -3,8 +3,9 @@ use Prim.Native.Nat.{ℕ, zero, suc, _+_, _*_, _≤_, _<_}
 use mathlib.Core.List.{List}
 use mathlib.Core.Option.{Option, none, some}
 use mathlib.Core.Path.{_≡_, sym, ap, ap₂, _∙_}
-use lib.ListN.{length}
-use Rattle.rules.specs.Bytes.{Bytes}
+use lib.Dec.{eqb}
+use lib.ListN.{length, getD}
+use Rattle.rules.specs.Bytes.{Bytes, pick}
 use Rattle.rules.specs.Template.{Template, tnil}
 use Rattle.rules.specs.Bits.{Bits}
 use Rattle.rules.specs.Bundle.{string, body}
@@ -14,18 +15,18 @@ use Rattle.rules.specs.Registry.{Registry, get-template}
 use Rattle.rules.specs.Partial.{Rendering, get-partial, of-template, of-partial, find-partial}
 use Rattle.layout.specs.Text.{text-at}
 use Rattle.parts.specs.Holds.{Holds, value}
-use Rattle.scope.specs.declared.Scope.{Scope}
-use Rattle.scope.specs.Scopes.{inline-body}
+use Rattle.scope.specs.Scopes.{inline-body, blank}
+use Rattle.scope.specs.Words.{scopes-of}
 use Rattle.scope.specs.Standing.{InlineStands}
 use Rattle.decorators.specs.declared.Local.{Local}
 use Rattle.decorators.specs.declared.Local.the-variants.{At, Nothing as Lacking}
-use Rattle.decorators.specs.Inlined.{LocalIs}
 use Rattle.partials.specs.declared.Found.{Found}
 use Rattle.partials.specs.declared.Found.the-variants.{Inline, Template as Named, Nothing}
 
--- among the inline partials of a scope
-abbrev pub InScope : Bytes → Bytes → List ℕ → Scope → Bytes → Local → Type 0
-InScope s b ent c m r = LocalIs s b ent (c .inline) (c .count) m r
+-- how many of the first n scopes are left without those at their end that have no inline partial
+unfoldable pub filled : List ℕ → ℕ → ℕ
+filled sc zero = 0
+filled sc (suc n) = pick (eqb (getD (scopes-of sc) n blank .count) 0) (filled sc n) (suc n)
 
 -- the inline partial in the entry k
 pub record EntryFound (s b : Bytes) (ent : List ℕ) (o : Option Template) (k : ℕ) : Type 0 where

@@ -2,7 +2,7 @@
 // s is the plan, b the bundle, places are those of its templates, ent holds the entries of open partials.
 ghost use mathlib.Core.Path.{_≡_};
 ghost use Prim.Native.Nat.{ℕ, _-_, _≤_, _<_};
-ghost use lib.ListN.{length, getD};
+ghost use lib.ListN.{length};
 ghost use Rattle.rules.specs.Bits.{bits};
 ghost use Rattle.rules.specs.Layout.{field};
 ghost use Rattle.rules.specs.Bundle.{string, body, templates, find-template};
@@ -16,11 +16,11 @@ ghost use Rattle.places.specs.Accepted.{Accepted};
 ghost use Rattle.meaning.specs.Standing.{Stands};
 ghost use Rattle.meaning.specs.Forms.{Known};
 ghost use Rattle.meaning.specs.Means.{Means};
-ghost use Rattle.scope.specs.Scopes.{blocks-of, blank};
+ghost use Rattle.scope.specs.Scopes.{blocks-of};
 ghost use Rattle.scope.specs.Words.{scopes-of};
 ghost use Rattle.scope.specs.Standing.{ScopesStand};
 ghost use Rattle.expand.specs.Answers.{name-of};
-ghost use Rattle.partials.specs.Finding.{InScope, EntryIs, FoundIs, template-name};
+ghost use Rattle.partials.specs.Finding.{filled, EntryIs, FoundIs, template-name};
 use decorators::Local;
 use value::Value;
 
@@ -32,25 +32,21 @@ pub enum Found {
     Nothing,
 }
 
-// Among the inline partials of the scope i. Most scopes have none, so their count is looked at before the scope is unpacked.
-fn get_in_scope(
-    s: &[u8],
-    tab: &[u64],
-    b: &[u8],
-    ent: &[u64],
-    sc: &[u64],
-    used: usize,
-    i: usize,
-    v: Value,
-) -> Local
-    requires { ⌜ Accepted (now s) (now tab) × (length (now b) ≤ 65536) × (used ≤ 32) × ((t : ℕ) × ScopesStand (now s) (now b) (now ent) (scopes-of (now sc)) used t) × Known (now s) (now b) v × (length (now sc) ≡ 96) × (i < used) ⌝ }
-    ensures { λ r. ⌜ ((t : ℕ) → Stands (now (s .entry)) (now (b .entry)) (now (ent .entry)) t v → InScope (now (s .entry)) (now (b .entry)) (now (ent .entry)) (getD (scopes-of (now (sc .entry))) i blank) (name-of (now (s .entry)) (now (b .entry)) (now (ent .entry)) v) r) ⌝ }
+// How many of the first n scopes are left without those at their end that have no inline partial. Most have none: the third word of a scope tells, so
+// that they need not be unpacked.
+fn filled(sc: &[u64], n: usize) -> usize
+    requires { ⌜ (length (now sc) ≡ 96) × (n ≤ 32) ⌝ }
+    ensures { λ r. ⌜ r ≡ filled (now (sc .entry)) n ⌝ }
 {
-    if sc[3 * i + 2] % 65536 == 0 {
-        return Local::Nothing;
+    let mut i = n;
+    while 0 < i {
+        let j = i - 1;
+        if sc[3 * j + 2] % 65536 != 0 {
+            return i;
+        }
+        i = j;
     }
-    let c = scope::scope_at(sc, i);
-    decorators::get_local_partial(s, tab, b, ent, c.inline as usize, c.count as usize, v)
+    0
 }
 
 // Among the inline partials, from the newest scope on.
@@ -66,13 +62,23 @@ fn get_partial(
     requires { ⌜ Accepted (now s) (now tab) × (length (now b) ≤ 65536) × (used ≤ 32) × ((t : ℕ) × ScopesStand (now s) (now b) (now ent) (scopes-of (now sc)) used t) × Known (now s) (now b) v × (length (now sc) ≡ 96) ⌝ }
     ensures { λ r. ⌜ ((t : ℕ) → Stands (now (s .entry)) (now (b .entry)) (now (ent .entry)) t v → EntryIs (now (s .entry)) (now (b .entry)) (now (ent .entry)) (get-partial (blocks-of (now (s .entry)) (now (b .entry)) (now (ent .entry)) (scopes-of (now (sc .entry))) used) (name-of (now (s .entry)) (now (b .entry)) (now (ent .entry)) v)) r) ⌝ }
 {
-    let mut i = used;
+    let mut i = filled(sc, used);
     while 0 < i {
         i -= 1;
-        let found = get_in_scope(s, tab, b, ent, sc, used, i, v);
+        let c = scope::scope_at(sc, i);
+        let found = decorators::get_local_partial(
+            s,
+            tab,
+            b,
+            ent,
+            c.inline as usize,
+            c.count as usize,
+            v,
+        );
         if let Local::At(k) = found {
             return Local::At(k);
         }
+        i = filled(sc, i);
     }
     Local::Nothing
 }
