@@ -2,6 +2,7 @@
 ghost use mathlib.Core.Path.{_≡_};
 ghost use Prim.Native.Nat.{_≤_, _<_};
 ghost use lib.ListN.{length, getD};
+ghost use Rattle.rules.specs.Bytes.{same};
 ghost use Rattle.rules.specs.Bits.{bits};
 ghost use Rattle.rules.specs.Layout.{field};
 ghost use Rattle.rules.specs.Bundle.{string, body, templates, find-template};
@@ -112,16 +113,29 @@ pub fn get_named(b: &[u8], w: usize, at: usize) -> Found
     Found::Missing
 }
 
+// Whether the string at p is the one at q, which has m bytes. Most have another count.
+fn is_named(b: &[u8], p: usize, q: usize, m: usize) -> bool
+    requires { ⌜ (p ≤ 524288) × (q ≤ 524288) × (m ≡ field (bits (now b)) 16 q) ⌝ }
+    ensures { λ r. ⌜ r ≡ same (text-at (bits (now (b .entry))) p) (text-at (bits (now (b .entry))) q) ⌝ }
+{
+    let n = bits::field(b, p, 16) as usize;
+    if n != m {
+        return false;
+    }
+    bits::same_at(b, p + 16, n, q + 16, m)
+}
+
 // The same by the places of the templates.
 pub fn get_indexed(b: &[u8], places: &[u32], at: usize) -> Found
     requires { ⌜ (length (now b) ≤ 65536) × Holds (templates 16) (bits (now b)) 8 × (field (bits (now b)) 8 8 ≤ length (now places)) × Indexed (body 16 16) (bits (now b)) (field (bits (now b)) 8 8) (now places) × (at ≤ 524288) ⌝ }
     ensures { λ r. ⌜ r ≡ found-view (body 16 16) (bits (now (b .entry))) (find-template (templates-at 16 (bits (now (b .entry)))) (text-at (bits (now (b .entry))) at)) ⌝ }
 {
     let n = template_count(b);
+    let m = bits::field(b, at, 16) as usize;
     let mut i: usize = 0;
     while i < n {
         let p = places[i] as usize;
-        if layout::same_text(b, p, at) {
+        if is_named(b, p, at, m) {
             return Found::Template(i, p, parts::skip_string(b, p));
         }
         i += 1;
