@@ -3,3 +3,4 @@ mod Stripping
 pub mod Said
 pub mod Digits
 mod Held
+mod Spans

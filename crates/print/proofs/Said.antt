@@ -33,7 +33,7 @@ module _ (s : Bytes) (i e : ℕ) (h : e ≡ own-end s i) where
     pub part-inside : Inside s e j
     part-inside = subst (λ (n : ℕ). Inside s n j) (sym h) (own-run s i j ls q .inside)
 
-    part-is : remaining s i j ≡ take (e - i) (drop i s) ++ remaining s e j
+    pub part-is : remaining s i j ≡ take (e - i) (drop i s) ++ remaining s e j
     part-is =
         let m : e - i ≡ run is-own (drop i s) = omega (arith, h) in
         own-run s i j ls q .is ∙ ap (λ (n : ℕ). take n (drop i s) ++ remaining s (own-end s i) j) (sym m) ∙ ap (λ (n : ℕ). take (e - i) (drop i s) ++ remaining s n j) (sym h)

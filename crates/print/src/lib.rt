@@ -1,6 +1,6 @@
 // json/value.rs: `render`. What a value prints is fed to a writer as it stands, or compared, and never made up first.
 ghost use mathlib.Core.Path.{_≡_};
-ghost use Prim.Native.Nat.{_+_, _-_, _*_, _≤_, _<_};
+ghost use Prim.Native.Nat.{ℕ, _+_, _-_, _*_, _≤_, _<_};
 ghost use lib.ListN.{length, take, drop};
 ghost use Rattle.rules.specs.Bytes.{same};
 ghost use Rattle.rules.specs.Json.{jbool, jpos, jneg};
@@ -19,6 +19,7 @@ ghost use Rattle.meaning.specs.Forms.{Known};
 ghost use Rattle.meaning.specs.Means.{Means};
 ghost use Rattle.text.specs.Strip.{stripped};
 ghost use Rattle.print.specs.Printed.{printed, IsList};
+ghost use Rattle.print.specs.Span.{string-span, span-of, InPlan, Stood};
 ghost use Rattle.print.specs.Target as target;
 ghost use Rattle.print.specs.Target.{met};
 use meaning::Form;
@@ -192,6 +193,47 @@ fn write_list(
     }
 }
 
+// Bytes of the plan; none where `end` is 0.
+struct Span {
+    start: usize,
+    end: usize,
+}
+
+// What a string says whose bytes begin at i, if it has no escapes.
+fn string_span(s: &[u8], i: usize) -> Span
+    ensures { λ r. ⌜ r ≡ string-span (now (s .entry)) i ⌝ }
+{
+    let e = saying::own_end(s, i);
+    if scan::byte(s, e) == 34 {
+        return Span { start: i, end: e };
+    }
+    Span { start: 0, end: 0 }
+}
+
+// What the value at the place i prints, if that stands in the plan just so.
+fn place_span(s: &[u8], tab: &[u64], i: usize) -> Span
+    requires { ⌜ Accepted (now s) (now tab) × (i < places (now s)) ⌝ }
+    ensures { λ r. ⌜ r ≡ span-of (now (s .entry)) i ⌝ }
+{
+    let q = places::start(s, tab, i);
+    if scan::byte(s, q) == 34 {
+        return string_span(s, q + 1);
+    }
+    Span { start: 0, end: 0 }
+}
+
+// The same of a value. (What the plan has is mostly printed so, with no question what form it has.)
+fn value_span(s: &[u8], tab: &[u64], v: Value) -> Span
+    requires { ⌜ Accepted (now s) (now tab) × ((i : ℕ) → InPlan v i → i < places (now s)) ⌝ }
+    ensures { λ r. ⌜ Stood (now (s .entry)) v r ⌝ }
+{
+    match v {
+        Value::Context(i) => place_span(s, tab, i),
+        Value::Place(i) => place_span(s, tab, i),
+        _ => Span { start: 0, end: 0 },
+    }
+}
+
 // What a value prints.
 pub fn write_value(
     out: &mut [u8],
@@ -206,6 +248,10 @@ pub fn write_value(
     requires { ⌜ Accepted (now s) (now tab) × (length (now b) ≤ 65536) × Known (now s) (now b) v ⌝ }
     ensures { λ r. ⌜ Means (now (s .entry)) (now (b .entry)) v (λ j. output r (now (out .exit)) ≡ printed (now (indent .entry)) escape (render j) (output w (now (out .entry)))) ⌝ }
 {
+    let p = value_span(s, tab, v);
+    if p.end != 0 {
+        return write_part(out, indent, w, s, p.start, p.end, escape);
+    }
     match meaning::form_of(s, tab, b, v) {
         Form::Null => w,
         Form::Boolean(t) => write_bool(out, indent, w, t, escape),

@@ -1,0 +1,34 @@
+-- Bytes of the plan that a value prints just as they stand there.
+use Prim.Native.Nat.{ℕ, _+_}
+use mathlib.Core.Logic.{_⊎_}
+use mathlib.Core.Path.{_≡_}
+use lib.Dec.{eqb}
+use Rattle.rules.specs.Bytes.{Bytes, pick, byte-at}
+use Rattle.saying.specs.Said.{own-end}
+use Rattle.places.specs.Places.{start-of, tree-at}
+use Rattle.value.specs.declared.Value.{Value}
+use Rattle.value.specs.declared.Value.the-variants.{Context, Place}
+use Rattle.print.specs.declared.Span.{Span}
+
+abbrev pub no-span : Span
+no-span = record { start = 0; end = 0 }
+
+-- what a string says whose bytes begin at i, if it has no escapes
+unfoldable pub string-span : Bytes → ℕ → Span
+string-span s i = pick (eqb (byte-at s (own-end s i)) 34) (record { start = i; end = own-end s i }) no-span
+
+-- of the value that begins at q
+unfoldable pub span-at : Bytes → ℕ → Span
+span-at s q = pick (eqb (byte-at s q) 34) (string-span s (q + 1)) no-span
+
+-- of the value at the place i
+abbrev pub span-of : Bytes → ℕ → Span
+span-of s i = span-at s (start-of (tree-at s i))
+
+-- v is the place i of the plan
+abbrev pub InPlan : Value → ℕ → Type 0
+InPlan v i = (v ≡ Context i) ⊎ (v ≡ Place i)
+
+-- r is that of v, if v stands in the plan
+abbrev pub Stood : Bytes → Value → Span → Type 0
+Stood s v r = ((i : ℕ) × InPlan v i × (r ≡ span-of s i)) ⊎ (((i : ℕ) → InPlan v i → ⊥) × (r ≡ no-span))
