@@ -3,4 +3,5 @@ mod Stripping
 pub mod Said
 pub mod Digits
 mod Held
+mod Numbers
 mod Spans

@@ -4,6 +4,7 @@ use mathlib.Core.Logic.{_⊎_}
 use mathlib.Core.Path.{_≡_}
 use lib.Dec.{eqb}
 use Rattle.rules.specs.Bytes.{Bytes, pick, byte-at}
+use Rattle.rules.specs.Scan.{minus-end, whole-end}
 use Rattle.saying.specs.Said.{own-end}
 use Rattle.places.specs.Places.{start-of, tree-at}
 use Rattle.value.specs.declared.Value.{Value}
@@ -17,9 +18,13 @@ no-span = record { start = 0; end = 0 }
 unfoldable pub string-span : Bytes → ℕ → Span
 string-span s i = pick (eqb (byte-at s (own-end s i)) 34) (record { start = i; end = own-end s i }) no-span
 
+-- a number is its bytes; where none stands, its whole part ends at 0
+abbrev pub number-span : Bytes → ℕ → Span
+number-span s q = record { start = q; end = whole-end s (minus-end s q) }
+
 -- of the value that begins at q
 unfoldable pub span-at : Bytes → ℕ → Span
-span-at s q = pick (eqb (byte-at s q) 34) (string-span s (q + 1)) no-span
+span-at s q = pick (eqb (byte-at s q) 34) (string-span s (q + 1)) (number-span s q)
 
 -- of the value at the place i
 abbrev pub span-of : Bytes → ℕ → Span

@@ -210,7 +210,8 @@ fn string_span(s: &[u8], i: usize) -> Span
     Span { start: 0, end: 0 }
 }
 
-// What the value at the place i prints, if that stands in the plan just so.
+// What the value at the place i prints, if that stands in the plan just so. A number does: it has no zero in front, and
+// no sign but a minus.
 fn place_span(s: &[u8], tab: &[u64], i: usize) -> Span
     requires { ⌜ Accepted (now s) (now tab) × (i < places (now s)) ⌝ }
     ensures { λ r. ⌜ r ≡ span-of (now (s .entry)) i ⌝ }
@@ -219,7 +220,8 @@ fn place_span(s: &[u8], tab: &[u64], i: usize) -> Span
     if scan::byte(s, q) == 34 {
         return string_span(s, q + 1);
     }
-    Span { start: 0, end: 0 }
+    let e = scan::whole_end(s, scan::minus_end(s, q));
+    Span { start: q, end: e }
 }
 
 // The same of a value. (What the plan has is mostly printed so, with no question what form it has.)
