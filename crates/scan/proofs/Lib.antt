@@ -3,3 +3,4 @@ pub mod Bounds
 mod Words
 mod Decimal
 mod Numbers
+pub mod Quick

@@ -9,6 +9,7 @@ ghost use Rattle.rules.specs.Scan.{is-space, spaces-end, word-end, is-digit, di
 ghost use Rattle.rules.specs.Scan.{fraction-end, sign-end, exponent-end, onward, number-end, decimal-value, slice, outside};
 ghost use Rattle.rules.specs.Plan.{refused-at};
 ghost use Rattle.scan.specs.Sized.{sized};
+ghost use Rattle.scan.specs.Short.{plain-number-end};
 
 // The byte at i, or 0 past the end.
 pub fn byte(s: &[u8], i: usize) -> u8
@@ -24,8 +25,8 @@ fn is_space(c: u8) -> bool
     (c == 32) | ((c == 10) | ((c == 13) | (c == 9)))
 }
 
-// The first place from i on that is no white space.
-pub fn spaces_end(s: &[u8], i: usize) -> usize
+// The first place from i on that is no white space, byte by byte.
+fn spaces_on(s: &[u8], i: usize) -> usize
     ensures { λ r. ⌜ r ≡ spaces-end (now (s .entry)) i ⌝ }
 {
     let mut j = i;
@@ -36,6 +37,16 @@ pub fn spaces_end(s: &[u8], i: usize) -> usize
         j += 1;
     }
     j
+}
+
+// The first place from i on that is no white space. (Most often that is i itself, which one test shows.)
+pub fn spaces_end(s: &[u8], i: usize) -> usize
+    ensures { λ r. ⌜ r ≡ spaces-end (now (s .entry)) i ⌝ }
+{
+    if 32 < byte(s, i) {
+        return i;
+    }
+    spaces_on(s, i)
 }
 
 // The place behind the word w at i.
@@ -162,6 +173,22 @@ pub fn number_end(s: &[u8], i: usize) -> usize
     ensures { λ r. ⌜ r ≡ number-end (now (s .entry)) i ⌝ }
 {
     tail_end(s, whole_end(s, minus_end(s, i)))
+}
+
+// The place behind a number of one to eighteen digits at i and nothing else; 0 for any other value. No such number is refused.
+pub fn plain_number_end(s: &[u8], i: usize) -> usize
+    requires { ⌜ (i ≤ length (now s)) × (length (now s) ≤ 65536) ⌝ }
+    ensures { λ r. ⌜ r ≡ plain-number-end (now (s .entry)) i ⌝ }
+{
+    let w = whole_end(s, i);
+    if w == 0 {
+        return 0;
+    }
+    let c = byte(s, w);
+    if (c == 46) | ((c == 101) | ((c == 69) | (i + 18 < w))) {
+        return 0;
+    }
+    w
 }
 
 // A number of 64 bits, or a larger one.
