@@ -5,7 +5,7 @@ ghost use mathlib.Core.Path.{_≡_};
 ghost use Prim.Native.Nat.{_+_, _≤_};
 ghost use lib.ListN.{length};
 ghost use Rattle.rules.specs.Scan.{is-short, hex-digit, hex-four, is-low, unicode-length, escape-length, char-length, string-end};
-ghost use Rattle.strings.specs.Plain.{is-plain, plain-end};
+ghost use Rattle.strings.specs.Plain.{is-plain, plain-end, plain-string-end};
 use scan::byte;
 
 // A character that stands for itself and is one byte long. (Tests that do not branch: this is the reader's inmost loop.)
@@ -27,6 +27,24 @@ fn plain_end(s: &[u8], i: usize) -> usize
         j += 1;
     }
     j
+}
+
+// The place behind the string of such characters only whose first quote stands before i; 0 for any other.
+pub fn plain_string_end(s: &[u8], i: usize) -> usize
+    ensures { λ r. ⌜ r ≡ plain-string-end (now (s .entry)) i ⌝ }
+{
+    let mut j = i;
+    while j < s.len() {
+        let c = s[j];
+        if c == 34 {
+            return j + 1;
+        }
+        if !is_plain(c) {
+            return 0;
+        }
+        j += 1;
+    }
+    0
 }
 
 // The letters behind a backslash that stand for one byte.
@@ -156,8 +174,8 @@ pub fn char_length(s: &[u8], i: usize) -> usize
     utf8::utf8_length(s, i)
 }
 
-// The place behind the string whose first quote stands before i.
-pub fn string_end(s: &[u8], i: usize) -> usize
+// The place behind the string whose first quote stands before i, of any characters.
+fn chars_end(s: &[u8], i: usize) -> usize
     requires { ⌜ (i ≤ length (now s) + 1) × (length (now s) ≤ 65536) ⌝ }
     ensures { λ r. ⌜ r ≡ string-end (now (s .entry)) i ⌝ }
 {
@@ -173,4 +191,16 @@ pub fn string_end(s: &[u8], i: usize) -> usize
         }
         j = k + n;
     }
+}
+
+// The place behind the string whose first quote stands before i. (Most strings are plain.)
+pub fn string_end(s: &[u8], i: usize) -> usize
+    requires { ⌜ (i ≤ length (now s) + 1) × (length (now s) ≤ 65536) ⌝ }
+    ensures { λ r. ⌜ r ≡ string-end (now (s .entry)) i ⌝ }
+{
+    let e = plain_string_end(s, i);
+    if e != 0 {
+        return e;
+    }
+    chars_end(s, i)
 }

@@ -5,8 +5,8 @@ use borrow.Author.Needs.{needs}
 use lib.ListN.{length}
 use mathlib.Core.Path.{_∙_, subst, sym}
 use native.Mathlib.Omega.{arith}
-use Rattle.strings.proofs.string_end.Statement.{statement}
-use Rattle.strings.proofs.string_end.Tie as tie
+use Rattle.strings.proofs.chars_end.Statement.{statement}
+use Rattle.strings.proofs.chars_end.Tie as tie
 
 abbrev Inv-loop : tie.InvT-loop
 Inv-loop s i j₀ j = Going s i j
@@ -59,8 +59,8 @@ loop-again c =
     let o = going-on (c .before .before .before .before .before .before .before .args .s .now) (c .before .before .before .before .before .before .before .args .i) (c .before .before .before .before .plain-end .result) g (λ q. c .before .before .if1 .left (c .before .before .before .byte .ensures ∙ q)) (λ z. c .if2 .left (c .before .char-length .ensures ∙ z)) in
     subst (λ (n : ℕ). Going (c .before .before .before .before .before .before .before .args .s .now) (c .before .before .before .before .before .before .before .args .i) (c .before .before .before .before .plain-end .result + n)) (sym (c .before .char-length .ensures)) o
 
-pub string-end-spec : {M : Type 1} → statement M
-string-end-spec =
+pub chars-end-spec : {M : Type 1} → statement M
+chars-end-spec =
     tie.close
     (tie.spec
     Inv-loop
