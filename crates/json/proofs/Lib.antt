@@ -1,5 +1,6 @@
 pub mod Stored
 pub mod Opens
 mod Values
+mod Quick
 mod Items
 mod Verdict

@@ -1,3 +1,4 @@
 pub mod Packing
 pub mod Table
 pub mod Reading
+pub mod Quick

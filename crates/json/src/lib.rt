@@ -2,11 +2,12 @@
 ghost use mathlib.Core.Path.{_≡_};
 ghost use Prim.Native.Nat.{suc, _+_, _≤_, _<_};
 ghost use lib.ListN.{length, set};
-ghost use Rattle.rules.specs.Scan.{scalar-end};
+ghost use Rattle.rules.specs.Scan.{spaces-end, scalar-end};
 ghost use Rattle.rules.specs.Tree.{leaf, colon-end, name-end, item-place, item-name, items, is-open, value-of};
 ghost use Rattle.rules.specs.Plan.{answer};
 ghost use Rattle.json.specs.Table.{entry, table};
 ghost use Rattle.json.specs.Reading.{Meets, MeetsAll, judged};
+ghost use Rattle.json.specs.Quick.{Marked, plain-end};
 use clear::clear_u64;
 use scan::byte;
 use scan::spaces_end;
@@ -78,13 +79,36 @@ fn read_leaf(s: &[u8], tab: &mut [u64], i: usize, name: usize, n: usize, bad: us
     }
 }
 
-// The place of the value behind a colon at i, 0 for none.
-fn colon_end(s: &[u8], i: usize) -> usize
-    requires { ⌜ i ≤ 65536 ⌝ }
-    ensures { λ r. ⌜ r ≡ colon-end (now (s .entry)) i ⌝ }
+// A place and the byte there.
+struct Mark {
+    at: usize,
+    byte: u8,
+}
+
+// The first place from i on that is no white space. (Most often one look at i finds both.)
+fn find_mark(s: &[u8], i: usize) -> Mark
+    ensures { λ r. ⌜ Marked (now (s .entry)) i r ⌝ }
 {
-    if byte(s, i) == 58 {
-        return spaces_end(s, i + 1);
+    let c = byte(s, i);
+    if 32 < c {
+        return Mark { at: i, byte: c };
+    }
+    let e = spaces_end(s, i);
+    Mark {
+        at: e,
+        byte: byte(s, e),
+    }
+}
+
+// The place of the value behind white space from i on and a colon, 0 for none.
+fn colon_behind(s: &[u8], i: usize) -> usize
+    requires { ⌜ (i ≤ length (now s)) × (length (now s) ≤ 65536) ⌝ }
+    ensures { λ r. ⌜ r ≡ colon-end (now (s .entry)) (spaces-end (now (s .entry)) i) ⌝ }
+{
+    let m = find_mark(s, i);
+    if m.byte == 58 {
+        let at = m.at;
+        return spaces_end(s, at + 1);
     }
     0
 }
@@ -101,7 +125,7 @@ fn name_end(s: &[u8], i: usize) -> usize
     if e == 0 {
         return 0;
     }
-    colon_end(s, spaces_end(s, e))
+    colon_behind(s, e)
 }
 
 // The place of the value of the item at i, 0 for none. `close` is the byte that ends the items.
@@ -174,6 +198,56 @@ fn read_value(
     r
 }
 
+// The place behind a value that is read at once, at i: a number of few digits, a string of plain characters, a word; 0 for any other.
+fn plain_end(s: &[u8], i: usize) -> usize
+    requires { ⌜ (i ≤ length (now s)) × (length (now s) ≤ 65536) ⌝ }
+    ensures { λ r. ⌜ r ≡ plain-end (now (s .entry)) i ⌝ }
+{
+    let e = scan::plain_number_end(s, i);
+    if e != 0 {
+        return e;
+    }
+    let c = byte(s, i);
+    if c == 34 {
+        return strings::plain_string_end(s, i + 1);
+    }
+    if c == 116 {
+        return scan::word_end(b"true", s, i);
+    }
+    if c == 102 {
+        return scan::word_end(b"false", s, i);
+    }
+    if c == 110 {
+        return scan::word_end(b"null", s, i);
+    }
+    0
+}
+
+// The value of an item at i, as `read_value` reads it. (Most are read at once, and then no call is made.)
+fn read_item(
+    s: &[u8],
+    tab: &mut [u64],
+    i: usize,
+    name: usize,
+    left: usize,
+    n: usize,
+    bad: usize,
+) -> Read
+    requires { ⌜ (i ≤ length (now s)) × (length (now s) ≤ 65536) × (name < 65536) × (n ≤ i) × (bad ≤ n) ⌝ }
+    ensures { λ r. ⌜ Meets (now (s .entry)) i n bad (now (tab .entry)) (value-of (now (s .entry)) left i name) r (now (tab .exit)) ⌝ }
+{
+    let e = plain_end(s, i);
+    if e == 0 {
+        return read_value(s, tab, i, name, left, n, bad);
+    }
+    put(tab, n, entry_of(i, name, n + 1));
+    Read {
+        at: e,
+        count: n + 1,
+        bad: bad,
+    }
+}
+
 // The items from i on, up to what closes them; the first one's number is n.
 fn read_items(
     s: &[u8],
@@ -199,13 +273,14 @@ fn read_items(
                 bad: b,
             };
         }
-        let r = read_value(s, tab, p, item_name(close, j), left, m, b);
+        let r = read_item(s, tab, p, item_name(close, j), left, m, b);
         if r.at == 0 {
             return r;
         }
         let at = r.at;
-        let e = spaces_end(s, at);
-        let c = byte(s, e);
+        let k = find_mark(s, at);
+        let e = k.at;
+        let c = k.byte;
         if c == close {
             return Read {
                 at: e + 1,

@@ -1,7 +1,6 @@
 use Prim.Native.Nat.{_+_, suc}
 use Rattle.rules.specs.State.{depth}
 use Rattle.rules.specs.Tree.{name-end}
-use Rattle.scan.proofs.Bounds.{spaces-go}
 use Rattle.rules.specs.Picks.{picks}
 use Rattle.strings.proofs.Lengths.{string-goes}
 use borrow.Author.Needs.{needs}
@@ -27,18 +26,14 @@ returns-2 : tie.Need-returns-2
 unfolding name-end
 returns-2 c = simp (← c .before .before .before .byte .ensures, ← c .before .string-end .ensures) (search picks depth 9)
 
-spaces-end-requires : tie.Need-spaces-end-requires
-spaces-end-requires c κs = search needs
-
-colon-end-requires : tie.Need-colon-end-requires
-colon-end-requires c κs =
-    let g = string-goes (c .before .before .before .before .before .before .args .s .now) (suc (length (c .before .before .before .before .before .before .args .s .now))) (c .before .before .before .before .before .before .args .i + 1) in
-    let w = spaces-go (c .before .before .before .before .before .before .args .s .now) (c .before .before .string-end .result) (omega (arith, c .before .before .string-end .ensures, g .within)) in
-    omega (arith, c .spaces-end .ensures, w .within)
+colon-behind-requires : tie.Need-colon-behind-requires
+colon-behind-requires c κs =
+    let g = string-goes (c .before .before .before .before .before .args .s .now) (suc (length (c .before .before .before .before .before .args .s .now))) (c .before .before .before .before .before .args .i + 1) in
+    omega (arith, c .before .string-end .ensures, g .within, c .before .before .before .before .before .pre)
 
 returns-3 : tie.Need-returns-3
 unfolding name-end
-returns-3 c = simp (← c .before .before .before .before .before .byte .ensures, ← c .before .before .before .string-end .ensures, ← c .before .spaces-end .ensures, ← c .colon-end .ensures) (search picks depth 9)
+returns-3 c = simp (← c .before .before .before .before .byte .ensures, ← c .before .before .string-end .ensures, ← c .colon-behind .ensures) (search picks depth 9)
 
 pub name-end-spec : {M : Type 1} → statement M
 name-end-spec =
@@ -49,6 +44,5 @@ name-end-spec =
     add-string-end
     string-end-requires
     returns-2
-    spaces-end-requires
-    colon-end-requires
+    colon-behind-requires
     returns-3)
