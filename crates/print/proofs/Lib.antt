@@ -4,4 +4,4 @@ pub mod Said
 pub mod Digits
 mod Held
 mod Numbers
-mod Spans
+pub mod Spans

@@ -194,9 +194,9 @@ fn write_list(
 }
 
 // Bytes of the plan; none where `end` is 0.
-struct Span {
-    start: usize,
-    end: usize,
+pub struct Span {
+    pub start: usize,
+    pub end: usize,
 }
 
 // What a string says whose bytes begin at i, if it has no escapes.
@@ -225,7 +225,7 @@ fn place_span(s: &[u8], tab: &[u64], i: usize) -> Span
 }
 
 // The same of a value. (What the plan has is mostly printed so, with no question what form it has.)
-fn value_span(s: &[u8], tab: &[u64], v: Value) -> Span
+pub fn value_span(s: &[u8], tab: &[u64], v: Value) -> Span
     requires { ⌜ Accepted (now s) (now tab) × ((i : ℕ) → InPlan v i → i < places (now s)) ⌝ }
     ensures { λ r. ⌜ Stood (now (s .entry)) v r ⌝ }
 {
@@ -250,10 +250,6 @@ pub fn write_value(
     requires { ⌜ Accepted (now s) (now tab) × (length (now b) ≤ 65536) × Known (now s) (now b) v ⌝ }
     ensures { λ r. ⌜ Means (now (s .entry)) (now (b .entry)) v (λ j. output r (now (out .exit)) ≡ printed (now (indent .entry)) escape (render j) (output w (now (out .entry)))) ⌝ }
 {
-    let p = value_span(s, tab, v);
-    if p.end != 0 {
-        return write_part(out, indent, w, s, p.start, p.end, escape);
-    }
     match meaning::form_of(s, tab, b, v) {
         Form::Null => w,
         Form::Boolean(t) => write_bool(out, indent, w, t, escape),

@@ -6,7 +6,7 @@ ghost use mathlib.Core.List.{List};
 ghost use mathlib.Core.Path.{_≡_};
 ghost use Prim.Native.Nat.{ℕ, _+_, _*_, _^_, _≤_, _<_};
 ghost use lib.ListN.{length, take, drop};
-ghost use Rattle.rules.specs.Bytes.{Bytes, digits};
+ghost use Rattle.rules.specs.Bytes.{Bytes};
 ghost use Rattle.rules.specs.Bits.{bits};
 ghost use Rattle.rules.specs.Bundle.{string};
 ghost use Rattle.rules.specs.Output.{write, do-escape, indent-aware-write};
@@ -27,14 +27,9 @@ ghost use Rattle.meaning.specs.Means.{Means};
 ghost use Rattle.print.specs.Printed.{printed};
 ghost use Rattle.state.specs.Context.{whole};
 ghost use Rattle.state.specs.World.{world};
-ghost use Rattle.saying.specs.Said.{Inside};
 ghost use Rattle.writing.specs.Writes.{Wrote, Writes};
-ghost use Rattle.text.specs.Rest as text;
-ghost use Rattle.writing.specs.Spans.{SaidAt, TextAt, PrintedAt};
-use meaning::Form;
 use output::Writer;
 use state::RenderContext;
-use text::Text;
 use value::Value;
 
 // The n bytes of a packed string, into the output in force.
@@ -128,65 +123,6 @@ fn feed_value(
     print::write_value(page, indent, w, s, tab, b, v, escape)
 }
 
-// What is known of the text that a value prints.
-enum Span {
-    // it stands in the plan as it is, from a place up to another: a string in which nothing is escaped
-    Is(usize, usize),
-    // it is the digits of a number
-    Digits(u64),
-    Nothing,
-}
-
-// What a string of the plan says from a place on.
-fn said_span(s: &[u8], at: usize, k: usize) -> Span
-    requires { ⌜ (length (now s) ≤ 65536) × Inside (now s) at k ⌝ }
-    ensures { λ r. ⌜ SaidAt (now (s .entry)) at k r ⌝ }
-{
-    let e = saying::own_end(s, at);
-    if e <= at {
-        return Span::Nothing;
-    }
-    match saying::next_byte(s, e, k) {
-        saying::Step::Byte(_, _) => Span::Nothing,
-        saying::Step::End => Span::Is(at, e),
-    }
-}
-
-fn text_span(s: &[u8], b: &[u8], t: Text) -> Span
-    requires { ⌜ (length (now s) ≤ 65536) × text.Stands (now s) (now b) t ⌝ }
-    ensures { λ r. ⌜ TextAt (now (s .entry)) (now (b .entry)) t r ⌝ }
-{
-    let Text::Said(at, k) = t else {
-        return Span::Nothing;
-    };
-    said_span(s, at, k)
-}
-
-fn printed_span(s: &[u8], tab: &[u64], b: &[u8], v: Value) -> Span
-    requires { ⌜ Accepted (now s) (now tab) × (length (now b) ≤ 65536) × Known (now s) (now b) v ⌝ }
-    ensures { λ r. ⌜ PrintedAt (now (s .entry)) (now (b .entry)) v r ⌝ }
-{
-    match meaning::form_of(s, tab, b, v) {
-        Form::Unsigned(n) => Span::Digits(n),
-        Form::String(t) => text_span(s, b, t),
-        _ => Span::Nothing,
-    }
-}
-
-// The digits of a number, and how many.
-struct Digits {
-    bytes: [u8; 20],
-    count: usize,
-}
-
-fn digits_of(n: u64) -> Digits
-    ensures { λ r. ⌜ (take (r .count) (r .bytes) ≡ digits n) × (r .count ≤ length (r .bytes)) × (r .count ≡ length (take (r .count) (r .bytes))) ⌝ }
-{
-    let mut bytes = [0u8; 20];
-    let count = decimal::write_digits(&mut bytes, 0, n);
-    Digits { bytes, count }
-}
-
 // Whether lent bytes go to the page at once.
 fn is_plain(w: Writer, len: usize, v: &[u8], escape: bool) -> bool
     ensures { λ r. ⌜ (r ≡ true → (takes w len (length (now (v .entry))) ≡ true) × (calm (w .«has_indent») (now (v .entry)) ≡ true) × (escaped escape (now (v .entry)) ≡ now (v .entry))) ⌝ }
@@ -198,7 +134,42 @@ fn is_plain(w: Writer, len: usize, v: &[u8], escape: bool) -> bool
     false
 }
 
-// What a value prints, as a text: at once, or begun, fed and finished.
+// Lent bytes, into the output in force.
+fn feed_bytes(
+    page: &mut [u8],
+    texts: &mut [u8],
+    indent: &[u8],
+    w: Writer,
+    v: &[u8],
+    escape: bool,
+) -> Writer
+    ensures { λ r. ⌜ outputs r (now (page .exit)) (now (texts .exit)) ≡ on (all-emitted (now (indent .entry)) (escaped escape (now (v .entry)))) (outputs w (now (page .entry)) (now (texts .entry))) ⌝ }
+{
+    if w.block_text {
+        return support::feed_bytes(texts, indent, w, v, escape);
+    }
+    support::feed_bytes(page, indent, w, v, escape)
+}
+
+// Lent bytes as a text: at once, or begun, fed and finished.
+fn write_bytes(
+    page: &mut [u8],
+    texts: &mut [u8],
+    indent: &[u8],
+    w: Writer,
+    v: &[u8],
+    escape: bool,
+) -> Writer
+    ensures { λ r. ⌜ outputs r (now (page .exit)) (now (texts .exit)) ≡ fed (now (indent .entry)) (escaped escape (now (v .entry))) (outputs w (now (page .entry)) (now (texts .entry))) ⌝ }
+{
+    if is_plain(w, page.len(), v, escape) {
+        return direct::put_bytes(page, w, v);
+    }
+    let q = support::begin(w);
+    support::finish(feed_bytes(page, texts, indent, q, v, escape))
+}
+
+// What a value prints, as a text. Most values of a plan stand there as they are printed.
 fn write_value(
     page: &mut [u8],
     texts: &mut [u8],
@@ -213,21 +184,11 @@ fn write_value(
     requires { ⌜ Accepted (now s) (now tab) × (length (now b) ≤ 65536) × Known (now s) (now b) v ⌝ }
     ensures { λ r. ⌜ Means (now (s .entry)) (now (b .entry)) v (λ j. outputs r (now (page .exit)) (now (texts .exit)) ≡ fed (now (indent .entry)) (escaped escape (render j)) (outputs w (now (page .entry)) (now (texts .entry)))) ⌝ }
 {
-    match printed_span(s, tab, b, v) {
-        Span::Is(at, e) => {
-            if is_plain(w, page.len(), &s[at..e], escape) {
-                return direct::put_bytes(page, w, &s[at..e]);
-            }
-        }
-        Span::Digits(n) => {
-            let d = digits_of(n);
-            let x = d.bytes;
-            let k = d.count;
-            if is_plain(w, page.len(), &x[..k], escape) {
-                return direct::put_bytes(page, w, &x[..k]);
-            }
-        }
-        Span::Nothing => {}
+    let p = print::value_span(s, tab, v);
+    let at = p.start;
+    let e = p.end;
+    if at < e {
+        return write_bytes(page, texts, indent, w, &s[at..e], escape);
     }
     let q = support::begin(w);
     support::finish(feed_value(page, texts, indent, q, s, tab, b, v, escape))

@@ -8,9 +8,7 @@ use Rattle.places.specs.Kinds.{found}
 use Rattle.places.specs.Nodes.{short}
 use Rattle.places.specs.Places.{json-at, places}
 use Rattle.print.proofs.Lists.{Left, left-end, left-on, left-start, left-weight, left-within, list-is, list-none, means-place, next-behind, weight}
-use Rattle.print.proofs.Spans.{plan-within, stood-means, stood-within}
 use Rattle.print.specs.Printed.{IsList, printed, printed-append, printed-none}
-use Rattle.rules.specs.Bytes.{Bytes}
 use Rattle.rules.specs.Json.{Json}
 use Rattle.rules.specs.Plan.{answer}
 use Rattle.rules.specs.Value.{render}
@@ -29,8 +27,6 @@ use Rattle.print.proofs.+write_list+write_value.Lts-write_value as writ
 use Rattle.meaning.proofs.form_of.Reads as form-of-reads
 use Rattle.places.proofs.first.Reads as first-reads
 use Rattle.places.proofs.next.Reads as next-reads
-use Rattle.print.proofs.value_span.Reads as value-span-reads
-use Rattle.print.proofs.write_part.Reads as write-part-reads
 use Rattle.print.proofs.write_bool.Reads as write-bool-reads
 use Rattle.print.proofs.write_digits.Reads as write-digits-reads
 use Rattle.print.proofs.write_minus.Reads as write-minus-reads
@@ -65,7 +61,7 @@ abbrev write-list-claims : ℕ → write-list-lts.Claims
 write-list-claims t = (feed-bytes-reads.Asked, feed-bytes-reads.Learnt, first-reads.Asked, first-reads.Learnt, write-value-below t, write-value.Post, next-reads.Asked, next-reads.Learnt)
 
 abbrev write-value-claims : ℕ → write-value-lts.Claims
-write-value-claims t = (value-span-reads.Asked, value-span-reads.Learnt, write-part-reads.Asked, write-part-reads.Learnt, form-of-reads.Asked, form-of-reads.Learnt, write-bool-reads.Asked, write-bool-reads.Learnt, write-digits-reads.Asked, write-digits-reads.Learnt, write-minus-reads.Asked, write-minus-reads.Learnt, write-text-reads.Asked, write-text-reads.Learnt, write-list-below t, write-list.Post, feed-bytes-reads.Asked, feed-bytes-reads.Learnt)
+write-value-claims t = (form-of-reads.Asked, form-of-reads.Learnt, write-bool-reads.Asked, write-bool-reads.Learnt, write-digits-reads.Asked, write-digits-reads.Learnt, write-minus-reads.Asked, write-minus-reads.Learnt, write-text-reads.Asked, write-text-reads.Learnt, write-list-below t, write-list.Post, feed-bytes-reads.Asked, feed-bytes-reads.Learnt)
 
 abbrev write-list-Inv-loop : write-list-lts.InvT-loop
 write-list-Inv-loop out₀ indent s tab b i escape q₀ f c₀ t15 t16 out q c =
@@ -207,29 +203,6 @@ write-list-loop-again t c =
           (c .before .before .before .before .before .before .d .given .0 .0) (ap found (sym (c .before .before .before .before .before .before .d .given .1)) ∙ c .before .before .before .before .before .before .before .before .next .ensures .0 (l .number) (l .at)) (g .ensures),
     )
 
-write-value-value-span-requires : (t : ℕ) → write-value-lts.Need-value-span-requires (write-value-claims t) (write-value-at t) write-value.Post
-write-value-value-span-requires t c κs =
-    let z = c .before .before .before .before .before in
-    (z .pre .1 .0, plan-within (z .args .s .now) (z .args .b .now) (z .args .v) (z .pre .1 .2))
-
-write-value-write-part-requires : (t : ℕ) → write-value-lts.Need-write-part-requires (write-value-claims t) (write-value-at t) write-value.Post
-write-value-write-part-requires t c κs =
-    let z = c .before .before .before .before .before .before .before .before .before in
-    let a = z .args in
-    let p = c .before .before .before .value-span in
-    stood-within (a .s .now) (a .b .now) (a .v) (z .pre .1 .0 .answers) (z .pre .1 .2) (p .result) (c .before .if1 .taken) (p .ensures)
-
-write-value-same-length : (t : ℕ) → write-value-lts.Need-same-length (write-value-claims t) (write-value-at t) write-value.Post
-write-value-same-length t c = c .before .before .write-part .kept .0
-
-write-value-returns : (t : ℕ) → write-value-lts.Need-returns (write-value-claims t) (write-value-at t) write-value.Post
-write-value-returns t c =
-    let z = c .before .before .before .before .before .before .before .before .before .before .before .before in
-    let a = z .args in
-    let p = c .before .before .before .before .before .before .value-span in
-    stood-means (a .s .now) (a .b .now) (a .v) (z .pre .1 .0 .answers) (z .pre .1 .2) (p .result) (c .before .before .before .before .if1 .taken) (p .ensures) _
-    (λ j e. c .before .before .write-part .ensures ∙ ap (λ (x : Bytes). printed (a .indent .now) (a .escape) x (output (a .w) (a .out .now))) (sym e))
-
 write-value-form-of-requires : (t : ℕ) → write-value-lts.Need-form-of-requires (write-value-claims t) (write-value-at t) write-value.Post
 write-value-form-of-requires t c κs = search needs
 
@@ -259,7 +232,7 @@ write-value-enum-known-t-2 t c = search needs
 
 write-value-write-text-requires : (t : ℕ) → write-value-lts.Need-write-text-requires (write-value-claims t) (write-value-at t) write-value.Post
 write-value-write-text-requires t c κs =
-    let z = c .before .before .before .before .before .before .before .before .before .before .before .before .before in
+    let z = c .before .before .before .before .before .before .before .before .before .before in
     let a = z .args in
     let h = subst (Formed (a .s .now) (a .b .now) (a .v)) (c .before .before .t2 .given .1) (c .before .before .before .before .form-of .ensures) in
     (short (a .s .now) (z .pre .1 .0 .answers), h .is .stands)
@@ -269,7 +242,7 @@ write-value-enum-known-i t c = search needs
 
 write-value-write-list-requires : (t : ℕ) → write-value-lts.Need-write-list-requires (write-value-claims t) (write-value-at t) write-value.Post
 write-value-write-list-requires t c κs =
-    let z = c .before .before .before .before .before .before .before .before .before .before .before .before .before in
+    let z = c .before .before .before .before .before .before .before .before .before .before in
     let a = z .args in
     let h = subst (Formed (a .s .now) (a .b .now) (a .v)) (c .before .before .i .given .1) (c .before .before .before .before .form-of .ensures) in
     (omega (arith, ap weight (h .is .at), z .pre .0), (z .pre .1 .0, z .pre .1 .1, h .is .within, subst IsList (h .is .at) (h .is .is)))
@@ -293,72 +266,72 @@ write-value-slice-aggregate-feed-bytes-2 t c = search needs
 write-value-feed-bytes-requires-2 : (t : ℕ) → write-value-lts.Need-feed-bytes-requires-2 (write-value-claims t) (write-value-at t) write-value.Post
 write-value-feed-bytes-requires-2 t c κs = search needs
 
-write-value-returns-2 : (t : ℕ) → write-value-lts.Need-returns-2 (write-value-claims t) (write-value-at t) write-value.Post
-write-value-returns-2 t c =
-    let a = c .before .before .before .before .before .before .before .before .before .before .before .args in
+write-value-returns : (t : ℕ) → write-value-lts.Need-returns (write-value-claims t) (write-value-at t) write-value.Post
+write-value-returns t c =
+    let a = c .before .before .before .before .before .before .before .before .args in
     let h = subst (Formed (a .s .now) (a .b .now) (a .v)) (c .enum-told .given .1) (c .before .before .form-of .ensures) in
     means (a .s .now) (a .b .now) _ (a .v) Null h (sym (printed-none (a .indent .now) (a .escape) (output (a .w) (a .out .now))))
 
-write-value-same-length-2 : (t : ℕ) → write-value-lts.Need-same-length-2 (write-value-claims t) (write-value-at t) write-value.Post
-write-value-same-length-2 t c = c .before .before .write-bool .kept .0
+write-value-same-length : (t : ℕ) → write-value-lts.Need-same-length (write-value-claims t) (write-value-at t) write-value.Post
+write-value-same-length t c = c .before .before .write-bool .kept .0
 
-write-value-returns-3 : (t : ℕ) → write-value-lts.Need-returns-3 (write-value-claims t) (write-value-at t) write-value.Post
-write-value-returns-3 t c =
-    let a = c .before .before .before .before .before .before .before .before .before .before .before .before .before .before .before .before .args in
+write-value-returns-2 : (t : ℕ) → write-value-lts.Need-returns-2 (write-value-claims t) (write-value-at t) write-value.Post
+write-value-returns-2 t c =
+    let a = c .before .before .before .before .before .before .before .before .before .before .before .before .before .args in
     let h = subst (Formed (a .s .now) (a .b .now) (a .v)) (c .before .before .before .before .before .t .given .1) (c .before .before .before .before .before .before .before .form-of .ensures) in
     means (a .s .now) (a .b .now) _ (a .v) (Boolean (c .before .before .before .before .before .t .given .0 .0)) h (c .before .before .write-bool .ensures)
 
-write-value-same-length-3 : (t : ℕ) → write-value-lts.Need-same-length-3 (write-value-claims t) (write-value-at t) write-value.Post
-write-value-same-length-3 t c = c .before .before .write-digits .kept .0
+write-value-same-length-2 : (t : ℕ) → write-value-lts.Need-same-length-2 (write-value-claims t) (write-value-at t) write-value.Post
+write-value-same-length-2 t c = c .before .before .write-digits .kept .0
 
-write-value-returns-4 : (t : ℕ) → write-value-lts.Need-returns-4 (write-value-claims t) (write-value-at t) write-value.Post
-write-value-returns-4 t c =
-    let a = c .before .before .before .before .before .before .before .before .before .before .before .before .before .before .before .before .args in
+write-value-returns-3 : (t : ℕ) → write-value-lts.Need-returns-3 (write-value-claims t) (write-value-at t) write-value.Post
+write-value-returns-3 t c =
+    let a = c .before .before .before .before .before .before .before .before .before .before .before .before .before .args in
     let h = subst (Formed (a .s .now) (a .b .now) (a .v)) (c .before .before .before .before .before .n .given .1) (c .before .before .before .before .before .before .before .form-of .ensures) in
     means (a .s .now) (a .b .now) _ (a .v) (Unsigned (c .before .before .before .before .before .n .given .0 .0)) h (c .before .before .write-digits .ensures)
 
-write-value-same-length-4 : (t : ℕ) → write-value-lts.Need-same-length-4 (write-value-claims t) (write-value-at t) write-value.Post
-write-value-same-length-4 t c = c .before .before .write-minus .kept .0
+write-value-same-length-3 : (t : ℕ) → write-value-lts.Need-same-length-3 (write-value-claims t) (write-value-at t) write-value.Post
+write-value-same-length-3 t c = c .before .before .write-minus .kept .0
 
-write-value-returns-5 : (t : ℕ) → write-value-lts.Need-returns-5 (write-value-claims t) (write-value-at t) write-value.Post
-write-value-returns-5 t c =
-    let a = c .before .before .before .before .before .before .before .before .before .before .before .before .before .before .before .before .args in
+write-value-returns-4 : (t : ℕ) → write-value-lts.Need-returns-4 (write-value-claims t) (write-value-at t) write-value.Post
+write-value-returns-4 t c =
+    let a = c .before .before .before .before .before .before .before .before .before .before .before .before .before .args in
     let h = subst (Formed (a .s .now) (a .b .now) (a .v)) (c .before .before .before .before .before .n2 .given .1) (c .before .before .before .before .before .before .before .form-of .ensures) in
     means (a .s .now) (a .b .now) _ (a .v) (Negative (c .before .before .before .before .before .n2 .given .0 .0)) h (c .before .before .write-minus .ensures)
 
-write-value-same-length-5 : (t : ℕ) → write-value-lts.Need-same-length-5 (write-value-claims t) (write-value-at t) write-value.Post
-write-value-same-length-5 t c = c .before .before .write-text .kept .0
+write-value-same-length-4 : (t : ℕ) → write-value-lts.Need-same-length-4 (write-value-claims t) (write-value-at t) write-value.Post
+write-value-same-length-4 t c = c .before .before .write-text .kept .0
 
-write-value-returns-6 : (t : ℕ) → write-value-lts.Need-returns-6 (write-value-claims t) (write-value-at t) write-value.Post
-write-value-returns-6 t c =
-    let a = c .before .before .before .before .before .before .before .before .before .before .before .before .before .before .before .before .args in
+write-value-returns-5 : (t : ℕ) → write-value-lts.Need-returns-5 (write-value-claims t) (write-value-at t) write-value.Post
+write-value-returns-5 t c =
+    let a = c .before .before .before .before .before .before .before .before .before .before .before .before .before .args in
     let h = subst (Formed (a .s .now) (a .b .now) (a .v)) (c .before .before .before .before .before .t2 .given .1) (c .before .before .before .before .before .before .before .form-of .ensures) in
     means (a .s .now) (a .b .now) _ (a .v) (String (c .before .before .before .before .before .t2 .given .0 .0)) h (λ _. c .before .before .write-text .ensures)
 
-write-value-same-length-6 : (t : ℕ) → write-value-lts.Need-same-length-6 (write-value-claims t) (write-value-at t) write-value.Post
-write-value-same-length-6 t c = c .before .before .write-list .kept .0
+write-value-same-length-5 : (t : ℕ) → write-value-lts.Need-same-length-5 (write-value-claims t) (write-value-at t) write-value.Post
+write-value-same-length-5 t c = c .before .before .write-list .kept .0
 
-write-value-returns-7 : (t : ℕ) → write-value-lts.Need-returns-7 (write-value-claims t) (write-value-at t) write-value.Post
-write-value-returns-7 t c =
-    let a = c .before .before .before .before .before .before .before .before .before .before .before .before .before .before .before .before .args in
+write-value-returns-6 : (t : ℕ) → write-value-lts.Need-returns-6 (write-value-claims t) (write-value-at t) write-value.Post
+write-value-returns-6 t c =
+    let a = c .before .before .before .before .before .before .before .before .before .before .before .before .before .args in
     let h = subst (Formed (a .s .now) (a .b .now) (a .v)) (c .before .before .before .before .before .i .given .1) (c .before .before .before .before .before .before .before .form-of .ensures) in
     means (a .s .now) (a .b .now) _ (a .v) (List (c .before .before .before .before .before .i .given .0 .0)) h (λ _ _ e. c .before .before .write-list .ensures ∙ ap (λ (j : Json). printed (a .indent .now) (a .escape) (render j) (output (a .w) (a .out .now))) e)
 
-write-value-same-length-7 : (t : ℕ) → write-value-lts.Need-same-length-7 (write-value-claims t) (write-value-at t) write-value.Post
-write-value-same-length-7 t c = c .before .before .feed-bytes .kept .0
+write-value-same-length-6 : (t : ℕ) → write-value-lts.Need-same-length-6 (write-value-claims t) (write-value-at t) write-value.Post
+write-value-same-length-6 t c = c .before .before .feed-bytes .kept .0
 
-write-value-returns-8 : (t : ℕ) → write-value-lts.Need-returns-8 (write-value-claims t) (write-value-at t) write-value.Post
-write-value-returns-8 t c =
-    let a = c .before .before .before .before .before .before .before .before .before .before .before .before .before .before .before .before .before .args in
+write-value-returns-7 : (t : ℕ) → write-value-lts.Need-returns-7 (write-value-claims t) (write-value-at t) write-value.Post
+write-value-returns-7 t c =
+    let a = c .before .before .before .before .before .before .before .before .before .before .before .before .before .before .args in
     let h = subst (Formed (a .s .now) (a .b .now) (a .v)) (c .before .before .before .before .before .before .i2 .given .1) (c .before .before .before .before .before .before .before .before .form-of .ensures) in
     means (a .s .now) (a .b .now) _ (a .v) (Object (c .before .before .before .before .before .before .i2 .given .0 .0)) h (λ _ _ _. c .before .before .feed-bytes .ensures)
 
-write-value-same-length-8 : (t : ℕ) → write-value-lts.Need-same-length-8 (write-value-claims t) (write-value-at t) write-value.Post
-write-value-same-length-8 t c = c .before .before .feed-bytes2 .kept .0
+write-value-same-length-7 : (t : ℕ) → write-value-lts.Need-same-length-7 (write-value-claims t) (write-value-at t) write-value.Post
+write-value-same-length-7 t c = c .before .before .feed-bytes2 .kept .0
 
-write-value-returns-9 : (t : ℕ) → write-value-lts.Need-returns-9 (write-value-claims t) (write-value-at t) write-value.Post
-write-value-returns-9 t c =
-    let a = c .before .before .before .before .before .before .before .before .before .before .before .before .before .before .before .before .before .args in
+write-value-returns-8 : (t : ℕ) → write-value-lts.Need-returns-8 (write-value-claims t) (write-value-at t) write-value.Post
+write-value-returns-8 t c =
+    let a = c .before .before .before .before .before .before .before .before .before .before .before .before .before .before .args in
     let h = subst (Formed (a .s .now) (a .b .now) (a .v)) (c .before .before .before .before .before .before .h .given .1) (c .before .before .before .before .before .before .before .before .form-of .ensures) in
     means (a .s .now) (a .b .now) _ (a .v) (Merged (c .before .before .before .before .before .before .h .given .0 .0) (c .before .before .before .before .before .before .h .given .0 .1 .0)) h (λ _ _. c .before .before .feed-bytes2 .ensures)
 
@@ -391,10 +364,6 @@ pub +write-list+write-value-spec : {M : Type 1} → statement M
     (write-list-loop-again t))
     λ t. write-value-lts.spec (write-value-claims t) (write-value-at t)
     write-value.Post
-    (write-value-value-span-requires t)
-    (write-value-write-part-requires t)
-    (write-value-same-length t)
-    (write-value-returns t)
     (write-value-form-of-requires t)
     (write-value-enum-told t)
     (write-value-enum-known-t t)
@@ -413,6 +382,8 @@ pub +write-list+write-value-spec : {M : Type 1} → statement M
     (write-value-enum-known-h t)
     (write-value-slice-aggregate-feed-bytes-2 t)
     (write-value-feed-bytes-requires-2 t)
+    (write-value-returns t)
+    (write-value-same-length t)
     (write-value-returns-2 t)
     (write-value-same-length-2 t)
     (write-value-returns-3 t)
@@ -426,5 +397,3 @@ pub +write-list+write-value-spec : {M : Type 1} → statement M
     (write-value-returns-7 t)
     (write-value-same-length-7 t)
     (write-value-returns-8 t)
-    (write-value-same-length-8 t)
-    (write-value-returns-9 t)
