@@ -1,24 +1,26 @@
--- The loop over the members in their order, which counts them.
-use Prim.Native.Nat.{ℕ, suc, _+_, _≤_, _<_}
+-- The loops that count the members: those whose name is met first.
+use Prim.Native.Nat.{ℕ, zero, suc, _+_, _-_, _≤_, _<_}
 use mathlib.Core.Bool.{Bool, true, false}
-use mathlib.Core.Option.{Option, none, some}
+use mathlib.Core.List.{List, [], _∷_}
+use mathlib.Core.Option.{Option, some}
 use mathlib.Core.Path.{_≡_, refl, sym, ap, _∙_, subst}
+use native.Mathlib.Numerals.{add-one}
 use native.Mathlib.Omega.{arith}
-use lib.Dec.{eqb}
-use borrow.Author.Tests.{eq-eqb, ne-eqb}
-use Rattle.rules.specs.Bytes.{Bytes, pick, maybe, byte-at, same, before}
-use Rattle.rules.specs.Json.{Json, jnull, jbool, jpos, jneg, jstr, jarr, Map, mnil, mcons, insert, count}
+use lib.Dec.{eqb, ltb}
+use lib.ListN.{length, take, drop, length-drop}
+use borrow.Author.Tests.{ne-eqb, ltb-true, ltb-false}
+use Rattle.rules.specs.Bytes.{Bytes, pick, maybe, byte-at, same}
+use Rattle.rules.specs.Json.{Json, jnull, jbool, jpos, jneg, jstr, jarr, Map, mnil, get-member, insert, count, Fits, FitsMembers}
 use Rattle.rules.specs.Scan.{saying, magnitude}
 use Rattle.rules.specs.Tree.{Tree, tree, Trees, tree-nil, tree-cons}
-use Rattle.rules.specs.Plan.{size, sizes, name-of, answer, scalar-at, meaning, meanings, members-onto}
-use Rattle.places.specs.Places.{start-of, inside, places, tree-at, json-at, name-at, next-member, rest-above}
-use Rattle.places.specs.Nodes.{few-places, size-positive, stands-at, stands-within}
-use Rattle.places.specs.Items.{object-at}
-use Rattle.places.specs.Ascending.{object-rest}
-use Rattle.places.specs.Findings.{found-next}
-use Rattle.places.specs.declared.Found.{Found}
-use Rattle.places.specs.declared.Found.the-variants.{At, Nothing}
-use Rattle.places.specs.Kinds.{found, found-name, FoundIn, members-of}
+use Rattle.rules.specs.Plan.{size, name-of, answer, scalar-at, meaning, meanings, members-onto}
+use Rattle.rules.specs.PlanLaws.{get-insert, insert-fits, count-insert}
+use Rattle.places.specs.Places.{start-of, inside, places, tree-at, path-at, live-at, json-at, name-at, children, one-if-new}
+use Rattle.places.specs.Nodes.{size-positive}
+use Rattle.places.specs.Children.{is-object, end-at, Left, left-start, left-child, left-on, Walk, walk-start, walk-child, walk-on, walk-end}
+use Rattle.places.specs.Items.{first-json, is-map, object-at}
+use Rattle.places.specs.Ascending.{at-fits}
+use Rattle.places.specs.Kinds.{members-of}
 
 -- Only what begins so is an object
 
@@ -46,56 +48,139 @@ module _ (s : Bytes) (i : ℕ) where
           by true = refl
           by false = scalar-members s b
 
--- There are few members
+-- Whether a name is new
 
-few-insert : (k : Bytes) (v : Json) (m : Map) → count (insert k v m) ≤ suc (count m)
-few-insert k v mnil = omega arith
-few-insert k v (mcons n j l) = go (same k n) (before k n) (few-insert k v l)
+pub new-small : (s w : Bytes) (l : List ℕ) → one-if-new s w l ≤ 1
+new-small s w [] = omega arith
+new-small s w (p ∷ l) = go (same (name-at s p) w) (new-small s w l)
   where
-    go : (x y : Bool) → count (insert k v l) ≤ suc (count l) → count (pick x (mcons k v l) (pick y (mcons k v (mcons n j l)) (mcons n j (insert k v l)))) ≤ suc (suc (count l))
-    go true y h = omega arith
-    go false true h = omega arith
-    go false false h = omega arith
+    go : (b : Bool) → one-if-new s w l ≤ 1 → pick b 0 (one-if-new s w l) ≤ 1
+    go true h = omega arith
+    go false h = h
 
-few-onto : (s : Bytes) (l : Trees) (acc : Map) → count (members-onto s acc l) ≤ count acc + sizes l
-few-onto s tree-nil acc = omega arith
-few-onto s (tree-cons t l) acc =
-    omega (arith, few-onto s l (insert (saying s (name-of t)) (meaning s t) acc), few-insert (saying s (name-of t)) (meaning s t) acc, size-positive t)
+pub new-by : (s : Bytes) (c a : ℕ) (l : List ℕ) (r : ℕ) → r ≡ one-if-new s (saying s a) l → a ≡ name-of (tree-at s c) → r ≡ one-if-new s (name-at s c) l
+unfolding name-at
+new-by s c a l r h e = h ∙ ap (λ (x : ℕ). one-if-new s (saying s x) l) e
 
--- n of the members are counted, the last one of them at `last`
-pub record Counting (s : Bytes) (i n : ℕ) (last : Found) : Type 0 where
-  pub sum : count (members-of (json-at s i)) ≡ n + count (rest-above (found-name s last) (members-of (json-at s i)))
-  pub place : FoundIn s last
+-- one more is met
+new-more : (s w : Bytes) (l : List ℕ) (j c : ℕ) (r : List ℕ) → drop j l ≡ c ∷ r → one-if-new s w (take (suc j) l) ≡ pick (same (name-at s c) w) 0 (one-if-new s w (take j l))
+new-more s w [] zero c r h = let z : _≡_ {A = ℕ} 0 1 = cc in absurd (omega arith)
+new-more s w [] (suc j) c r h = let z : _≡_ {A = ℕ} 0 1 = cc in absurd (omega arith)
+new-more s w (x ∷ l) zero c r h = let e : x ≡ c = cc in rw e
+new-more s w (x ∷ l) (suc j) c r h =
+    ap (λ (n : ℕ). pick (same (name-at s x) w) 0 n) (new-more s w l j c r h) ∙ go (same (name-at s x) w) (same (name-at s c) w) (one-if-new s w (take j l))
+  where
+    go : (a b : Bool) (n : ℕ) → pick a 0 (pick b 0 n) ≡ pick b 0 (pick a 0 n)
+    go true true n = refl
+    go true false n = refl
+    go false b n = refl
 
-rest-all : (m : Map) → rest-above none m ≡ m
-rest-all mnil = refl
-rest-all (mcons n j l) = refl
+-- the name w is looked for among the first n, of which `left` from c on are to be passed
+pub record Meeting (s : Bytes) (i : ℕ) (w : Bytes) (n c left : ℕ) : Type 0 where
+  pub number : ℕ
+  pub walk : Walk s i number c
+  pub sum : number + left ≡ n
+  pub is : one-if-new s w (take n (children s i)) ≡ one-if-new s w (take left (drop number (children s i)))
 
-pub count-start : (s : Bytes) (i : ℕ) → Counting s i 0 Nothing
-count-start s i = record { sum = omega (arith, ap count (rest-all (members-of (json-at s i)))); place = tt }
+pub meet-start : (s : Bytes) (i : ℕ) → answer s ≡ 0 → i < places s → (w : Bytes) (n : ℕ) → Meeting s i w n (i + 1) n
+meet-start s i h lt w n = record { number = 0; walk = walk-start s i h lt; sum = omega arith; is = refl }
 
-module _ (s : Bytes) (h : answer s ≡ 0) (i : ℕ) (lt : i < places s) (o : byte-at s (start-of (tree-at s i)) ≡ 123) where
-  abbrev all : Map
-  all = members-of (json-at s i)
+module _ (s : Bytes) (i : ℕ) (w : Bytes) (n c left : ℕ) (q : Meeting s i w n c left) where
+  pub meet-end : left ≤ 0 → 1 ≡ one-if-new s w (take n (children s i))
+  meet-end le = let z : left ≡ 0 = omega arith in sym (q .is ∙ ap (λ (m : ℕ). one-if-new s w (take m (drop (q .number) (children s i)))) z)
 
-  pub few-members : count (members-of (json-at s i)) ≤ 4096
-  unfolding json-at
-  few-members = go (tree-at s i) o (stands-within s i _ _ (tree-at s i) (stands-at s h i lt))
-    where
-      go : (t : Tree) → byte-at s (start-of t) ≡ 123 → i + size t ≤ places s → count (members-of (meaning s t)) ≤ 4096
-      go (tree b m l) f le = rw f (omega (arith, few-onto s l mnil, few-places s h))
+  module _ (some : 0 < left) (le : n ≤ length (children s i)) where
+    pub meet-in : c < end-at s i
+    meet-in = go (ltb c (end-at s i)) refl
+      where
+        go : (b : Bool) → ltb c (end-at s i) ≡ b → c < end-at s i
+        go true e = ltb-true c (end-at s i) e
+        go false e =
+            let z = ap length (walk-end s i (q .number) c (q .walk) (ltb-false c (end-at s i) e)) in
+            absurd (omega (arith, q .sum, length-drop (q .number) (children s i)))
 
-  module _ (n : ℕ) (last r : Found) (e : found r ≡ next-member s i (found-name s last)) where
-    rest : rest-above (found-name s last) all ≡ maybe (found r) mnil (λ c. mcons (name-at s c) (json-at s c) (rest-above (some (name-at s c)) all))
-    rest = object-rest s h i lt all (object-at s i o) (found-name s last) ∙ ap (λ (x : Option ℕ). maybe x mnil (λ c. mcons (name-at s c) (json-at s c) (rest-above (some (name-at s c)) all))) (sym e)
+    here : one-if-new s w (take n (children s i)) ≡ pick (same (name-at s c) w) 0 (one-if-new s w (take (left - 1) (drop (suc (q .number)) (children s i))))
+    here =
+        let z : left ≡ suc (left - 1) = omega arith in
+        q .is ∙ ap (λ (m : ℕ). one-if-new s w (take m (drop (q .number) (children s i)))) z
+        ∙ ap (λ (l : List ℕ). one-if-new s w (take (suc (left - 1)) l)) (walk-child s i (q .number) c (q .walk) meet-in .others)
 
-    pub count-end : Counting s i n last → r ≡ Nothing → n ≡ count (members-of (json-at s i))
-    count-end q z =
-        let x : rest-above (found-name s last) all ≡ mnil = rest ∙ rw z in
-        omega (arith, q .sum, ap count x)
+    pub meet-found : true ≡ same (name-at s c) w → 0 ≡ one-if-new s w (take n (children s i))
+    meet-found e = sym (here ∙ ap (λ (b : Bool). pick b 0 (one-if-new s w (take (left - 1) (drop (suc (q .number)) (children s i))))) (sym e))
 
-    pub count-less : (p : ℕ) → r ≡ At p → count (rest-above (found-name s last) all) ≡ suc (count (rest-above (some (name-at s p)) all))
-    count-less p z = ap count rest ∙ rw z
+    pub meet-on : (d : ℕ) → d ≡ end-at s c → false ≡ same (name-at s c) w → Meeting s i w n d (left - 1)
+    meet-on d f e = record {
+      number = suc (q .number);
+      walk = subst (Walk s i (suc (q .number))) (sym f) (walk-on s i (q .number) c (q .walk) meet-in);
+      sum = omega (arith, q .sum);
+      is = here ∙ ap (λ (b : Bool). pick b 0 (one-if-new s w (take (left - 1) (drop (suc (q .number)) (children s i))))) (sym e);
+    }
 
-    pub count-on : (p : ℕ) → Counting s i n last → r ≡ At p → Counting s i (n + 1) (At p)
-    count-on p q z = record { sum = omega (arith, q .sum, count-less p z); place = rw z at (found-next s h i lt (found-name s last) r e) }
+-- Of the first `met` members up to c there are n of different names
+pub record Counting (s : Bytes) (i met n c : ℕ) : Type 0 where
+  pub trees : Trees
+  pub left : Left s i met c trees
+  pub map : Map
+  pub rest : members-onto s map trees ≡ members-of (json-at s i)
+  pub fits : FitsMembers map
+  pub sum : count map ≡ n
+  pub new : (w : Bytes) → maybe (get-member map w) 1 (λ _. 0) ≡ one-if-new s w (take met (children s i))
+  pub few : n ≤ met
+  pub within : met ≤ length (children s i)
+
+module _ (s : Bytes) (h : answer s ≡ 0) (i : ℕ) (lt : i < places s) where
+  pub count-start : byte-at s (start-of (tree-at s i)) ≡ 123 → Counting s i 0 0 (i + 1)
+  count-start o = record {
+    trees = inside (tree-at s i);
+    left = left-start s i h lt;
+    map = mnil;
+    rest = is-map s i (members-of (json-at s i)) (object-at s i o) .means;
+    fits = tt;
+    sum = refl;
+    new = λ w. refl;
+    few = omega arith;
+    within = omega arith;
+  }
+
+  module _ (met n c : ℕ) (q : Counting s i met n c) where
+    pub count-walk : Walk s i met c
+    count-walk = record { trees = q .trees; left = q .left }
+
+    pub count-end : end-at s i ≤ c → n ≡ count (members-of (json-at s i))
+    count-end le = go (q .trees) (q .left) (q .rest)
+      where
+        go : (l : Trees) → Left s i met c l → members-onto s (q .map) l ≡ members-of (json-at s i) → n ≡ count (members-of (json-at s i))
+        go tree-nil k e = sym (q .sum) ∙ ap count e
+        go (tree-cons t l) k e = absurd (omega (arith, k .ends, size-positive t))
+
+    pub count-on : (r d : ℕ) → c < end-at s i → r ≡ one-if-new s (name-at s c) (take met (children s i)) → d ≡ end-at s c → Counting s i (met + 1) (n + r) d
+    count-on r d l e f = go (q .trees) (q .left) (q .rest)
+      where
+        go : (v : Trees) → Left s i met c v → members-onto s (q .map) v ≡ members-of (json-at s i) → Counting s i (met + 1) (n + r) d
+        go tree-nil k g = absurd (omega (arith, k .ends))
+        go (tree-cons t v) k g =
+            let j = first-json s c (path-at s i) (live-at s i) (is-object s i) met t v (k .stands) in
+            let x = left-child s i met c t v k in
+            let y : d ≡ c + size t = f ∙ ap (λ (m : ℕ). c + m) (j .2) in
+            let z = count-insert (saying s (name-of t)) (meaning s t) (q .map) (q .fits) in
+            let b = ap length (x .others) in
+            rw (add-one met, y) (record {
+              trees = v;
+              left = left-on s i met c t v k;
+              map = insert (saying s (name-of t)) (meaning s t) (q .map);
+              rest = g;
+              fits = insert-fits (saying s (name-of t)) (meaning s t) (q .map) (subst Fits (j .0) (at-fits s h c (x .within))) (q .fits);
+              sum = omega (arith, z, q .sum, e, ap (λ (w : Bytes). one-if-new s w (take met (children s i))) (j .1), q .new (saying s (name-of t)));
+              new = λ w.
+                  ap (λ (o : Option Json). maybe o 1 (λ _. 0)) (get-insert (saying s (name-of t)) (meaning s t) (q .map) w)
+                  ∙ by (same (saying s (name-of t)) w) (meaning s t) (get-member (q .map) w)
+                  ∙ ap (λ (m : ℕ). pick (same (saying s (name-of t)) w) 0 m) (q .new w)
+                  ∙ ap (λ (m : Bytes). pick (same m w) 0 (one-if-new s w (take met (children s i)))) (sym (j .1))
+                  ∙ sym (new-more s w (children s i) met c (drop (suc met) (children s i)) (x .others));
+              few = omega (arith, q .few, e, new-small s (name-at s c) (take met (children s i)));
+              within = omega (arith, q .within, length-drop met (children s i));
+            })
+          where
+            by : (b : Bool) (v : Json) (o : Option Json) → _≡_ {A = ℕ} (maybe (pick b (some v) o) 1 (λ _. 0)) (pick b 0 (maybe o 1 (λ _. 0)))
+            by true v o = refl
+            by false v o = refl

@@ -3,3 +3,4 @@ mod Scalars
 pub mod Ordered
 mod Walking
 mod Counting
+mod Plain

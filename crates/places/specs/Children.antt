@@ -88,13 +88,15 @@ module _ (s : Bytes) (i : ℕ) where
           → StandsAll s (all-nodes s) (i + 1) (path-at s i) (live-at s i) (eqb (byte-at s (start-of t)) 123) 0 (inside t)
       go (tree b m l) q = stands-inside s (all-nodes s) i (path-at s i) (live-at s i) b m l q
 
-  pub walk-start : answer s ≡ 0 → i < places s → Walk s i 0 (i + 1)
+  pub left-start : answer s ≡ 0 → i < places s → Left s i 0 (i + 1) (inside (tree-at s i))
   unfolding children
-  walk-start h lt =
-      record { trees = inside (tree-at s i); left = record { stands = inside-stands h lt; ends = ends (tree-at s i); are = refl; on = omega arith; passed = λ k a b. absurd (omega arith) } }
+  left-start h lt = record { stands = inside-stands h lt; ends = ends (tree-at s i); are = refl; on = omega arith; passed = λ k a b. absurd (omega arith) }
     where
       ends : (t : Tree) → i + size t ≡ i + 1 + sizes (inside t)
       ends (tree b m l) = omega arith
+
+  pub walk-start : answer s ≡ 0 → i < places s → Walk s i 0 (i + 1)
+  walk-start h lt = record { trees = inside (tree-at s i); left = left-start h lt }
 
   module _ (j c : ℕ) where
     module _ (t : Tree) (l : Trees) (q : Left s i j c (tree-cons t l)) where

@@ -1,8 +1,8 @@
 -- The kind of a value, and what code hands out, in terms of the rules' values.
 use Prim.Native.Nat.{ℕ, _<_}
-use mathlib.Core.Bool.{Bool, true, false, _||_}
+use mathlib.Core.Bool.{Bool, true, false, _&&_, _||_, not}
 use mathlib.Core.Option.{Option, none, some}
-use lib.Dec.{eqb}
+use lib.Dec.{eqb, ltb}
 use mathlib.Core.Path.{_≡_, refl}
 use Rattle.rules.specs.Bytes.{Bytes, pick}
 use Rattle.rules.specs.Json.{Json, jnull, jbool, jpos, jneg, jstr, jarr, jobj, Jsons, jnil, Map, mnil, no-items, no-members}
@@ -49,6 +49,10 @@ kind-by c =
 
 unfoldable pub is-other : ℕ → Bool
 is-other c = (eqb c 91 || eqb c 123) || (eqb c 34 || (eqb c 116 || (eqb c 102 || eqb c 110)))
+
+-- a byte of a string that stands for itself: all but a space and an exclamation mark
+abbrev pub is-plain : ℕ → Bool
+is-plain c = ltb 34 c && not (eqb c 92)
 
 -- a number without its sign; 0 for no number
 abbrev pub magnitude-of : Json → ℕ

@@ -103,6 +103,11 @@ last-onto s w best (p ∷ l) = last-onto s w (pick (same (name-at s p) w) (some 
 unfoldable pub member : Bytes → ℕ → Bytes → Option ℕ
 member s i w = last-onto s w none (children s i)
 
+-- 1 where none of the places has the name w
+abbrev pub one-if-new : Bytes → Bytes → List ℕ → ℕ
+one-if-new s w [] = 1
+one-if-new s w (p ∷ l) = let later = one-if-new s w l in pick (same (name-at s p) w) 0 later
+
 -- Members in the order of their names
 
 -- the names behind a given one, or all

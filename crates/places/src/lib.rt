@@ -3,17 +3,18 @@
 ghost use mathlib.Core.Path.{_≡_};
 ghost use mathlib.Core.Bool.{_&&_};
 ghost use Prim.Native.Nat.{ℕ, suc, _+_, _*_, _/_, _%_, _<_, _≤_};
-ghost use lib.ListN.{length, getElem?};
+ghost use lib.ListN.{length, getElem?, take};
 ghost use mathlib.Core.Option.{some};
-ghost use Rattle.rules.specs.Bytes.{pick, byte-at, before};
+ghost use Rattle.rules.specs.Bytes.{pick, byte-at, same, before};
 ghost use Rattle.rules.specs.Json.{count};
 ghost use Rattle.rules.specs.Bits.{bits};
 ghost use Rattle.rules.specs.Scan.{saying};
 ghost use Rattle.rules.specs.Plan.{name-of};
 ghost use Rattle.bits.specs.Packed.{bytes-at};
-ghost use Rattle.saying.specs.Compared.{name-bytes, NameFits};
-ghost use Rattle.places.specs.Places.{start-of, places, tree-at, json-at, name-at, children, member, above, better, next-member};
-ghost use Rattle.places.specs.Kinds.{found, found-name, FoundIn, kind-of, kind-by, is-other, magnitude-of, members-of, is-empty};
+ghost use Rattle.rules.specs.Order.{cmp};
+ghost use Rattle.saying.specs.Compared.{ordering, name-bytes, NameFits};
+ghost use Rattle.places.specs.Places.{start-of, places, tree-at, json-at, name-at, children, member, above, better, one-if-new, next-member};
+ghost use Rattle.places.specs.Kinds.{found, found-name, FoundIn, kind-of, kind-by, is-other, is-plain, magnitude-of, members-of, is-empty};
 ghost use Rattle.places.specs.Accepted.{Accepted};
 ghost use Rattle.places.specs.Children.{is-object, end-at, behind, around};
 use saying::Name;
@@ -211,14 +212,57 @@ pub fn member_packed(s: &[u8], tab: &[u64], i: usize, w: &[u8], p: usize, m: usi
     best
 }
 
+// Whether a byte of a string is one of those that stand for themselves: most do.
+fn is_plain(c: u8) -> bool
+    ensures { λ r. ⌜ r ≡ is-plain c ⌝ }
+{
+    (34 < c) & (c != 92)
+}
+
+// The order of what the strings at i and j say. Most names differ at two such bytes.
+fn order(s: &[u8], i: usize, j: usize) -> Ordering
+    requires { ⌜ (length (now s) ≤ 65536) × (i ≤ 65536) × (j ≤ 65536) ⌝ }
+    ensures { λ r. ⌜ ordering r ≡ cmp (saying (now (s .entry)) i) (saying (now (s .entry)) j) ⌝ }
+{
+    let mut p = i + 1;
+    let mut q = j + 1;
+    loop {
+        let a = scan::byte(s, p);
+        let b = scan::byte(s, q);
+        if !(is_plain(a) & is_plain(b)) {
+            return saying::compare(s, i, j);
+        }
+        if a < b {
+            return Ordering::Less;
+        }
+        if b < a {
+            return Ordering::Greater;
+        }
+        p += 1;
+        q += 1;
+    }
+}
+
 // Whether the string at i is before the one at j.
 fn is_before(s: &[u8], i: usize, j: usize) -> bool
     requires { ⌜ (length (now s) ≤ 65536) × (i ≤ 65536) × (j ≤ 65536) ⌝ }
     ensures { λ r. ⌜ r ≡ before (saying (now (s .entry)) i) (saying (now (s .entry)) j) ⌝ }
 {
-    match saying::compare(s, i, j) {
+    match order(s, i, j) {
         Ordering::Less => true,
         Ordering::Equal => false,
+        Ordering::Greater => false,
+    }
+}
+
+// Whether the strings at i and j say the same.
+fn is_same(s: &[u8], i: usize, j: usize) -> bool
+    requires { ⌜ (length (now s) ≤ 65536) × (i ≤ 65536) × (j ≤ 65536) ⌝ }
+    ensures { λ r. ⌜ r ≡ same (saying (now (s .entry)) i) (saying (now (s .entry)) j) ⌝ }
+{
+    match order(s, i, j) {
+        Ordering::Less => false,
+        Ordering::Equal => true,
         Ordering::Greater => false,
     }
 }
@@ -264,7 +308,24 @@ pub fn next_member(s: &[u8], tab: &[u64], i: usize, after: Found) -> Found
     best
 }
 
-// How many members the object at i has, each name once.
+// 1 where none of the first n values directly inside the one at i has the name that the string at q says.
+fn is_new(s: &[u8], tab: &[u64], i: usize, n: usize, q: usize) -> usize
+    requires { ⌜ Accepted (now s) (now tab) × (i < places (now s)) × (n ≤ length (children (now s) i)) × (q ≤ 65536) ⌝ }
+    ensures { λ r. ⌜ r ≡ one-if-new (now (s .entry)) (saying (now (s .entry)) q) (take n (children (now (s .entry)) i)) ⌝ }
+{
+    let mut c = i + 1;
+    let mut left = n;
+    while 0 < left {
+        if is_same(s, name(s, tab, c), q) {
+            return 0;
+        }
+        c = end(s, tab, c);
+        left -= 1;
+    }
+    1
+}
+
+// How many members the object at i has, each name once: where it is met first.
 pub fn members(s: &[u8], tab: &[u64], i: usize) -> usize
     requires { ⌜ Accepted (now s) (now tab) × (i < places (now s)) ⌝ }
     ensures { λ r. ⌜ r ≡ count (members-of (json-at (now (s .entry)) i)) ⌝ }
@@ -272,15 +333,16 @@ pub fn members(s: &[u8], tab: &[u64], i: usize) -> usize
     if scan::byte(s, start(s, tab, i)) != 123 {
         return 0;
     }
+    let e = end(s, tab, i);
+    let mut c = i + 1;
+    let mut met: usize = 0;
     let mut n: usize = 0;
-    let mut last = Found::Nothing;
-    loop {
-        let Found::At(p) = next_member(s, tab, i, last) else {
-            return n;
-        };
-        last = Found::At(p);
-        n += 1;
+    while c < e {
+        n += is_new(s, tab, i, met, name(s, tab, c));
+        c = end(s, tab, c);
+        met += 1;
     }
+    n
 }
 
 // The place that the value at c stands directly inside.

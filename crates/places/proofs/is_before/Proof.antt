@@ -7,10 +7,10 @@ use Rattle.places.proofs.is_before.Statement.{statement}
 use Rattle.places.proofs.is_before.Tie as tie
 use Rattle.places.proofs.is_before.Reads as reads
 use Rattle.places.proofs.is_before.Lts as lts
-use Rattle.saying.proofs.compare.Reads as compare-reads
+use Rattle.places.proofs.order.Reads as order-reads
 
-compare-requires : tie.Need-compare-requires
-compare-requires c κs = search needs
+order-requires : tie.Need-order-requires
+order-requires c κs = search needs
 
 enum-told : tie.Need-enum-told
 enum-told c = search needs
@@ -22,15 +22,15 @@ enum-told-3 : tie.Need-enum-told-3
 enum-told-3 c = search needs
 
 returns : tie.Need-returns
-returns c = less-before (saying (c .before .before .before .before .args .s .now) (c .before .before .before .before .args .i)) (saying (c .before .before .before .before .args .s .now) (c .before .before .before .before .args .j)) (ap ordering (sym (c .enum-told .given .1)) ∙ c .before .before .compare .ensures)
+returns c = less-before (saying (c .before .before .before .before .args .s .now) (c .before .before .before .before .args .i)) (saying (c .before .before .before .before .args .s .now) (c .before .before .before .before .args .j)) (ap ordering (sym (c .enum-told .given .1)) ∙ c .before .before .order .ensures)
 
 returns-2 : tie.Need-returns-2
-returns-2 c = equal-before (saying (c .before .before .before .before .args .s .now) (c .before .before .before .before .args .i)) (saying (c .before .before .before .before .args .s .now) (c .before .before .before .before .args .j)) (ap ordering (sym (c .enum-told2 .given .1)) ∙ c .before .before .compare .ensures)
+returns-2 c = equal-before (saying (c .before .before .before .before .args .s .now) (c .before .before .before .before .args .i)) (saying (c .before .before .before .before .args .s .now) (c .before .before .before .before .args .j)) (ap ordering (sym (c .enum-told2 .given .1)) ∙ c .before .before .order .ensures)
 
 returns-3 : tie.Need-returns-3
-returns-3 c = greater-before (saying (c .before .before .before .before .args .s .now) (c .before .before .before .before .args .i)) (saying (c .before .before .before .before .args .s .now) (c .before .before .before .before .args .j)) (ap ordering (sym (c .enum-told3 .given .1)) ∙ c .before .before .compare .ensures)
+returns-3 c = greater-before (saying (c .before .before .before .before .args .s .now) (c .before .before .before .before .args .i)) (saying (c .before .before .before .before .args .s .now) (c .before .before .before .before .args .j)) (ap ordering (sym (c .enum-told3 .given .1)) ∙ c .before .before .order .ensures)
 
 pub is-before-spec : {M : Type 1} → statement M
 is-before-spec =
     tie.close
-    (tie.spec compare-requires enum-told enum-told-2 enum-told-3 returns returns-2 returns-3)
+    (tie.spec order-requires enum-told enum-told-2 enum-told-3 returns returns-2 returns-3)
