@@ -184,15 +184,23 @@ module _ (s : Bytes) (p c a b : ℕ) (r : Bool) (h : r ≡ before (saying s a) (
   pub above-by : (after : Found) → after ≡ At p → r ≡ above (found-name s after) (name-at s c)
   above-by after e = names-by ∙ ap (λ (x : Found). above (found-name s x) (name-at s c)) (sym e)
 
-  pub better-by : (after : Option Bytes) (best : Found) → best ≡ At p → true ≡ above after (name-at s c) → not r ≡ better s after (found best) c
-  better-by after best e u = ap not names-by ∙ rw (e, ← u)
+  -- the best one so far stays
+  pub not-better : (after : Option Bytes) (best : Found) → best ≡ At p → r ≡ true → false ≡ better s after (found best) c
+  not-better after best e u = rw (e, sym names-by ∙ u) (go (above after (name-at s c)))
+    where
+      go : (x : Bool) → false ≡ (x && false)
+      go true = refl
+      go false = refl
 
-pub not-better : (s : Bytes) (after : Option Bytes) (best : Option ℕ) (c : ℕ) → false ≡ above after (name-at s c) → false ≡ better s after best c
-not-better s after none c h = h
-not-better s after (some b) c h = rw (← h)
+  pub better-by : (after : Option Bytes) (best : Found) (t : Bool) → best ≡ At p → r ≡ false → t ≡ above after (name-at s c) → t ≡ better s after (found best) c
+  better-by after best t e u h = rw (e, sym names-by ∙ u) (h ∙ go (above after (name-at s c)))
+    where
+      go : (x : Bool) → x ≡ (x && true)
+      go true = refl
+      go false = refl
 
-pub alone-better : (s : Bytes) (after : Option Bytes) (best : Found) (c : ℕ) → best ≡ Nothing → true ≡ above after (name-at s c) → true ≡ better s after (found best) c
-alone-better s after best c e h = rw e h
+pub alone-better : (s : Bytes) (after : Option Bytes) (best : Found) (c : ℕ) (t : Bool) → best ≡ Nothing → t ≡ above after (name-at s c) → t ≡ better s after (found best) c
+alone-better s after best c t e h = rw e h
 
 pub says-by : (s : Bytes) (c a : ℕ) (w : Bytes) (r : Bool) → r ≡ same (saying s a) w → a ≡ name-of (tree-at s c) → r ≡ same (name-at s c) w
 unfolding name-at

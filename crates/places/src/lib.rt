@@ -243,11 +243,14 @@ fn order(s: &[u8], i: usize, j: usize) -> Ordering
     }
 }
 
-// Whether the string at i is before the one at j.
+// Whether the string at i is before the one at j. The member `after` meets its own name.
 fn is_before(s: &[u8], i: usize, j: usize) -> bool
     requires { ⌜ (length (now s) ≤ 65536) × (i ≤ 65536) × (j ≤ 65536) ⌝ }
     ensures { λ r. ⌜ r ≡ before (saying (now (s .entry)) i) (saying (now (s .entry)) j) ⌝ }
 {
+    if i == j {
+        return false;
+    }
     match order(s, i, j) {
         Ordering::Less => true,
         Ordering::Equal => false,
@@ -278,18 +281,18 @@ fn is_above(s: &[u8], tab: &[u64], after: Found, c: usize) -> bool
     }
 }
 
-// Whether the member at c takes the place of the best one so far.
+// Whether the member at c takes the place of the best one so far. Behind that one most names are told by it alone.
 fn is_better(s: &[u8], tab: &[u64], after: Found, best: Found, c: usize) -> bool
     requires { ⌜ Accepted (now s) (now tab) × FoundIn (now s) after × FoundIn (now s) best × (c < places (now s)) ⌝ }
     ensures { λ r. ⌜ r ≡ better (now (s .entry)) (found-name (now (s .entry)) after) (found best) c ⌝ }
 {
-    if !is_above(s, tab, after, c) {
+    let Found::At(b) = best else {
+        return is_above(s, tab, after, c);
+    };
+    if is_before(s, name(s, tab, b), name(s, tab, c)) {
         return false;
     }
-    match best {
-        Found::At(b) => !is_before(s, name(s, tab, b), name(s, tab, c)),
-        Found::Nothing => true,
-    }
+    is_above(s, tab, after, c)
 }
 
 // The member of the object at i with the least name above that of the one at `after`; the least of all where there is none.
