@@ -9,14 +9,17 @@ use lib.Dec.{leb}
 use lib.ListN.{length}
 use borrow.Author.Tests.{le-leb, lt-leb, leb-true, leb-false}
 use Rattle.rules.specs.Bytes.{Bytes, pick}
-use Rattle.rules.specs.Utf8.{Wants, more, done, follows, utf8}
+use Rattle.rules.specs.Utf8.{Wants, done, follows, utf8}
 use Rattle.rules.specs.Bits.{Bits, bits}
 use Rattle.rules.specs.Layout.{Read, read, broken, onward, Layout, field, num, empty, _then_, shaped, tested, dec-all, tagged}
 use Rattle.rules.specs.Bundle.{string, flag-out, flag-make, flag, option-out, option-make, seg-out, seg-make, seg, segs, level, PathKind}
 use Rattle.rules.specs.Bundle.{path-out, path-make, path, twos-complement, top-bit-set, below-zero, literal-out, literal-make, literal}
 use Rattle.rules.specs.Bundle.{names-out, names-make, block-names, indent}
 use Rattle.rules.specs.BundleLaws.{bits-size}
-use Rattle.bits.specs.Packed.{bytes-at}
+use Rattle.rules.specs.LayoutLaws.{Binary}
+use Rattle.bits.specs.Packed.{bytes-at, number-bytes}
+use Rattle.utf8.specs.Machine.{after as fed}
+use Rattle.layout.specs.Ascii.{follows-run}
 use Rattle.layout.specs.Walk.{next, from, past, unmarked, after, number-at, ahead, marked}
 use Rattle.layout.specs.WalkLaws.{past-shaped, past-then, headed, after-num, ahead-in, kind-is, kind-stays, kind-none}
 use Rattle.layout.specs.Text.{bytes-read, bytes-broken}
@@ -43,7 +46,7 @@ module _ (s : Bytes) (p : Place) (at : ℕ) (m : Bool) (e : p ≡ At at m) where
 pub flag-is : (b : Bits) (p : Place) → ahead b 1 p ≡ after flag b p
 flag-is b p = sym (past-shaped unmarked flag-out flag-make (num 1) b p ∙ after-num 1 b p)
 
--- UTF-8, byte by byte: i bytes of n are read, and w is what is wanted
+-- UTF-8, some bytes at a time: i bytes of n are read, and w is what is wanted
 
 module _ (b : Bits) (at n i : ℕ) (w : Wants) where
   abbrev pub Follows : Bool
@@ -53,13 +56,13 @@ module _ (b : Bits) (at n i : ℕ) (w : Wants) where
   unfolding bytes-at
   utf8-end h = let e : n - i ≡ 0 = omega arith in rw e
 
-  pub utf8-again : (c : ℕ) (v : Wants) → i < n → c ≡ field b 8 (at + 8 * i) → v ≡ more w c
-      → follows (bytes-at b (at + 8 * (i + 1)) (n - (i + 1))) v ≡ Follows
-  unfolding bytes-at
-  utf8-again c v h e f =
-      let k : n - i ≡ suc (n - (i + 1)) = omega arith in
-      let l : at + 8 * i + 8 ≡ at + 8 * (i + 1) = omega arith in
-      rw (k, l, f, e)
+  -- the next k are the last of x
+  pub utf8-again : (bin : Binary b) (k x : ℕ) (v : Wants) → k ≤ n - i → x ≡ field b (8 * k) (at + 8 * i) → v ≡ fed w (number-bytes k x)
+      → follows (bytes-at b (at + 8 * (i + k)) (n - (i + k))) v ≡ Follows
+  utf8-again bin k x v h e f =
+      let l : n - i ≡ k + (n - (i + k)) = omega arith in
+      let m : at + 8 * (i + k) ≡ at + 8 * i + 8 * k = omega arith in
+      rw (l, m, f) (follows-run b bin (at + 8 * i) k (n - (i + k)) x w e)
 
 pub utf8-start : (b : Bits) (at n : ℕ) (w v : Wants) → w ≡ v → Follows b at n 0 w ≡ follows (bytes-at b at n) v
 utf8-start b at n w v h =

@@ -4,3 +4,4 @@ pub mod Text
 pub mod Arms
 pub mod Names
 pub mod Verdict
+pub mod Ascii

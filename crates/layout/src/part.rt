@@ -1,13 +1,15 @@
 // The parts of a bundle that hold neither a call nor a body.
 ghost use mathlib.Core.Path.{_≡_};
-ghost use Prim.Native.Nat.{_+_, _*_, _≤_};
+ghost use Prim.Native.Nat.{_+_, _*_, _≤_, _<_, min};
 ghost use lib.ListN.{length};
 ghost use Rattle.rules.specs.Utf8.{utf8};
 ghost use Rattle.rules.specs.Bits.{bits};
 ghost use Rattle.rules.specs.Layout.{_then_};
 ghost use Rattle.rules.specs.Bundle.{string, flag, seg, segs, level, path, below-zero, literal, block-names, indent};
-ghost use Rattle.bits.specs.Packed.{bytes-at};
+ghost use Rattle.bits.specs.Packed.{bytes-at, number-bytes};
+ghost use Rattle.utf8.specs.Machine.{wanted, after as fed};
 ghost use Rattle.layout.specs.Walk.{after, number-at, ahead, marked};
+ghost use Rattle.layout.specs.Ascii.{ascii};
 use crate::Place;
 
 // The w bits at p as a number, those past the end as 0.
@@ -57,18 +59,81 @@ pub fn flag(b: &[u8], p: Place) -> Place
     ahead(b, p, 1)
 }
 
-// Whether the n bytes from the bit at on are UTF-8.
-fn utf8_at(b: &[u8], at: usize, n: usize) -> bool
-    requires { ⌜ (at ≤ 524288) × (n ≤ 65536) ⌝ }
+fn least(a: usize, b: usize) -> usize
+    ensures { λ r. ⌜ r ≡ min a b ⌝ }
+{
+    if a < b { a } else { b }
+}
+
+// Whether the last 7 bytes of x are all ASCII. The compiler makes one test of these.
+fn is_ascii(x: u64) -> bool
+    ensures { λ r. ⌜ r ≡ ascii (number-bytes 7 x) ⌝ }
+{
+    ((x >> 48) % 256 < 128)
+        & ((x >> 40) % 256 < 128)
+        & ((x >> 32) % 256 < 128)
+        & ((x >> 24) % 256 < 128)
+        & ((x >> 16) % 256 < 128)
+        & ((x >> 8) % 256 < 128)
+        & (x % 256 < 128)
+}
+
+// The machine u behind the last k bytes of x, fed one by one.
+fn stepped(u: utf8::Utf, x: u64, k: usize) -> utf8::Utf
+    requires { ⌜ k ≤ 7 ⌝ }
+    ensures { λ r. ⌜ wanted r ≡ fed (wanted u) (number-bytes k x) ⌝ }
+{
+    let mut v = u;
+    let mut i = k;
+    while 0 < i {
+        i -= 1;
+        v = utf8::step(v, ((x >> (8 * i)) % 256) as u8);
+    }
+    v
+}
+
+// The same. Between two characters ASCII is passed at once.
+fn fed(u: utf8::Utf, x: u64, k: usize) -> utf8::Utf
+    requires { ⌜ (0 < k) × (k ≤ 7) ⌝ }
+    ensures { λ r. ⌜ wanted r ≡ fed (wanted u) (number-bytes k x) ⌝ }
+{
+    if is_ascii(x) {
+        if utf8::is_done(u) {
+            return utf8::start();
+        }
+    }
+    stepped(u, x, k)
+}
+
+// Whether the n bytes from the bit at on are UTF-8. As many bytes as one load holds at any bit are read together.
+fn mixed_at(b: &[u8], at: usize, n: usize) -> bool
+    requires { ⌜ (at ≤ 1048576) × (n ≤ 65536) ⌝ }
     ensures { λ r. ⌜ r ≡ utf8 (bytes-at (bits (now (b .entry))) at n) ⌝ }
 {
     let mut u = utf8::start();
     let mut i: usize = 0;
     while i < n {
-        u = utf8::step(u, bits::byte(b, at + 8 * i));
-        i += 1;
+        let k = least(n - i, 7);
+        u = fed(u, bits::field(b, at + 8 * i, 8 * k), k);
+        i += k;
     }
     utf8::is_done(u)
+}
+
+// The same. Most strings are ASCII: they need no machine.
+fn utf8_at(b: &[u8], at: usize, n: usize) -> bool
+    requires { ⌜ (at ≤ 524288) × (n ≤ 65536) ⌝ }
+    ensures { λ r. ⌜ r ≡ utf8 (bytes-at (bits (now (b .entry))) at n) ⌝ }
+{
+    let mut i: usize = 0;
+    while i < n {
+        let k = least(n - i, 7);
+        if !is_ascii(bits::field(b, at + 8 * i, 8 * k)) {
+            return mixed_at(b, at + 8 * i, n - i);
+        }
+        i += k;
+    }
+    true
 }
 
 // String: byte count (16), UTF-8 bytes.
