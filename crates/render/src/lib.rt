@@ -58,7 +58,7 @@ fn render_elements(
     let mut cur = body.first;
     let mut i: u64 = 0;
     while i < count {
-        let e = template::element_at(b, cur, 16, d - 1);
+        let e = template::content_at(b, cur + 16 + 16, 16, d - 1);
         let element = e.element;
         q = render_element(
             s,
@@ -76,7 +76,7 @@ fn render_elements(
             q,
         );
         if q.bad != 0 {
-            return state::located(q, name, e.line, e.column);
+            return state::located(q, name, bits::field(b, cur, 16), bits::field(b, cur + 16, 16));
         }
         cur = e.next;
         i += 1;
