@@ -7,6 +7,7 @@ ghost use Rattle.rules.specs.Bits.{bits};
 ghost use Rattle.rules.specs.Bundle.{param, params, pairs, call-of};
 ghost use Rattle.parts.specs.Holds.{Holds, end};
 ghost use Rattle.calls.specs.Calls.{param-view, call-view};
+ghost use Rattle.calls.specs.Shorts.{short-view};
 
 // Where the content of a parameter stands.
 pub enum Parameter {
@@ -120,4 +121,39 @@ pub fn call_at(b: &[u8], p: usize, d: usize) -> Call
         pairs: bits::field(b, r, 4),
         pair: r + 4,
     }
+}
+
+// What most calls are.
+pub enum Short {
+    // a name alone: its string
+    Bare(usize),
+    // the name's string, and the only parameter: a path
+    One(usize, usize),
+    Other,
+}
+
+// The call at p, read with few reads where it is short.
+pub fn short_at(b: &[u8], p: usize, d: usize) -> Short
+    requires { ⌜ (length (now b) ≤ 65536) × Holds (call-of (param d)) (bits (now b)) p ⌝ }
+    ensures { λ r. ⌜ r ≡ short-view (bits (now (b .entry))) p ⌝ }
+{
+    // its name's kind, and the count of the string that a name is
+    let x = bits::field(b, p, 18);
+    if 65535 < x {
+        return Short::Other;
+    }
+    let q = p + 18 + 8 * (x as usize);
+    // the count of parameters, and behind it that of pairs or the first parameter's kind: 1 and 1 are one path
+    let y = bits::field(b, q, 8);
+    if y == 0 {
+        return Short::Bare(p + 2);
+    }
+    if y / 4 != 5 {
+        return Short::Other;
+    }
+    let r = parts::skip_path(b, q + 6);
+    if bits::field(b, r, 4) == 0 {
+        return Short::One(p + 2, q + 6);
+    }
+    Short::Other
 }

@@ -8,6 +8,7 @@ use mathlib.Core.Path.{_≡_, refl, sym, ap, _∙_, subst}
 use lib.ListN.{length, getD}
 use borrow.Author.Tests.{ne-eqb}
 use Rattle.rules.specs.Bytes.{Bytes, pick, same, ascii}
+use Rattle.rules.specs.Json.{Json}
 use Rattle.rules.specs.Bits.{Bits, bits}
 use Rattle.rules.specs.Layout.{Layout, field, _then_}
 use Rattle.rules.specs.LayoutLaws.{Binary, field-lt}
@@ -24,13 +25,15 @@ use Rattle.rules.specs.Expand as rules
 use Rattle.layout.specs.Text.{text-at}
 use Rattle.parts.specs.Holds.{Holds, end, row}
 use Rattle.parts.specs.HoldsLaws.{moved, more-holds}
+use Rattle.parts.specs.Says.{path-at}
 use Rattle.calls.specs.Calls.{param-at, params-at, hash-at, name-end, params-end, call-view, no-params, params-more, no-hash, hash-more}
 use Rattle.calls.specs.declared.Call.{Call}
 use Rattle.places.specs.Places.{json-at}
 use Rattle.value.specs.declared.Value.{Value}
-use Rattle.value.specs.declared.Value.the-variants.{Missing}
+use Rattle.value.specs.declared.Value.the-variants.{Missing, Text}
 use Rattle.meaning.specs.Meaning.{json-of, scoped-of}
 use Rattle.meaning.specs.Means.{stands-known}
+use Rattle.meaning.specs.MeaningLaws.{plain-is}
 use Rattle.meaning.specs.Standing.{plain}
 use Rattle.meaning.specs.Truth.{bool-of}
 use Rattle.scope.specs.declared.Scope.{Scope}
@@ -43,7 +46,7 @@ use Rattle.expand.specs.declared.Params.{Params}
 use Rattle.expand.specs.declared.Hash.{Hash}
 use Rattle.expand.specs.declared.Expanded.{Expanded}
 use Rattle.expand.specs.Answers.{Setting, Refuses, Expands, Names, name-of, Works, Begins, ExpandsAll, ExpandsHash, IsExpanded, IsTemplate, ExpandedHeld}
-use Rattle.expand.specs.Answers.{Calls, Finishes, joined, first-of, gathered, GotKnown, zero-or, Paired}
+use Rattle.expand.specs.Answers.{Calls, Finishes, joined, first-of, gathered, bare, with-one, GotKnown, zero-or, Paired}
 use Rattle.expand.proofs.Calling.{as-json-of}
 
 number-some : (r : RenderErrorReason) → number r ≡ 0 → ⊥
@@ -145,6 +148,27 @@ module _ (s b : Bytes) (ent : List ℕ) (t : ℕ) where
   expanded-held l used x w st h e =
       let f = h .fine e in
       record { used = t; room = st .entries; name = f .2 .name-stands; first = f .2 .params .first; second = f .2 .params .second }
+
+-- A call whose name is the string at q, with no parameter or one, and no hash
+module _ (s b : Bytes) (ent : List ℕ) (t q : ℕ) (H : Holds string (bits b) q) (g : Registry) (st : RenderContext) where
+  name-given : Names s b ent t (got (text-at (bits b) q)) (Is (Text q))
+  name-given = (ap (λ (j : Json). got (render j)) (sym (plain-is s b ent (Text q) refl)), plain refl H)
+
+  pub bare-given : IsTemplate s b ent t (rules.try-from-template g st (template.call (template.name (text-at (bits b) q)) template.pnil template.hnil)) (bare q)
+  bare-given = gathered-given s b ent t _ _ _ (Is (Text q)) 0 _ _ name-given (no-params-given s b ent t) (no-hash-given s b ent t)
+
+  abbrev with-path : ℕ → template.Call
+  with-path v = template.call (template.name (text-at (bits b) q)) (template.pcons (template.path (path-at (bits b) v)) template.pnil) template.hnil
+
+  pub one-given : (v : ℕ) (r : Got) → Expands s b ent t (rules.evaluate2 g st (path-at (bits b) v)) r → IsTemplate s b ent t (rules.try-from-template g st (with-path v)) (with-one q r)
+  one-given v (Is w) h =
+      gathered-given s b ent t _ _ _ (Is (Text q)) 1 _ _ name-given (joined-given s b ent t _ _ (Is w) _ 0 h (no-params-given s b ent t)) (no-hash-given s b ent t)
+  one-given v (Bad n) h =
+      stops (IsExpanded s b ent t (with-one q (Bad n)))
+      (wth (rules.evaluate2 g st (path-at (bits b) v)) (λ (w : ScopedJson). got (w ∷ [])))
+      (λ (vs : List ScopedJson). got (record { name = text-at (bits b) q; params = vs; hash = [] }))
+      n
+      (onward (rules.evaluate2 g st (path-at (bits b) v)) _ n h)
 
 -- Where working out was refused
 module _ (s b : Bytes) (ent : List ℕ) (used : ℕ) (o : Options) (w : Expanded) where

@@ -21,7 +21,7 @@ use Rattle.rules.specs.Expand as rules
 use Rattle.layout.specs.Text.{text-at}
 use Rattle.places.specs.Places.{json-at}
 use Rattle.value.specs.declared.Value.{Value}
-use Rattle.value.specs.declared.Value.the-variants.{Missing, Empty}
+use Rattle.value.specs.declared.Value.the-variants.{Missing, Empty, Text}
 use Rattle.meaning.specs.Meaning.{json-of, scoped-of}
 use Rattle.meaning.specs.Standing.{Stands}
 use Rattle.meaning.specs.Forms.{Known}
@@ -158,6 +158,14 @@ first-of x y = pick (eqb x 0) y x
 abbrev pub gathered : Got → ℕ → Params → Hash → Expanded
 gathered (Is v) n ps hs = record { name = v; count = n; first = ps .first; second = ps .second; zero = hs .zero; bad = first-of (ps .bad) (hs .bad) }
 gathered (Bad x) n ps hs = record { name = Missing; count = 0; first = Missing; second = Missing; zero = false; bad = x }
+
+-- a call that is the string at q and no hash, with no parameter or one
+abbrev pub bare : ℕ → Expanded
+bare q = record { name = Text q; count = 0; first = Missing; second = Missing; zero = false; bad = 0 }
+
+abbrev pub with-one : ℕ → Got → Expanded
+with-one q (Is v) = record { name = Text q; count = 1; first = v; second = Missing; zero = false; bad = 0 }
+with-one q (Bad n) = record { name = Text q; count = 1; first = Missing; second = Missing; zero = false; bad = n }
 
 abbrev pub GotKnown : Bytes → Bytes → Got → Type 0
 GotKnown s b (Is v) = Known s b v

@@ -24,8 +24,9 @@ ghost use Rattle.meaning.specs.Means.{Means};
 ghost use Rattle.scope.specs.Words.{scopes-of};
 ghost use Rattle.scope.specs.Standing.{ScopesStand};
 ghost use Rattle.context.specs.Evaluated.{present};
-ghost use Rattle.expand.specs.Answers.{Setting, Expands, Names, ExpandsAll, ExpandsHash, IsTemplate, ExpandedHeld, helper-of, written, in-scope, unless-strict, Calls, Finishes, joined, first-of, gathered, zero-or, GotKnown, Paired};
+ghost use Rattle.expand.specs.Answers.{Setting, Expands, Names, ExpandsAll, ExpandsHash, IsTemplate, ExpandedHeld, helper-of, written, in-scope, unless-strict, Calls, Finishes, joined, first-of, gathered, bare, with-one, zero-or, GotKnown, Paired};
 use calls::Parameter;
+use calls::Short;
 use context::Evaluated;
 use lookup::Found;
 use meaning::Form;
@@ -389,6 +390,44 @@ fn gathered(name: Got, n: u64, ps: Params, hs: Hash) -> Expanded
     }
 }
 
+// The same of a name alone, the string at q.
+fn bare(q: usize) -> Expanded
+    ensures { λ x. ⌜ x ≡ bare q ⌝ }
+{
+    Expanded {
+        name: Value::Text(q),
+        count: 0,
+        first: Value::Missing,
+        second: Value::Missing,
+        zero: false,
+        bad: 0,
+    }
+}
+
+// The same of the string at q as the name, and one parameter.
+fn with_one(q: usize, r: Got) -> Expanded
+    ensures { λ x. ⌜ x ≡ with-one q r ⌝ }
+{
+    match r {
+        Got::Is(v) => Expanded {
+            name: Value::Text(q),
+            count: 1,
+            first: v,
+            second: Value::Missing,
+            zero: false,
+            bad: 0,
+        },
+        Got::Bad(n) => Expanded {
+            name: Value::Text(q),
+            count: 1,
+            first: Value::Missing,
+            second: Value::Missing,
+            zero: false,
+            bad: n,
+        },
+    }
+}
+
 fn first_of(x: u8, y: u8) -> u8
     ensures { λ r. ⌜ r ≡ first-of x y ⌝ }
 {
@@ -465,8 +504,8 @@ fn expand_hash(
     paired(s, tab, b, p, r, rest)
 }
 
-// What the call at p works out.
-pub fn try_from_template(
+// What the call at p works out, part by part.
+fn from_template(
     s: &[u8],
     tab: &[u64],
     b: &[u8],
@@ -508,7 +547,7 @@ pub fn expand(
         Parameter::Path(q) => path_value(s, tab, b, ent, sc, used, options, q),
         Parameter::Literal(q) => Got::Is(Value::Literal(q)),
         Parameter::Subexpression(q) => {
-            let w = try_from_template(s, tab, b, ent, sc, used, options, q, d - 1);
+            let w = from_template(s, tab, b, ent, sc, used, options, q, d - 1);
             finished(s, tab, b, ent, used, options, w)
         }
     }
@@ -535,8 +574,31 @@ pub fn expand_as_name(
         Parameter::Path(q) => Got::Is(Value::Text(q)),
         Parameter::Literal(q) => Got::Is(Value::Literal(q)),
         Parameter::Subexpression(q) => {
-            let w = try_from_template(s, tab, b, ent, sc, used, options, q, d - 1);
+            let w = from_template(s, tab, b, ent, sc, used, options, q, d - 1);
             finished(s, tab, b, ent, used, options, w)
         }
+    }
+}
+
+// What the call at p works out. Most calls are short: a name alone, or a name and a path.
+pub fn try_from_template(
+    s: &[u8],
+    tab: &[u64],
+    b: &[u8],
+    ent: &[u64],
+    sc: &[u64],
+    used: usize,
+    options: Options,
+    p: usize,
+    d: usize,
+) -> Expanded
+    requires { ⌜ Accepted (now s) (now tab) × (length (now b) ≤ 65536) × (0 < used) × (used ≤ 32) × ((t : ℕ) × ScopesStand (now s) (now b) (now ent) (scopes-of (now sc)) used t) × Holds (call-of (param d)) (bits (now b)) p × (length (now sc) ≡ 96) ⌝ }
+    ensures { λ r. ⌜ ((g : Registry) (st : RenderContext) (t : ℕ) → Setting (now (s .entry)) (now (b .entry)) (now (ent .entry)) (scopes-of (now (sc .entry))) used options g st t → IsTemplate (now (s .entry)) (now (b .entry)) (now (ent .entry)) t (rules.try-from-template g st (call-at d (bits (now (b .entry))) p)) r) ⌝ }
+{
+    let x = calls::short_at(b, p, d);
+    match x {
+        Short::Bare(q) => bare(q),
+        Short::One(q, v) => with_one(q, path_value(s, tab, b, ent, sc, used, options, v)),
+        Short::Other => from_template(s, tab, b, ent, sc, used, options, p, d),
     }
 }

@@ -1,4 +1,4 @@
--- `expand::+expand+expand_all+expand_as_name+expand_hash+try_from_template` meets its contract.
+-- `expand::+expand+expand_all+expand_as_name+expand_hash+from_template` meets its contract.
 use native.Mathlib.Omega.{arith}
 use Prim.Native.Nat.{ℕ, _+_, _-_, _*_, _<_}
 use mathlib.Core.Path.{refl, sym, ap, _∙_, subst}
@@ -32,26 +32,26 @@ use borrow.Fn.Kinds.{In}
 use borrow.Fn.PlainCycle.{Measures, is, falls, and}
 use Rattle.expand.proofs.expand.Reads as expand
 use Rattle.expand.proofs.expand.Kinds as expand-kinds
-use Rattle.expand.proofs.+expand+expand_all+expand_as_name+expand_hash+try_from_template.Lts-expand as expand-lts
+use Rattle.expand.proofs.+expand+expand_all+expand_as_name+expand_hash+from_template.Lts-expand as expand-lts
 use Rattle.expand.proofs.expand_all.Reads as expand-all
 use Rattle.expand.proofs.expand_all.Kinds as expand-all-kinds
-use Rattle.expand.proofs.+expand+expand_all+expand_as_name+expand_hash+try_from_template.Lts-expand_all as expand-all-lts
+use Rattle.expand.proofs.+expand+expand_all+expand_as_name+expand_hash+from_template.Lts-expand_all as expand-all-lts
 use Rattle.expand.proofs.expand_as_name.Reads as expand-as-name
 use Rattle.expand.proofs.expand_as_name.Kinds as expand-as-name-kinds
-use Rattle.expand.proofs.+expand+expand_all+expand_as_name+expand_hash+try_from_template.Lts-expand_as_name as expand-as-name-lts
+use Rattle.expand.proofs.+expand+expand_all+expand_as_name+expand_hash+from_template.Lts-expand_as_name as expand-as-name-lts
 use Rattle.expand.proofs.expand_hash.Reads as expand-hash
 use Rattle.expand.proofs.expand_hash.Kinds as expand-hash-kinds
-use Rattle.expand.proofs.+expand+expand_all+expand_as_name+expand_hash+try_from_template.Lts-expand_hash as expand-hash-lts
-use Rattle.expand.proofs.try_from_template.Reads as try-from-template
-use Rattle.expand.proofs.try_from_template.Kinds as try-from-template-kinds
-use Rattle.expand.proofs.+expand+expand_all+expand_as_name+expand_hash+try_from_template.Lts-try_from_template as try-from-template-lts
+use Rattle.expand.proofs.+expand+expand_all+expand_as_name+expand_hash+from_template.Lts-expand_hash as expand-hash-lts
+use Rattle.expand.proofs.from_template.Reads as from-template
+use Rattle.expand.proofs.from_template.Kinds as from-template-kinds
+use Rattle.expand.proofs.+expand+expand_all+expand_as_name+expand_hash+from_template.Lts-from_template as from-template-lts
 use Rattle.expand.proofs.finished.Reads as finished-reads
 use Rattle.expand.proofs.gathered.Reads as gathered-reads
 use Rattle.expand.proofs.joined.Reads as joined-reads
 use Rattle.expand.proofs.paired.Reads as paired-reads
 use Rattle.expand.proofs.path_value.Reads as path-value-reads
-use Rattle.expand.proofs.+expand+expand_all+expand_as_name+expand_hash+try_from_template.{statement}
-use Rattle.expand.proofs.+expand+expand_all+expand_as_name+expand_hash+try_from_template.Tie.{close}
+use Rattle.expand.proofs.+expand+expand_all+expand_as_name+expand_hash+from_template.{statement}
+use Rattle.expand.proofs.+expand+expand_all+expand_as_name+expand_hash+from_template.Tie.{close}
 
 abbrev μ-expand : Measures 5 expand-kinds.ps ℕ
 μ-expand κs a = 64 * a .1 .1 .1 .1 .1 .1 .1 .1 .0
@@ -65,8 +65,8 @@ abbrev μ-expand-as-name : Measures 5 expand-as-name-kinds.ps ℕ
 abbrev μ-expand-hash : Measures 5 expand-hash-kinds.ps ℕ
 μ-expand-hash κs a = 64 * a .1 .1 .1 .1 .1 .1 .1 .1 .1 .0 + 2 + a .1 .1 .1 .1 .1 .1 .1 .1 .0
 
-abbrev μ-try-from-template : Measures 5 try-from-template-kinds.ps ℕ
-μ-try-from-template κs a = 64 * a .1 .1 .1 .1 .1 .1 .1 .1 .0 + 32
+abbrev μ-from-template : Measures 5 from-template-kinds.ps ℕ
+μ-from-template κs a = 64 * a .1 .1 .1 .1 .1 .1 .1 .1 .0 + 32
 
 abbrev expand-at : ℕ → In 5 expand-kinds.ps
 expand-at t = and 5 expand-kinds.ps (is 5 expand-kinds.ps μ-expand t) expand.Pre
@@ -106,36 +106,36 @@ abbrev expand-hash-below : ℕ → In 5 expand-hash-kinds.ps
 expand-hash-below t =
     and 5 expand-hash-kinds.ps (falls 5 expand-hash-kinds.ps _<_ μ-expand-hash t) expand-hash.Pre
 
-abbrev try-from-template-at : ℕ → In 5 try-from-template-kinds.ps
-try-from-template-at t =
+abbrev from-template-at : ℕ → In 5 from-template-kinds.ps
+from-template-at t =
     and
     5
-    try-from-template-kinds.ps
-    (is 5 try-from-template-kinds.ps μ-try-from-template t)
-    try-from-template.Pre
+    from-template-kinds.ps
+    (is 5 from-template-kinds.ps μ-from-template t)
+    from-template.Pre
 
-abbrev try-from-template-below : ℕ → In 5 try-from-template-kinds.ps
-try-from-template-below t =
+abbrev from-template-below : ℕ → In 5 from-template-kinds.ps
+from-template-below t =
     and
     5
-    try-from-template-kinds.ps
-    (falls 5 try-from-template-kinds.ps _<_ μ-try-from-template t)
-    try-from-template.Pre
+    from-template-kinds.ps
+    (falls 5 from-template-kinds.ps _<_ μ-from-template t)
+    from-template.Pre
 
 abbrev expand-claims : ℕ → expand-lts.Claims
-expand-claims t = (param-at-reads.Asked, param-at-reads.Learnt, path-value-reads.Asked, path-value-reads.Learnt, try-from-template-below t, try-from-template.Post, finished-reads.Asked, finished-reads.Learnt)
+expand-claims t = (param-at-reads.Asked, param-at-reads.Learnt, path-value-reads.Asked, path-value-reads.Learnt, from-template-below t, from-template.Post, finished-reads.Asked, finished-reads.Learnt)
 
 abbrev expand-all-claims : ℕ → expand-all-lts.Claims
 expand-all-claims t = (expand-below t, expand.Post, joined-reads.Asked, joined-reads.Learnt, skip-param-reads.Asked, skip-param-reads.Learnt, expand-all-below t, expand-all.Post)
 
 abbrev expand-as-name-claims : ℕ → expand-as-name-lts.Claims
-expand-as-name-claims t = (param-at-reads.Asked, param-at-reads.Learnt, try-from-template-below t, try-from-template.Post, finished-reads.Asked, finished-reads.Learnt)
+expand-as-name-claims t = (param-at-reads.Asked, param-at-reads.Learnt, from-template-below t, from-template.Post, finished-reads.Asked, finished-reads.Learnt)
 
 abbrev expand-hash-claims : ℕ → expand-hash-lts.Claims
 expand-hash-claims t = (skip-string-reads.Asked, skip-string-reads.Learnt, expand-below t, expand.Post, paired-reads.Asked, paired-reads.Learnt, skip-param-reads.Asked, skip-param-reads.Learnt, expand-hash-below t, expand-hash.Post)
 
-abbrev try-from-template-claims : ℕ → try-from-template-lts.Claims
-try-from-template-claims t = (call-at-reads.Asked, call-at-reads.Learnt, expand-as-name-below t, expand-as-name.Post, expand-all-below t, expand-all.Post, expand-hash-below t, expand-hash.Post, gathered-reads.Asked, gathered-reads.Learnt)
+abbrev from-template-claims : ℕ → from-template-lts.Claims
+from-template-claims t = (call-at-reads.Asked, call-at-reads.Learnt, expand-as-name-below t, expand-as-name.Post, expand-all-below t, expand-all.Post, expand-hash-below t, expand-hash.Post, gathered-reads.Asked, gathered-reads.Learnt)
 
 expand-param-at-requires : (t : ℕ) → expand-lts.Need-param-at-requires (expand-claims t) (expand-at t) expand.Post
 expand-param-at-requires t c κs = let z = c .before .before .before .before .before in omega (arith, z .pre .1 .1, param-fits (z .args .d) (bits (z .args .b .now)) (z .args .p) (z .pre .1 .5), bits-size (z .args .b .now))
@@ -155,14 +155,14 @@ expand-enum-known-x-2 t c = search needs
 expand-enum-known-x-3 : (t : ℕ) → expand-lts.Need-enum-known-x-3 (expand-claims t) (expand-at t) expand.Post
 expand-enum-known-x-3 t c = search needs
 
-expand-sub-try-from-template : (t : ℕ) → expand-lts.Need-sub-try-from-template (expand-claims t) (expand-at t) expand.Post
-expand-sub-try-from-template t c = let z = c .before .before .before .before .before .before .before .before .before in omega (arith, param-stands (z .args .d) (bits (z .args .b .now)) (z .args .p) (z .pre .1 .5) .deep)
+expand-sub-from-template : (t : ℕ) → expand-lts.Need-sub-from-template (expand-claims t) (expand-at t) expand.Post
+expand-sub-from-template t c = let z = c .before .before .before .before .before .before .before .before .before in omega (arith, param-stands (z .args .d) (bits (z .args .b .now)) (z .args .p) (z .pre .1 .5) .deep)
 
-expand-try-from-template-requires : (t : ℕ) → expand-lts.Need-try-from-template-requires (expand-claims t) (expand-at t) expand.Post
-expand-try-from-template-requires t c κs = let z = c .before .before .before .before .before .before .before .before .before in let x = subst (ParamStands (z .args .d) (bits (z .args .b .now)) (z .args .p)) (sym (c .before .before .before .param-at .ensures) ∙ c .before .x3 .given .1) (param-stands (z .args .d) (bits (z .args .b .now)) (z .args .p) (z .pre .1 .5)) in (omega (arith, param-stands (z .args .d) (bits (z .args .b .now)) (z .args .p) (z .pre .1 .5) .deep), (z .pre .1 .0, z .pre .1 .1, z .pre .1 .2, z .pre .1 .3, z .pre .1 .4, x .parts, z .pre .1 .6))
+expand-from-template-requires : (t : ℕ) → expand-lts.Need-from-template-requires (expand-claims t) (expand-at t) expand.Post
+expand-from-template-requires t c κs = let z = c .before .before .before .before .before .before .before .before .before in let x = subst (ParamStands (z .args .d) (bits (z .args .b .now)) (z .args .p)) (sym (c .before .before .before .param-at .ensures) ∙ c .before .x3 .given .1) (param-stands (z .args .d) (bits (z .args .b .now)) (z .args .p) (z .pre .1 .5)) in (omega (arith, param-stands (z .args .d) (bits (z .args .b .now)) (z .args .p) (z .pre .1 .5) .deep), (z .pre .1 .0, z .pre .1 .1, z .pre .1 .2, z .pre .1 .3, z .pre .1 .4, x .parts, z .pre .1 .6))
 
 expand-finished-requires : (t : ℕ) → expand-lts.Need-finished-requires (expand-claims t) (expand-at t) expand.Post
-expand-finished-requires t c κs = let z = c .before .before .before .before .before .before .before .before .before .before in let w = some-setting (z .args .s .now) (z .args .b .now) (z .args .ent .now) (scopes-of (z .args .sc .now)) (z .args .used) (z .args .options) (z .pre .1 .2) (z .pre .1 .4) in (z .pre .1 .0, z .pre .1 .1, λ e. expanded-held (z .args .s .now) (z .args .b .now) (z .args .ent .now) (w .t) (scopes-of (z .args .sc .now)) (z .args .used) _ (c .try-from-template .result) (w .setting .stand) (c .try-from-template .ensures (w .g) (w .st) (w .t) (w .setting)) e)
+expand-finished-requires t c κs = let z = c .before .before .before .before .before .before .before .before .before .before in let w = some-setting (z .args .s .now) (z .args .b .now) (z .args .ent .now) (scopes-of (z .args .sc .now)) (z .args .used) (z .args .options) (z .pre .1 .2) (z .pre .1 .4) in (z .pre .1 .0, z .pre .1 .1, λ e. expanded-held (z .args .s .now) (z .args .b .now) (z .args .ent .now) (w .t) (scopes-of (z .args .sc .now)) (z .args .used) _ (c .from-template .result) (w .setting .stand) (c .from-template .ensures (w .g) (w .st) (w .t) (w .setting)) e)
 
 expand-returns : (t : ℕ) → expand-lts.Need-returns (expand-claims t) (expand-at t) expand.Post
 expand-returns t c = let z = c .before .before .before .before .before .before .before .before in let x = subst (ParamStands (z .args .d) (bits (z .args .b .now)) (z .args .p)) (sym (c .before .before .param-at .ensures) ∙ c .enum-told .given .1) (param-stands (z .args .d) (bits (z .args .b .now)) (z .args .p) (z .pre .1 .5)) in λ g st t h. (ap (rules.expand g st) (x .is), plain refl tt)
@@ -174,7 +174,7 @@ expand-returns-3 : (t : ℕ) → expand-lts.Need-returns-3 (expand-claims t) (ex
 expand-returns-3 t c = let z = c .before .before .before .before .before .before .before .before .before in let x = subst (ParamStands (z .args .d) (bits (z .args .b .now)) (z .args .p)) (sym (c .before .before .before .param-at .ensures) ∙ c .before .x2 .given .1) (param-stands (z .args .d) (bits (z .args .b .now)) (z .args .p) (z .pre .1 .5)) in λ g st t h. (ap (rules.expand g st) (x .is) ∙ ap (λ (j : Json). got (derived j)) (sym (plain-is (z .args .s .now) (z .args .b .now) (z .args .ent .now) (Literal (c .before .x2 .given .0 .0)) refl)), plain refl (x .parts))
 
 expand-returns-4 : (t : ℕ) → expand-lts.Need-returns-4 (expand-claims t) (expand-at t) expand.Post
-expand-returns-4 t c = let z = c .before .before .before .before .before .before .before .before .before .before .before in let x = subst (ParamStands (z .args .d) (bits (z .args .b .now)) (z .args .p)) (sym (c .before .before .before .before .before .param-at .ensures) ∙ c .before .before .before .x3 .given .1) (param-stands (z .args .d) (bits (z .args .b .now)) (z .args .p) (z .pre .1 .5)) in λ g st t h. subst (λ (y : rule.Got ScopedJson). Expands (z .args .s .now) (z .args .b .now) (z .args .ent .now) t y (c .finished .result)) (sym (ap (rules.expand g st) (x .is))) (c .finished .ensures g st t (rules.try-from-template g st (call-at (z .args .d - 1) (bits (z .args .b .now)) (c .before .before .before .x3 .given .0 .0))) (h .alike) (c .before .try-from-template .ensures g st t h))
+expand-returns-4 t c = let z = c .before .before .before .before .before .before .before .before .before .before .before in let x = subst (ParamStands (z .args .d) (bits (z .args .b .now)) (z .args .p)) (sym (c .before .before .before .before .before .param-at .ensures) ∙ c .before .before .before .x3 .given .1) (param-stands (z .args .d) (bits (z .args .b .now)) (z .args .p) (z .pre .1 .5)) in λ g st t h. subst (λ (y : rule.Got ScopedJson). Expands (z .args .s .now) (z .args .b .now) (z .args .ent .now) t y (c .finished .result)) (sym (ap (rules.expand g st) (x .is))) (c .finished .ensures g st t (rules.try-from-template g st (call-at (z .args .d - 1) (bits (z .args .b .now)) (c .before .before .before .x3 .given .0 .0))) (h .alike) (c .before .from-template .ensures g st t h))
 
 expand-all-returns : (t : ℕ) → expand-all-lts.Need-returns (expand-all-claims t) (expand-all-at t) expand-all.Post
 expand-all-returns t c = let z = c .before .before .before .before .before .before in λ g st t h. all-none (z .args .s .now) (z .args .b .now) (z .args .ent .now) t (z .args .d) (z .args .n) (z .args .p) g st (c .if1 .taken)
@@ -218,15 +218,15 @@ expand-as-name-enum-known-x-3 t c = search needs
 expand-as-name-enum-known-x-4 : (t : ℕ) → expand-as-name-lts.Need-enum-known-x-4 (expand-as-name-claims t) (expand-as-name-at t) expand-as-name.Post
 expand-as-name-enum-known-x-4 t c = search needs
 
-expand-as-name-sub-try-from-template : (t : ℕ) → expand-as-name-lts.Need-sub-try-from-template (expand-as-name-claims t) (expand-as-name-at t) expand-as-name.Post
-expand-as-name-sub-try-from-template t c = let z = c .before .before .before .before .before .before .before .before .before in omega (arith, param-stands (z .args .d) (bits (z .args .b .now)) (z .args .p) (z .pre .1 .5) .deep)
+expand-as-name-sub-from-template : (t : ℕ) → expand-as-name-lts.Need-sub-from-template (expand-as-name-claims t) (expand-as-name-at t) expand-as-name.Post
+expand-as-name-sub-from-template t c = let z = c .before .before .before .before .before .before .before .before .before in omega (arith, param-stands (z .args .d) (bits (z .args .b .now)) (z .args .p) (z .pre .1 .5) .deep)
 
-expand-as-name-try-from-template-requires :
-    (t : ℕ) → expand-as-name-lts.Need-try-from-template-requires (expand-as-name-claims t) (expand-as-name-at t) expand-as-name.Post
-expand-as-name-try-from-template-requires t c κs = let z = c .before .before .before .before .before .before .before .before .before in let x = subst (ParamStands (z .args .d) (bits (z .args .b .now)) (z .args .p)) (sym (c .before .before .before .param-at .ensures) ∙ c .before .x4 .given .1) (param-stands (z .args .d) (bits (z .args .b .now)) (z .args .p) (z .pre .1 .5)) in (omega (arith, param-stands (z .args .d) (bits (z .args .b .now)) (z .args .p) (z .pre .1 .5) .deep), (z .pre .1 .0, z .pre .1 .1, z .pre .1 .2, z .pre .1 .3, z .pre .1 .4, x .parts, z .pre .1 .6))
+expand-as-name-from-template-requires :
+    (t : ℕ) → expand-as-name-lts.Need-from-template-requires (expand-as-name-claims t) (expand-as-name-at t) expand-as-name.Post
+expand-as-name-from-template-requires t c κs = let z = c .before .before .before .before .before .before .before .before .before in let x = subst (ParamStands (z .args .d) (bits (z .args .b .now)) (z .args .p)) (sym (c .before .before .before .param-at .ensures) ∙ c .before .x4 .given .1) (param-stands (z .args .d) (bits (z .args .b .now)) (z .args .p) (z .pre .1 .5)) in (omega (arith, param-stands (z .args .d) (bits (z .args .b .now)) (z .args .p) (z .pre .1 .5) .deep), (z .pre .1 .0, z .pre .1 .1, z .pre .1 .2, z .pre .1 .3, z .pre .1 .4, x .parts, z .pre .1 .6))
 
 expand-as-name-finished-requires : (t : ℕ) → expand-as-name-lts.Need-finished-requires (expand-as-name-claims t) (expand-as-name-at t) expand-as-name.Post
-expand-as-name-finished-requires t c κs = let z = c .before .before .before .before .before .before .before .before .before .before in let w = some-setting (z .args .s .now) (z .args .b .now) (z .args .ent .now) (scopes-of (z .args .sc .now)) (z .args .used) (z .args .options) (z .pre .1 .2) (z .pre .1 .4) in (z .pre .1 .0, z .pre .1 .1, λ e. expanded-held (z .args .s .now) (z .args .b .now) (z .args .ent .now) (w .t) (scopes-of (z .args .sc .now)) (z .args .used) _ (c .try-from-template .result) (w .setting .stand) (c .try-from-template .ensures (w .g) (w .st) (w .t) (w .setting)) e)
+expand-as-name-finished-requires t c κs = let z = c .before .before .before .before .before .before .before .before .before .before in let w = some-setting (z .args .s .now) (z .args .b .now) (z .args .ent .now) (scopes-of (z .args .sc .now)) (z .args .used) (z .args .options) (z .pre .1 .2) (z .pre .1 .4) in (z .pre .1 .0, z .pre .1 .1, λ e. expanded-held (z .args .s .now) (z .args .b .now) (z .args .ent .now) (w .t) (scopes-of (z .args .sc .now)) (z .args .used) _ (c .from-template .result) (w .setting .stand) (c .from-template .ensures (w .g) (w .st) (w .t) (w .setting)) e)
 
 expand-as-name-returns : (t : ℕ) → expand-as-name-lts.Need-returns (expand-as-name-claims t) (expand-as-name-at t) expand-as-name.Post
 expand-as-name-returns t c = let z = c .before .before .before .before .before .before .before .before .before in let x = subst (ParamStands (z .args .d) (bits (z .args .b .now)) (z .args .p)) (sym (c .before .before .before .param-at .ensures) ∙ c .before .x .given .1) (param-stands (z .args .d) (bits (z .args .b .now)) (z .args .p) (z .pre .1 .5)) in λ g st t h. (ap (rules.expand-as-name g st) (x .is) ∙ ap (λ (j : Json). got (render j)) (sym (plain-is (z .args .s .now) (z .args .b .now) (z .args .ent .now) (Text (c .before .x .given .0 .0)) refl)), plain refl (x .parts))
@@ -238,7 +238,7 @@ expand-as-name-returns-3 : (t : ℕ) → expand-as-name-lts.Need-returns-3 (expa
 expand-as-name-returns-3 t c = let z = c .before .before .before .before .before .before .before .before .before in let x = subst (ParamStands (z .args .d) (bits (z .args .b .now)) (z .args .p)) (sym (c .before .before .before .param-at .ensures) ∙ c .before .x3 .given .1) (param-stands (z .args .d) (bits (z .args .b .now)) (z .args .p) (z .pre .1 .5)) in λ g st t h. (ap (rules.expand-as-name g st) (x .is) ∙ ap (λ (j : Json). got (render j)) (sym (plain-is (z .args .s .now) (z .args .b .now) (z .args .ent .now) (Literal (c .before .x3 .given .0 .0)) refl)), plain refl (x .parts))
 
 expand-as-name-returns-4 : (t : ℕ) → expand-as-name-lts.Need-returns-4 (expand-as-name-claims t) (expand-as-name-at t) expand-as-name.Post
-expand-as-name-returns-4 t c = let z = c .before .before .before .before .before .before .before .before .before .before .before in let x = subst (ParamStands (z .args .d) (bits (z .args .b .now)) (z .args .p)) (sym (c .before .before .before .before .before .param-at .ensures) ∙ c .before .before .before .x4 .given .1) (param-stands (z .args .d) (bits (z .args .b .now)) (z .args .p) (z .pre .1 .5)) in λ g st t h. subst (λ (y : rule.Got Bytes). Names (z .args .s .now) (z .args .b .now) (z .args .ent .now) t y (c .finished .result)) (sym (ap (rules.expand-as-name g st) (x .is))) (named-given (z .args .s .now) (z .args .b .now) (z .args .ent .now) t _ (c .finished .result) (c .finished .ensures g st t (rules.try-from-template g st (call-at (z .args .d - 1) (bits (z .args .b .now)) (c .before .before .before .x4 .given .0 .0))) (h .alike) (c .before .try-from-template .ensures g st t h)))
+expand-as-name-returns-4 t c = let z = c .before .before .before .before .before .before .before .before .before .before .before in let x = subst (ParamStands (z .args .d) (bits (z .args .b .now)) (z .args .p)) (sym (c .before .before .before .before .before .param-at .ensures) ∙ c .before .before .before .x4 .given .1) (param-stands (z .args .d) (bits (z .args .b .now)) (z .args .p) (z .pre .1 .5)) in λ g st t h. subst (λ (y : rule.Got Bytes). Names (z .args .s .now) (z .args .b .now) (z .args .ent .now) t y (c .finished .result)) (sym (ap (rules.expand-as-name g st) (x .is))) (named-given (z .args .s .now) (z .args .b .now) (z .args .ent .now) t _ (c .finished .result) (c .finished .ensures g st t (rules.try-from-template g st (call-at (z .args .d - 1) (bits (z .args .b .now)) (c .before .before .before .x4 .given .0 .0))) (h .alike) (c .before .from-template .ensures g st t h)))
 
 expand-hash-returns : (t : ℕ) → expand-hash-lts.Need-returns (expand-hash-claims t) (expand-hash-at t) expand-hash.Post
 expand-hash-returns t c = let z = c .before .before .before .before .before .before in λ g st t h. hash-none (z .args .s .now) (z .args .b .now) (z .args .ent .now) t (z .args .d) (z .args .n) (z .args .p) g st (c .if1 .taken)
@@ -270,34 +270,34 @@ expand-hash-paired-requires-2 t c κs = let z = c .before .before .before .befor
 expand-hash-returns-3 : (t : ℕ) → expand-hash-lts.Need-returns-3 (expand-hash-claims t) (expand-hash-at t) expand-hash.Post
 expand-hash-returns-3 t c = let z = c .before .before .before .before .before .before .before .before .before .before .before .before in λ g st t h. hash-one-more (z .args .s .now) (z .args .b .now) (z .args .ent .now) t (z .args .d) (z .args .n) (z .args .p) g st (c .before .before .before .before .before .before .if1 .left) (z .pre .1 .6) _ (c .before .before .before .before .before .skip-string .ensures) (c .before .before .before .before .expand .result) (c .before .before .before .before .expand .ensures g st t h) _ (pair-next (z .args .d) (bits (z .args .b .now)) (z .args .p) (row-first (string then param (z .args .d)) (z .args .n) (bits (z .args .b .now)) (z .args .p) (c .before .before .before .before .before .before .if1 .left) (z .pre .1 .6)) _ (c .before .before .before .before .before .skip-string .ensures) _ (c .before .before .skip-param .ensures)) (c .before .expand-hash .result) (c .before .expand-hash .ensures g st t h) (c .paired2 .result) (c .paired2 .ensures)
 
-try-from-template-call-at-requires : (t : ℕ) → try-from-template-lts.Need-call-at-requires (try-from-template-claims t) (try-from-template-at t) try-from-template.Post
-try-from-template-call-at-requires t c κs = (c .before .before .before .before .before .pre .1 .1, c .before .before .before .before .before .pre .1 .5)
+from-template-call-at-requires : (t : ℕ) → from-template-lts.Need-call-at-requires (from-template-claims t) (from-template-at t) from-template.Post
+from-template-call-at-requires t c κs = (c .before .before .before .before .before .pre .1 .1, c .before .before .before .before .before .pre .1 .5)
 
-try-from-template-expand-as-name-requires :
-    (t : ℕ) → try-from-template-lts.Need-expand-as-name-requires (try-from-template-claims t) (try-from-template-at t) try-from-template.Post
-try-from-template-expand-as-name-requires t c κs = let z = c .before .before .before .before .before .before in let x = subst (CallStands (z .args .d) (bits (z .args .b .now)) (z .args .p)) (sym (c .call-at .ensures)) (call-stands (z .args .d) (bits (z .args .b .now)) (z .args .p) (z .pre .1 .5)) in (omega arith, (z .pre .1 .0, z .pre .1 .1, z .pre .1 .2, z .pre .1 .3, z .pre .1 .4, x .name, z .pre .1 .6))
+from-template-expand-as-name-requires :
+    (t : ℕ) → from-template-lts.Need-expand-as-name-requires (from-template-claims t) (from-template-at t) from-template.Post
+from-template-expand-as-name-requires t c κs = let z = c .before .before .before .before .before .before in let x = subst (CallStands (z .args .d) (bits (z .args .b .now)) (z .args .p)) (sym (c .call-at .ensures)) (call-stands (z .args .d) (bits (z .args .b .now)) (z .args .p) (z .pre .1 .5)) in (omega arith, (z .pre .1 .0, z .pre .1 .1, z .pre .1 .2, z .pre .1 .3, z .pre .1 .4, x .name, z .pre .1 .6))
 
-try-from-template-expand-all-requires : (t : ℕ) → try-from-template-lts.Need-expand-all-requires (try-from-template-claims t) (try-from-template-at t) try-from-template.Post
-try-from-template-expand-all-requires t c κs = let z = c .before .before .before .before .before .before .before in let x = subst (CallStands (z .args .d) (bits (z .args .b .now)) (z .args .p)) (sym (c .before .call-at .ensures)) (call-stands (z .args .d) (bits (z .args .b .now)) (z .args .p) (z .pre .1 .5)) in let y = few-params (z .args .d) (bits (z .args .b .now)) (z .args .p) (c .before .call-at .result) (bits-binary (z .args .b .now)) (c .before .call-at .ensures) in (omega (arith, y), (z .pre .1 .0, z .pre .1 .1, z .pre .1 .2, z .pre .1 .3, z .pre .1 .4, y, x .params, z .pre .1 .6))
+from-template-expand-all-requires : (t : ℕ) → from-template-lts.Need-expand-all-requires (from-template-claims t) (from-template-at t) from-template.Post
+from-template-expand-all-requires t c κs = let z = c .before .before .before .before .before .before .before in let x = subst (CallStands (z .args .d) (bits (z .args .b .now)) (z .args .p)) (sym (c .before .call-at .ensures)) (call-stands (z .args .d) (bits (z .args .b .now)) (z .args .p) (z .pre .1 .5)) in let y = few-params (z .args .d) (bits (z .args .b .now)) (z .args .p) (c .before .call-at .result) (bits-binary (z .args .b .now)) (c .before .call-at .ensures) in (omega (arith, y), (z .pre .1 .0, z .pre .1 .1, z .pre .1 .2, z .pre .1 .3, z .pre .1 .4, y, x .params, z .pre .1 .6))
 
-try-from-template-expand-hash-requires : (t : ℕ) → try-from-template-lts.Need-expand-hash-requires (try-from-template-claims t) (try-from-template-at t) try-from-template.Post
-try-from-template-expand-hash-requires t c κs = let z = c .before .before .before .before .before .before .before .before in let x = subst (CallStands (z .args .d) (bits (z .args .b .now)) (z .args .p)) (sym (c .before .before .call-at .ensures)) (call-stands (z .args .d) (bits (z .args .b .now)) (z .args .p) (z .pre .1 .5)) in let y = few-pairs (z .args .d) (bits (z .args .b .now)) (z .args .p) (c .before .before .call-at .result) (bits-binary (z .args .b .now)) (c .before .before .call-at .ensures) in (omega (arith, y), (z .pre .1 .0, z .pre .1 .1, z .pre .1 .2, z .pre .1 .3, z .pre .1 .4, y, x .pairs, z .pre .1 .6))
+from-template-expand-hash-requires : (t : ℕ) → from-template-lts.Need-expand-hash-requires (from-template-claims t) (from-template-at t) from-template.Post
+from-template-expand-hash-requires t c κs = let z = c .before .before .before .before .before .before .before .before in let x = subst (CallStands (z .args .d) (bits (z .args .b .now)) (z .args .p)) (sym (c .before .before .call-at .ensures)) (call-stands (z .args .d) (bits (z .args .b .now)) (z .args .p) (z .pre .1 .5)) in let y = few-pairs (z .args .d) (bits (z .args .b .now)) (z .args .p) (c .before .before .call-at .result) (bits-binary (z .args .b .now)) (c .before .before .call-at .ensures) in (omega (arith, y), (z .pre .1 .0, z .pre .1 .1, z .pre .1 .2, z .pre .1 .3, z .pre .1 .4, y, x .pairs, z .pre .1 .6))
 
-try-from-template-gathered-requires : (t : ℕ) → try-from-template-lts.Need-gathered-requires (try-from-template-claims t) (try-from-template-at t) try-from-template.Post
-try-from-template-gathered-requires t c κs = search needs
+from-template-gathered-requires : (t : ℕ) → from-template-lts.Need-gathered-requires (from-template-claims t) (from-template-at t) from-template.Post
+from-template-gathered-requires t c κs = search needs
 
-try-from-template-returns : (t : ℕ) → try-from-template-lts.Need-returns (try-from-template-claims t) (try-from-template-at t) try-from-template.Post
-try-from-template-returns t c = let z = c .before .before .before .before .before .before .before .before .before .before in let x = subst (CallStands (z .args .d) (bits (z .args .b .now)) (z .args .p)) (sym (c .before .before .before .before .call-at .ensures)) (call-stands (z .args .d) (bits (z .args .b .now)) (z .args .p) (z .pre .1 .5)) in λ g st t h. subst (IsTemplate (z .args .s .now) (z .args .b .now) (z .args .ent .now) t _) (sym (c .gathered .ensures)) (subst (λ (y : template.Call). IsTemplate (z .args .s .now) (z .args .b .now) (z .args .ent .now) t (rules.try-from-template g st y) (gathered (c .before .before .before .expand-as-name .result) (c .before .before .before .before .call-at .result .params) (c .before .before .expand-all .result) (c .before .expand-hash .result))) (sym (x .is)) (gathered-given (z .args .s .now) (z .args .b .now) (z .args .ent .now) t _ _ _ (c .before .before .before .expand-as-name .result) (c .before .before .before .before .call-at .result .params) (c .before .before .expand-all .result) (c .before .expand-hash .result) (c .before .before .before .expand-as-name .ensures g st t h) (c .before .before .expand-all .ensures g st t h) (c .before .expand-hash .ensures g st t h)))
+from-template-returns : (t : ℕ) → from-template-lts.Need-returns (from-template-claims t) (from-template-at t) from-template.Post
+from-template-returns t c = let z = c .before .before .before .before .before .before .before .before .before .before in let x = subst (CallStands (z .args .d) (bits (z .args .b .now)) (z .args .p)) (sym (c .before .before .before .before .call-at .ensures)) (call-stands (z .args .d) (bits (z .args .b .now)) (z .args .p) (z .pre .1 .5)) in λ g st t h. subst (IsTemplate (z .args .s .now) (z .args .b .now) (z .args .ent .now) t _) (sym (c .gathered .ensures)) (subst (λ (y : template.Call). IsTemplate (z .args .s .now) (z .args .b .now) (z .args .ent .now) t (rules.try-from-template g st y) (gathered (c .before .before .before .expand-as-name .result) (c .before .before .before .before .call-at .result .params) (c .before .before .expand-all .result) (c .before .expand-hash .result))) (sym (x .is)) (gathered-given (z .args .s .now) (z .args .b .now) (z .args .ent .now) t _ _ _ (c .before .before .before .expand-as-name .result) (c .before .before .before .before .call-at .result .params) (c .before .before .expand-all .result) (c .before .expand-hash .result) (c .before .before .before .expand-as-name .ensures g st t h) (c .before .before .expand-all .ensures g st t h) (c .before .expand-hash .ensures g st t h)))
 
-pub +expand+expand-all+expand-as-name+expand-hash+try-from-template-spec :
+pub +expand+expand-all+expand-as-name+expand-hash+from-template-spec :
     {M : Type 1} → statement M
-+expand+expand-all+expand-as-name+expand-hash+try-from-template-spec =
++expand+expand-all+expand-as-name+expand-hash+from-template-spec =
     close
     μ-expand
     μ-expand-all
     μ-expand-as-name
     μ-expand-hash
-    μ-try-from-template
+    μ-from-template
     (λ t. expand-lts.spec (expand-claims t)
     (expand-at t)
     expand.Post
@@ -307,8 +307,8 @@ pub +expand+expand-all+expand-as-name+expand-hash+try-from-template-spec :
     (expand-path-value-requires t)
     (expand-enum-known-x-2 t)
     (expand-enum-known-x-3 t)
-    (expand-sub-try-from-template t)
-    (expand-try-from-template-requires t)
+    (expand-sub-from-template t)
+    (expand-from-template-requires t)
     (expand-finished-requires t)
     (expand-returns t)
     (expand-returns-2 t)
@@ -334,8 +334,8 @@ pub +expand+expand-all+expand-as-name+expand-hash+try-from-template-spec :
     (expand-as-name-enum-known-x-2 t)
     (expand-as-name-enum-known-x-3 t)
     (expand-as-name-enum-known-x-4 t)
-    (expand-as-name-sub-try-from-template t)
-    (expand-as-name-try-from-template-requires t)
+    (expand-as-name-sub-from-template t)
+    (expand-as-name-from-template-requires t)
     (expand-as-name-finished-requires t)
     (expand-as-name-returns t)
     (expand-as-name-returns-2 t)
@@ -354,12 +354,12 @@ pub +expand+expand-all+expand-as-name+expand-hash+try-from-template-spec :
     (expand-hash-expand-hash-requires t)
     (expand-hash-paired-requires-2 t)
     (expand-hash-returns-3 t))
-    λ t. try-from-template-lts.spec (try-from-template-claims t)
-    (try-from-template-at t)
-    try-from-template.Post
-    (try-from-template-call-at-requires t)
-    (try-from-template-expand-as-name-requires t)
-    (try-from-template-expand-all-requires t)
-    (try-from-template-expand-hash-requires t)
-    (try-from-template-gathered-requires t)
-    (try-from-template-returns t)
+    λ t. from-template-lts.spec (from-template-claims t)
+    (from-template-at t)
+    from-template.Post
+    (from-template-call-at-requires t)
+    (from-template-expand-as-name-requires t)
+    (from-template-expand-all-requires t)
+    (from-template-expand-hash-requires t)
+    (from-template-gathered-requires t)
+    (from-template-returns t)
