@@ -149,13 +149,17 @@ name-end d b p = end (param d) b p
 abbrev pub params-end : ℕ → Bits → ℕ → ℕ
 params-end d b p = end (params (param d)) b (name-end d b p)
 
-abbrev pub call-view : ℕ → Bits → ℕ → Call
-call-view d b p = record {
-  params = field b 4 (name-end d b p);
-  param = name-end d b p + 4;
-  pairs = field b 4 (params-end d b p);
-  pair = params-end d b p + 4;
+-- a call whose name ends at q
+abbrev pub behind-view : ℕ → Bits → ℕ → Call
+behind-view d b q = record {
+  params = field b 4 q;
+  param = q + 4;
+  pairs = field b 4 (end (params (param d)) b q);
+  pair = end (params (param d)) b q + 4;
 }
+
+abbrev pub call-view : ℕ → Bits → ℕ → Call
+call-view d b p = behind-view d b (name-end d b p)
 
 -- n parameters from p on, and n pairs
 abbrev pub params-at : ℕ → ℕ → Bits → ℕ → rule.Params
@@ -350,20 +354,18 @@ module _ (d : ℕ) (b : Bits) (p : ℕ) (H : Holds (call-of (param d)) b p) (q :
   pub bare-end-at : field b 8 q ≡ 0 → (q + 8 ≡ end (call-of (param d)) b p) × (q + 8 ≤ b .size)
   bare-end-at e = rw hq (bare-end d b p H (sym (ap (field b 8) hq) ∙ e))
 
--- the code's view: q is the place behind the name, r behind the parameters
-module _ (d : ℕ) (b : Bits) (p : ℕ) (H : Holds (call-of (param d)) b p) (q r : ℕ) (hq : q ≡ name-end d b p) (hr : r ≡ end (params (param d)) b q) where
-  behind : r ≡ params-end d b p
-  behind = hr ∙ ap (end (params (param d)) b) hq
-
+-- the code's view: q is the place behind the name
+module _ (d : ℕ) (b : Bits) (p : ℕ) (H : Holds (call-of (param d)) b p) (q : ℕ) (hq : q ≡ name-end d b p) where
   pub call-params-at : Holds (params (param d)) b q
   call-params-at = moved (params (param d)) b _ _ (sym hq) (call-params d b p H)
 
-  pub call-fits-at : (q + 4 ≤ b .size) × (r + 4 ≤ b .size)
-  call-fits-at = let f = call-fits d b p H in (omega (arith, f .0), omega (arith, behind, f .1))
+  pub call-pairs-at : Holds (pairs (param d)) b (end (params (param d)) b q)
+  call-pairs-at = moved (pairs (param d)) b _ _ (sym (ap (end (params (param d)) b) hq)) (call-pairs d b p H)
 
-  pub call-view-is : (n m : ℕ) → n ≡ field b 4 q → m ≡ field b 4 r → _≡_ {A = Call} (record { params = n; param = q + 4; pairs = m; pair = r + 4 }) (call-view d b p)
-  call-view-is n m hn hm =
-      ap (λ (n : ℕ). record { params = n; param = q + 4; pairs = m; pair = r + 4 }) hn
-      ∙ ap (λ (q : ℕ). record { params = field b 4 q; param = q + 4; pairs = m; pair = r + 4 }) hq
-      ∙ ap (λ (m : ℕ). record { params = field b 4 (name-end d b p); param = name-end d b p + 4; pairs = m; pair = r + 4 }) hm
-      ∙ ap (λ (r : ℕ). record { params = field b 4 (name-end d b p); param = name-end d b p + 4; pairs = field b 4 r; pair = r + 4 }) behind
+-- and r behind the parameters
+pub behind-is : (d : ℕ) (b : Bits) (q r : ℕ) → r ≡ end (params (param d)) b q → (n m : ℕ) → n ≡ field b 4 q → m ≡ field b 4 r
+    → _≡_ {A = Call} (record { params = n; param = q + 4; pairs = m; pair = r + 4 }) (behind-view d b q)
+behind-is d b q r hr n m hn hm =
+    ap (λ (n : ℕ). record { params = n; param = q + 4; pairs = m; pair = r + 4 }) hn
+    ∙ ap (λ (m : ℕ). record { params = field b 4 q; param = q + 4; pairs = m; pair = r + 4 }) hm
+    ∙ ap (λ (r : ℕ). record { params = field b 4 q; param = q + 4; pairs = field b 4 r; pair = r + 4 }) hr

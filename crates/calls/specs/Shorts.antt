@@ -1,4 +1,4 @@
--- Short calls: a name alone, or a name and one path.
+-- Calls by their name: a string alone, a string and one path, or a string and more.
 use Prim.Native.Nat.{ℕ, _+_, _*_, _/_, _≤_, _<_}
 use mathlib.Core.Bool.{Bool, true, false}
 use mathlib.Core.Path.{_≡_, refl, sym, ap, _∙_, subst}
@@ -18,27 +18,28 @@ use Rattle.parts.specs.HoldsLaws.{Same, More, more-holds, counted-holds, moved,
 use Rattle.parts.specs.Says.{path-at}
 use Rattle.calls.specs.declared.Parameter.the-variants.{Name, Path}
 use Rattle.calls.specs.declared.Short.{Short}
-use Rattle.calls.specs.declared.Short.the-variants.{Bare, One, Other}
-use Rattle.calls.specs.Calls.{param-of, param-name, param-path, param-at, ParamStands, param-read, call-at, name-end, params-end, call-view, call-name, call-params, call-fits}
+use Rattle.calls.specs.declared.Short.the-variants.{Bare, One, Named, Other}
+use Rattle.calls.specs.Calls.{param-of, param-name, param-path, param-at, ParamStands, param-read, call-at, name-end, params-end, behind-view, call-view, call-name, call-params, call-fits}
 use Rattle.calls.specs.Calls.{bare-call, call-stands, params-at, hash-at, no-params, params-more, no-hash}
 
 -- behind the string of a name
 abbrev pub short-end : Bits → ℕ → ℕ
 short-end b p = p + 18 + 8 * field b 18 p
 
-abbrev pub short-view : Bits → ℕ → Short
-short-view b p =
+abbrev pub short-view : ℕ → Bits → ℕ → Short
+short-view d b p =
     pick (ltb 65535 (field b 18 p)) Other
     (pick (eqb (field b 8 (short-end b p)) 0) (Bare (p + 2))
     (pick (eqb (field b 8 (short-end b p) / 4) 5)
-    (pick (eqb (field b 4 (end path b (short-end b p + 6))) 0) (One (p + 2) (short-end b p + 6)) Other)
-    Other))
+    (pick (eqb (field b 4 (end path b (short-end b p + 6))) 0) (One (p + 2) (short-end b p + 6)) (Named (p + 2) (behind-view d b (short-end b p))))
+    (Named (p + 2) (behind-view d b (short-end b p)))))
 
 -- what it says, and its parts stand
 abbrev pub ShortIs : ℕ → Bits → ℕ → Short → Type 0
 ShortIs d b p (Bare q) = (call-at d b p ≡ rule.call (rule.name (text-at b q)) rule.pnil rule.hnil) × Holds string b q
 ShortIs d b p (One q v) =
     (call-at d b p ≡ rule.call (rule.name (text-at b q)) (rule.pcons (rule.path (path-at b v)) rule.pnil) rule.hnil) × Holds string b q × Holds path b v
+ShortIs d b p (Named q c) = (c ≡ call-view d b p) × (param-at d b p ≡ rule.name (text-at b q)) × Holds string b q
 ShortIs d b p Other = Unit {0}
 
 -- x is the kind of a call's name and, behind that, the count of its string
@@ -77,6 +78,9 @@ module _ (d : ℕ) (b : Bits) (bin : Binary b) (p : ℕ) (H : Holds (call-of (pa
             ∙ ap (rule.call (rule.name (text-at b (p + 2))) rule.pnil) (no-hash d b (params-end d b p + 4)),
         name-read .parts,
       )
+
+  named-is : ShortIs d b p (Named (p + 2) (behind-view d b (p + 18 + 8 * x)))
+  named-is = (ap (behind-view d b) (short-ends .0), name-read .is, name-read .parts)
 
   -- one parameter, which is a path
   module _ (y : ℕ) (hy : y ≡ field b 8 (p + 18 + 8 * x)) (h : y / 4 ≡ 5) where
@@ -132,28 +136,28 @@ module _ (d : ℕ) (b : Bits) (bin : Binary b) (p : ℕ) (H : Holds (call-of (pa
     )
 
 module _ (d : ℕ) (b : Bits) (bin : Binary b) (p : ℕ) (H : Holds (call-of (param d)) b p) where
-  pub short-stands : ShortIs d b p (short-view b p)
+  pub short-stands : ShortIs d b p (short-view d b p)
   short-stands = by-name (ltb 65535 (field b 18 p)) refl
     where
       by-pairs : field b 18 p ≤ 65535 → field b 8 (short-end b p) / 4 ≡ 5 → (t : Bool) → eqb (field b 4 (end path b (short-end b p + 6))) 0 ≡ t
-          → ShortIs d b p (pick t (One (p + 2) (short-end b p + 6)) Other)
+          → ShortIs d b p (pick t (One (p + 2) (short-end b p + 6)) (Named (p + 2) (behind-view d b (short-end b p))))
       by-pairs lo h true e = one-is d b bin p H (field b 18 p) refl lo (field b 8 (short-end b p)) refl h (eqb-true _ _ e)
-      by-pairs lo h false e = tt
+      by-pairs lo h false e = named-is d b bin p H (field b 18 p) refl lo
 
       by-first : field b 18 p ≤ 65535 → (t : Bool) → eqb (field b 8 (short-end b p) / 4) 5 ≡ t
-          → ShortIs d b p (pick t (pick (eqb (field b 4 (end path b (short-end b p + 6))) 0) (One (p + 2) (short-end b p + 6)) Other) Other)
+          → ShortIs d b p (pick t (pick (eqb (field b 4 (end path b (short-end b p + 6))) 0) (One (p + 2) (short-end b p + 6)) (Named (p + 2) (behind-view d b (short-end b p)))) (Named (p + 2) (behind-view d b (short-end b p))))
       by-first lo true e = by-pairs lo (eqb-true _ _ e) (eqb (field b 4 (end path b (short-end b p + 6))) 0) refl
-      by-first lo false e = tt
+      by-first lo false e = named-is d b bin p H (field b 18 p) refl lo
 
       by-counts : field b 18 p ≤ 65535 → (t : Bool) → eqb (field b 8 (short-end b p)) 0 ≡ t
-          → ShortIs d b p (pick t (Bare (p + 2)) (pick (eqb (field b 8 (short-end b p) / 4) 5) (pick (eqb (field b 4 (end path b (short-end b p + 6))) 0) (One (p + 2) (short-end b p + 6)) Other) Other))
+          → ShortIs d b p (pick t (Bare (p + 2)) (pick (eqb (field b 8 (short-end b p) / 4) 5) (pick (eqb (field b 4 (end path b (short-end b p + 6))) 0) (One (p + 2) (short-end b p + 6)) (Named (p + 2) (behind-view d b (short-end b p)))) (Named (p + 2) (behind-view d b (short-end b p)))))
       by-counts lo true e = bare-is d b bin p H (field b 18 p) refl lo (eqb-true _ _ e)
       by-counts lo false e = by-first lo (eqb (field b 8 (short-end b p) / 4) 5) refl
 
       by-name : (t : Bool) → ltb 65535 (field b 18 p) ≡ t
-          → ShortIs d b p (pick t Other (pick (eqb (field b 8 (short-end b p)) 0) (Bare (p + 2)) (pick (eqb (field b 8 (short-end b p) / 4) 5) (pick (eqb (field b 4 (end path b (short-end b p + 6))) 0) (One (p + 2) (short-end b p + 6)) Other) Other)))
+          → ShortIs d b p (pick t Other (pick (eqb (field b 8 (short-end b p)) 0) (Bare (p + 2)) (pick (eqb (field b 8 (short-end b p) / 4) 5) (pick (eqb (field b 4 (end path b (short-end b p + 6))) 0) (One (p + 2) (short-end b p + 6)) (Named (p + 2) (behind-view d b (short-end b p)))) (Named (p + 2) (behind-view d b (short-end b p))))))
       by-name true e = tt
       by-name false e = by-counts (ltb-false _ _ e) (eqb (field b 8 (short-end b p)) 0) refl
 
-  pub short-read : (v : Short) → v ≡ short-view b p → ShortIs d b p v
+  pub short-read : (v : Short) → v ≡ short-view d b p → ShortIs d b p v
   short-read v e = subst (ShortIs d b p) (sym e) short-stands

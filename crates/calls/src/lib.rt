@@ -6,7 +6,7 @@ ghost use lib.ListN.{length};
 ghost use Rattle.rules.specs.Bits.{bits};
 ghost use Rattle.rules.specs.Bundle.{param, params, pairs, call-of};
 ghost use Rattle.parts.specs.Holds.{Holds, end};
-ghost use Rattle.calls.specs.Calls.{param-view, call-view};
+ghost use Rattle.calls.specs.Calls.{param-view, behind-view, call-view};
 ghost use Rattle.calls.specs.Shorts.{short-view};
 
 // Where the content of a parameter stands.
@@ -109,11 +109,11 @@ pub struct Call {
     pub pair: usize,
 }
 
-pub fn call_at(b: &[u8], p: usize, d: usize) -> Call
-    requires { ⌜ (length (now b) ≤ 65536) × Holds (call-of (param d)) (bits (now b)) p ⌝ }
-    ensures { λ r. ⌜ r ≡ call-view d (bits (now (b .entry))) p ⌝ }
+// The call whose name ends at q.
+fn call_behind(b: &[u8], q: usize, d: usize) -> Call
+    requires { ⌜ (length (now b) ≤ 65536) × Holds (params (param d)) (bits (now b)) q × Holds (pairs (param d)) (bits (now b)) (end (params (param d)) (bits (now b)) q) ⌝ }
+    ensures { λ r. ⌜ r ≡ behind-view d (bits (now (b .entry))) q ⌝ }
 {
-    let q = skip_param(b, p, d);
     let r = skip_params(b, q, d);
     Call {
         params: bits::field(b, q, 4),
@@ -123,19 +123,28 @@ pub fn call_at(b: &[u8], p: usize, d: usize) -> Call
     }
 }
 
-// What most calls are.
+pub fn call_at(b: &[u8], p: usize, d: usize) -> Call
+    requires { ⌜ (length (now b) ≤ 65536) × Holds (call-of (param d)) (bits (now b)) p ⌝ }
+    ensures { λ r. ⌜ r ≡ call-view d (bits (now (b .entry))) p ⌝ }
+{
+    call_behind(b, skip_param(b, p, d), d)
+}
+
+// A call, by its name: most are short, and have one that is a string.
 pub enum Short {
     // a name alone: its string
     Bare(usize),
     // the name's string, and the only parameter: a path
     One(usize, usize),
+    // the name's string, and the parts behind it
+    Named(usize, Call),
     Other,
 }
 
 // The call at p, read with few reads where it is short.
 pub fn short_at(b: &[u8], p: usize, d: usize) -> Short
     requires { ⌜ (length (now b) ≤ 65536) × Holds (call-of (param d)) (bits (now b)) p ⌝ }
-    ensures { λ r. ⌜ r ≡ short-view (bits (now (b .entry))) p ⌝ }
+    ensures { λ r. ⌜ r ≡ short-view d (bits (now (b .entry))) p ⌝ }
 {
     // its name's kind, and the count of the string that a name is
     let x = bits::field(b, p, 18);
@@ -148,12 +157,11 @@ pub fn short_at(b: &[u8], p: usize, d: usize) -> Short
     if y == 0 {
         return Short::Bare(p + 2);
     }
-    if y / 4 != 5 {
-        return Short::Other;
+    if y / 4 == 5 {
+        let r = parts::skip_path(b, q + 6);
+        if bits::field(b, r, 4) == 0 {
+            return Short::One(p + 2, q + 6);
+        }
     }
-    let r = parts::skip_path(b, q + 6);
-    if bits::field(b, r, 4) == 0 {
-        return Short::One(p + 2, q + 6);
-    }
-    Short::Other
+    Short::Named(p + 2, call_behind(b, q, d))
 }

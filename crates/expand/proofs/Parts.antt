@@ -149,10 +149,13 @@ module _ (s b : Bytes) (ent : List ℕ) (t : ℕ) where
       let f = h .fine e in
       record { used = t; room = st .entries; name = f .2 .name-stands; first = f .2 .params .first; second = f .2 .params .second }
 
--- A call whose name is the string at q, with no parameter or one, and no hash
+-- A call whose name is the string at q: alone, or with one parameter and no hash
 module _ (s b : Bytes) (ent : List ℕ) (t q : ℕ) (H : Holds string (bits b) q) (g : Registry) (st : RenderContext) where
   name-given : Names s b ent t (got (text-at (bits b) q)) (Is (Text q))
   name-given = (ap (λ (j : Json). got (render j)) (sym (plain-is s b ent (Text q) refl)), plain refl H)
+
+  pub string-given : (x : template.Parameter) → x ≡ template.name (text-at (bits b) q) → Names s b ent t (rules.expand-as-name g st x) (Is (Text q))
+  string-given x e = (ap (rules.expand-as-name g st) e ∙ name-given .0, name-given .1)
 
   pub bare-given : IsTemplate s b ent t (rules.try-from-template g st (template.call (template.name (text-at (bits b) q)) template.pnil template.hnil)) (bare q)
   bare-given = gathered-given s b ent t _ _ _ (Is (Text q)) 0 _ _ name-given (no-params-given s b ent t) (no-hash-given s b ent t)

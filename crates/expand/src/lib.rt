@@ -580,7 +580,7 @@ pub fn expand_as_name(
     }
 }
 
-// What the call at p works out. Most calls are short: a name alone, or a name and a path.
+// What the call at p works out. Most calls are short: a name alone, or a name and a path. Nearly all others have a name that is a string too.
 pub fn try_from_template(
     s: &[u8],
     tab: &[u64],
@@ -599,6 +599,11 @@ pub fn try_from_template(
     match x {
         Short::Bare(q) => bare(q),
         Short::One(q, v) => with_one(q, path_value(s, tab, b, ent, sc, used, options, v)),
+        Short::Named(q, c) => {
+            let ps = expand_all(s, tab, b, ent, sc, used, options, c.param, c.params, d);
+            let hs = expand_hash(s, tab, b, ent, sc, used, options, c.pair, c.pairs, d);
+            gathered(Got::Is(Value::Text(q)), c.params, ps, hs)
+        }
         Short::Other => from_template(s, tab, b, ent, sc, used, options, p, d),
     }
 }
