@@ -76,7 +76,12 @@ fn render_elements(
             q,
         );
         if q.bad != 0 {
-            return state::located(q, name, bits::field(b, cur, 16), bits::field(b, cur + 16, 16));
+            return state::located(
+                q,
+                name,
+                bits::field(b, cur, 16),
+                bits::field(b, cur + 16, 16),
+            );
         }
         cur = e.next;
         i += 1;

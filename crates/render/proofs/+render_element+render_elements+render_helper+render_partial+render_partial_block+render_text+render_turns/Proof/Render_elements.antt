@@ -92,7 +92,8 @@ render-elements-render-element-requires t c κs =
     let D = l .inv .0 in
     let k = body-stands 16 (a .d) (bits (a .b .now)) (a .p) (h .3) .deep in
     let u : l .q .used ≡ a .rc .used = D .goes .used in
-    let e = element-read 16 (a .d - 1) (bits (a .b .now)) (l .cur) (element-here 16 (a .d - 1) (bits (a .b .now)) n (l .i) (l .cur) z (D .passed) ((c .before .before .before .before .before .before .loop-test) .taken)) (X in
+    let e = element-read 16 (a .d - 1) (bits (a .b .now)) (l .cur) (element-here 16 (a .d - 1) (bits (a .b .now)) n (l .i) (l .cur) z (D .passed) ((c .before .before .before .before .before .before .loop-test) .taken))
+    (placed-element 16 (bits (a .b .now)) (l .cur) ((c .before .before .before .before .before .content-at) .result)) (placed-element-is 16 (a .d - 1) (bits (a .b .now)) (l .cur) ((c .before .before .before .before .before .content-at) .result) ((c .before .before .before .before .before .content-at) .ensures)) in
     (omega (arith, u, k, (c .before .before .before .before .before .before .before .before .before .before .before .before .before .before .before .before .before .before .pre) .0), (h .0, D .goes .ready, omega (arith, k, h .2), e .parts, l .inv .1 ∙ h .5))
 
 pub render-elements-field-requires : (t : ℕ) → render-elements-lts.Need-field-requires (render-elements-claims t) (render-elements-at t) render-elements.Post render-elements-Inv-loop render-elements-μ-loop
