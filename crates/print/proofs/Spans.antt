@@ -27,12 +27,12 @@ use Rattle.places.specs.Nodes.{short, sound-at}
 use Rattle.places.specs.Ascending.{at-fits}
 use Rattle.value.proofs.Value.{the-type}
 use Rattle.value.specs.declared.Value.{Value}
-use Rattle.value.specs.declared.Value.the-variants.{Context, Place}
+use Rattle.value.specs.declared.Value.the-variants.{Missing, Null, False, True, Empty, Context, Place, Literal, Index, IndexText, Name, Text, SaidChar, PackedChar, Merged}
 use Rattle.meaning.specs.MeaningLaws.{plain-is}
 use Rattle.meaning.specs.Forms.{Known}
 use Rattle.meaning.specs.Means.{Means}
 use Rattle.print.specs.declared.Span.{Span}
-use Rattle.print.specs.Span.{no-span, string-span, number-span, span-at, span-of, InPlan, Stood}
+use Rattle.print.specs.Span.{no-span, string-span, number-span, span-at, span-of, InPlan, value-span}
 use Rattle.print.proofs.Said.{part-in, part-is}
 use Rattle.print.proofs.Numbers.{whole}
 
@@ -139,9 +139,40 @@ module _ (s : Bytes) (h : answer s ≡ 0) (i : ℕ) (lt : i < places s) (p : Spa
 abbrev pub others : List ℕ
 others = 0 ∷ 1 ∷ 2 ∷ 3 ∷ 4 ∷ 7 ∷ 8 ∷ 9 ∷ 10 ∷ 11 ∷ 12 ∷ 13 ∷ 14 ∷ []
 
-pub not-in-plan : (v : Value) → OneOf others (tagOf the-type v) → (i : ℕ) → InPlan v i → ⊥
-not-in-plan v k i (inl e) = miss others 5 tt (subst (λ (u : Value). OneOf others (tagOf the-type u)) e k)
-not-in-plan v k i (inr e) = miss others 6 tt (subst (λ (u : Value). OneOf others (tagOf the-type u)) e k)
+pub elsewhere : (s : Bytes) (v : Value) → OneOf others (tagOf the-type v) → no-span ≡ value-span s v
+elsewhere s Missing k = refl
+elsewhere s Null k = refl
+elsewhere s False k = refl
+elsewhere s True k = refl
+elsewhere s Empty k = refl
+elsewhere s (Context i) k = absurd (miss others 5 tt k)
+elsewhere s (Place i) k = absurd (miss others 6 tt k)
+elsewhere s (Literal p) k = refl
+elsewhere s (Index n) k = refl
+elsewhere s (IndexText n) k = refl
+elsewhere s (Name o) k = refl
+elsewhere s (Text p) k = refl
+elsewhere s (SaidChar o n) k = refl
+elsewhere s (PackedChar p n) k = refl
+elsewhere s (Merged h n) k = refl
+
+-- a value of which a span is told stands in the plan
+in-plan : (s : Bytes) (v : Value) (p : Span) → (p .end ≡ 0 → ⊥) → p ≡ value-span s v → (i : ℕ) × InPlan v i × (p ≡ span-of s i)
+in-plan s Missing p h e = absurd (h (ap (λ (y : Span). y .end) e))
+in-plan s Null p h e = absurd (h (ap (λ (y : Span). y .end) e))
+in-plan s False p h e = absurd (h (ap (λ (y : Span). y .end) e))
+in-plan s True p h e = absurd (h (ap (λ (y : Span). y .end) e))
+in-plan s Empty p h e = absurd (h (ap (λ (y : Span). y .end) e))
+in-plan s (Context i) p h e = (i, inl refl, e)
+in-plan s (Place i) p h e = (i, inr refl, e)
+in-plan s (Literal q) p h e = absurd (h (ap (λ (y : Span). y .end) e))
+in-plan s (Index n) p h e = absurd (h (ap (λ (y : Span). y .end) e))
+in-plan s (IndexText n) p h e = absurd (h (ap (λ (y : Span). y .end) e))
+in-plan s (Name o) p h e = absurd (h (ap (λ (y : Span). y .end) e))
+in-plan s (Text q) p h e = absurd (h (ap (λ (y : Span). y .end) e))
+in-plan s (SaidChar o n) p h e = absurd (h (ap (λ (y : Span). y .end) e))
+in-plan s (PackedChar q n) p h e = absurd (h (ap (λ (y : Span). y .end) e))
+in-plan s (Merged g n) p h e = absurd (h (ap (λ (y : Span). y .end) e))
 
 module _ (s b : Bytes) (v : Value) where
   pub plan-within : Known s b v → (i : ℕ) → InPlan v i → i < places s
@@ -153,10 +184,8 @@ module _ (s b : Bytes) (v : Value) where
   plan-means i (inr e) P x = subst (λ (u : Value). Means s b u P) (sym e) (record { at = λ ent t st. subst P (sym (plain-is s b ent (Place i) refl)) x })
 
   module _ (h : answer s ≡ 0) (k : Known s b v) (p : Span) (some : p .end ≡ 0 → ⊥) where
-    pub stood-within : Stood s v p → p .start < p .end → p .end ≤ length s
-    stood-within (inl (i, is, f)) = span-shows s h i (plan-within k i is) p some f .within
-    stood-within (inr (other, f)) = absurd (some (ap (λ (y : Span). y .end) f))
+    pub span-within : p ≡ value-span s v → p .start < p .end → p .end ≤ length s
+    span-within e = let x = in-plan s v p some e in span-shows s h (x .0) (plan-within k (x .0) (x .1)) p some (x .2) .within
 
-    pub stood-means : Stood s v p → (P : Json → Type 0) → ((j : Json) → render j ≡ take (p .end - p .start) (drop (p .start) s) → P j) → Means s b v P
-    stood-means (inl (i, is, f)) P g = plan-means i is P (g (json-at s i) (span-shows s h i (plan-within k i is) p some f .is))
-    stood-means (inr (other, f)) P g = absurd (some (ap (λ (y : Span). y .end) f))
+    pub span-means : p ≡ value-span s v → (P : Json → Type 0) → ((j : Json) → render j ≡ take (p .end - p .start) (drop (p .start) s) → P j) → Means s b v P
+    span-means e P g = let x = in-plan s v p some e in plan-means (x .0) (x .1) P (g (json-at s (x .0)) (span-shows s h (x .0) (plan-within k (x .0) (x .1)) p some (x .2) .is))

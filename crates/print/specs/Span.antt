@@ -8,7 +8,7 @@ use Rattle.rules.specs.Scan.{minus-end, whole-end}
 use Rattle.saying.specs.Said.{own-end}
 use Rattle.places.specs.Places.{start-of, tree-at}
 use Rattle.value.specs.declared.Value.{Value}
-use Rattle.value.specs.declared.Value.the-variants.{Context, Place}
+use Rattle.value.specs.declared.Value.the-variants.{Missing, Null, False, True, Empty, Context, Place, Literal, Index, IndexText, Name, Text, SaidChar, PackedChar, Merged}
 use Rattle.print.specs.declared.Span.{Span}
 
 abbrev pub no-span : Span
@@ -34,6 +34,20 @@ span-of s i = span-at s (start-of (tree-at s i))
 abbrev pub InPlan : Value → ℕ → Type 0
 InPlan v i = (v ≡ Context i) ⊎ (v ≡ Place i)
 
--- r is that of v, if v stands in the plan
-abbrev pub Stood : Bytes → Value → Span → Type 0
-Stood s v r = ((i : ℕ) × InPlan v i × (r ≡ span-of s i)) ⊎ (((i : ℕ) → InPlan v i → ⊥) × (r ≡ no-span))
+-- of a value: what stands elsewhere has none
+abbrev pub value-span : Bytes → Value → Span
+value-span s Missing = no-span
+value-span s Null = no-span
+value-span s False = no-span
+value-span s True = no-span
+value-span s Empty = no-span
+value-span s (Context i) = span-of s i
+value-span s (Place i) = span-of s i
+value-span s (Literal p) = no-span
+value-span s (Index n) = no-span
+value-span s (IndexText n) = no-span
+value-span s (Name o) = no-span
+value-span s (Text p) = no-span
+value-span s (SaidChar o n) = no-span
+value-span s (PackedChar p n) = no-span
+value-span s (Merged h n) = no-span

@@ -19,7 +19,7 @@ ghost use Rattle.meaning.specs.Forms.{Known};
 ghost use Rattle.meaning.specs.Means.{Means};
 ghost use Rattle.text.specs.Strip.{stripped};
 ghost use Rattle.print.specs.Printed.{printed, IsList};
-ghost use Rattle.print.specs.Span.{string-span, span-of, InPlan, Stood};
+ghost use Rattle.print.specs.Span.{string-span, span-of, InPlan, value-span};
 ghost use Rattle.print.specs.Target as target;
 ghost use Rattle.print.specs.Target.{met};
 use meaning::Form;
@@ -227,7 +227,7 @@ fn place_span(s: &[u8], tab: &[u64], i: usize) -> Span
 // The same of a value. (What the plan has is mostly printed so, with no question what form it has.)
 pub fn value_span(s: &[u8], tab: &[u64], v: Value) -> Span
     requires { ⌜ Accepted (now s) (now tab) × ((i : ℕ) → InPlan v i → i < places (now s)) ⌝ }
-    ensures { λ r. ⌜ Stood (now (s .entry)) v r ⌝ }
+    ensures { λ r. ⌜ r ≡ value-span (now (s .entry)) v ⌝ }
 {
     match v {
         Value::Context(i) => place_span(s, tab, i),

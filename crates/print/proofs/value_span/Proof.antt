@@ -1,7 +1,8 @@
 use mathlib.Core.Logic.{inl, inr}
-use mathlib.Core.Path.{refl}
+use mathlib.Core.Path.{sym, ap, _∙_}
 use borrow.Author.Needs.{needs}
-use Rattle.print.proofs.Spans.{not-in-plan}
+use Rattle.print.proofs.Spans.{elsewhere}
+use Rattle.print.specs.Span.{value-span}
 use Rattle.print.proofs.value_span.Statement.{statement}
 use Rattle.print.proofs.value_span.Tie as tie
 
@@ -18,13 +19,13 @@ place-span-requires-2 : tie.Need-place-span-requires-2
 place-span-requires-2 c κs = let z = c .before .before .before .before .before in (z .pre .0, z .pre .1 _ (inr (c .before .v2 .given .1)))
 
 returns : tie.Need-returns
-returns c = inl (_, inl (c .before .before .v .given .1), c .place-span .ensures)
+returns c = c .place-span .ensures ∙ ap (value-span (c .before .before .before .before .before .before .args .s .now)) (sym (c .before .before .v .given .1))
 
 returns-2 : tie.Need-returns-2
-returns-2 c = inl (_, inr (c .before .before .v2 .given .1), c .place-span2 .ensures)
+returns-2 c = c .place-span2 .ensures ∙ ap (value-span (c .before .before .before .before .before .before .args .s .now)) (sym (c .before .before .v2 .given .1))
 
 returns-3 : tie.Need-returns-3
-returns-3 c = inr (not-in-plan (c .before .before .before .args .v) (c .match .keys3), refl)
+returns-3 c = let a = c .before .before .before .args in elsewhere (a .s .now) (a .v) (c .match .keys3)
 
 pub value-span-spec : {M : Type 1} → statement M
 value-span-spec =

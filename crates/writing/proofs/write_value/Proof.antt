@@ -9,7 +9,7 @@ use Rattle.output.specs.Outputs.{outputs, on, with-writer}
 use Rattle.support.specs.Feed.{finished, escaped, fed}
 use Rattle.meaning.specs.Means.{means-so}
 use Rattle.print.specs.Printed.{printed}
-use Rattle.print.proofs.Spans.{plan-within, stood-within, stood-means}
+use Rattle.print.proofs.Spans.{plan-within, span-within, span-means}
 use borrow.Author.Needs.{needs}
 use Rattle.writing.proofs.write_value.Statement.{statement}
 use Rattle.writing.proofs.write_value.Tie as tie
@@ -40,7 +40,7 @@ part-write-bytes-end c =
     let h = c .before .before .before .before .before .before .before .before .before .before .pre in
     let p = c .before .before .before .value-span in
     let lt = c .before .before .if1 .taken in
-    stood-within (a .s .now) (a .b .now) (a .v) (h .0 .answers) (h .2) (p .result) (λ z. absurd (omega (arith, z, lt))) (p .ensures) lt
+    span-within (a .s .now) (a .b .now) (a .v) (h .0 .answers) (h .2) (p .result) (λ z. absurd (omega (arith, z, lt))) (p .ensures) lt
 
 -- src/lib.rt:191:9
 write-bytes-requires : tie.Need-write-bytes-requires
@@ -64,7 +64,7 @@ returns c =
     let f = c .before .before .before .before .write-bytes in
     let i = a .indent .now in
     let x : Bytes = take (p .result .end - p .result .start) (drop (p .result .start) (a .s .now)) in
-    stood-means (a .s .now) (a .b .now) (a .v) (h .0 .answers) (h .2) (p .result) (λ z. absurd (omega (arith, z, lt))) (p .ensures)
+    span-means (a .s .now) (a .b .now) (a .v) (h .0 .answers) (h .2) (p .result) (λ z. absurd (omega (arith, z, lt))) (p .ensures)
     (λ j. outputs (f .result) (f .last .0) (f .last .1 .0) ≡ fed i (escaped (a .escape) (render j)) (outputs (a .w) (a .page .now) (a .texts .now)))
     (λ j q. f .ensures ∙ ap (λ (v : Bytes). fed i (escaped (a .escape) v) (outputs (a .w) (a .page .now) (a .texts .now))) (sym q))
 
