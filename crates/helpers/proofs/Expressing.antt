@@ -29,7 +29,7 @@ use Rattle.rules.specs.Output.{do-escape, indent-aware-write}
 use Rattle.rules.specs.Expand as rules
 use Rattle.rules.specs.Render.{render-helper, render-value, render-name, render-expression}
 use Rattle.parts.specs.Holds.{Holds, row}
-use Rattle.calls.specs.Calls.{param-at, call-at, params-at, hash-at, name-end, call-view, CallStands, call-stands, no-params, params-more, no-hash, hash-more}
+use Rattle.calls.specs.Calls.{param-at, call-at, params-at, hash-at, name-end, call-view, CallStands, call-stands, bare-call, full-call, no-params, params-more, no-hash, hash-more}
 use Rattle.calls.specs.declared.Call.{Call}
 use Rattle.places.specs.Places.{json-at, path-at}
 use Rattle.value.specs.declared.Value.{Value}
@@ -46,7 +46,6 @@ use Rattle.expand.specs.declared.HelperDef.{HelperDef}
 use Rattle.expand.specs.Answers.{Setting, Refuses, Expands, helper-of}
 use Rattle.helpers.specs.declared.Shows.{Shows}
 use Rattle.helpers.specs.declared.Shows.the-variants as shows
-use Rattle.helpers.specs.Bare.{bare-params, bare-pairs}
 use Rattle.helpers.specs.Does.{has, is-known, Fails, Expresses, shown, rendered}
 use Rattle.helpers.proofs.Deciding.{as-json-of, fails, has-none, has-some}
 
@@ -75,13 +74,20 @@ module _ (d : ℕ) (b : Bits) (p : ℕ) (v : Call) (S : CallStands d b p v) wher
 
 -- x is the 8 bits behind its name
 pub bare-name : (d : ℕ) (b : Bits) (p : ℕ) → Holds (call-of (param d)) b p → (x : ℕ) → x ≡ field b 8 (name-end d b p) → name-only (call-at d b p) ≡ pick (eqb x 0) (some (param-at d b p)) none
-bare-name d b p H x e = go (field b 4 (name-end d b p)) refl
+bare-name d b p H zero e =
+    let c = bare-call d b p H (sym e) in
+    pairs-name d b p (call-view d b p) (call-stands d b p H) (c .0) ∙ ap (λ (n : ℕ). pick (eqb n 0) (some (param-at d b p)) none) (c .1)
+bare-name d b p H (suc k) e = go (call-view d b p .params) refl ∙ sym (chosen (suc k) (λ q. absurd (omega (arith, q))))
   where
-    go : (k : ℕ) → field b 4 (name-end d b p) ≡ k → name-only (call-at d b p) ≡ pick (eqb x 0) (some (param-at d b p)) none
-    go zero z = pairs-name d b p (call-view d b p) (call-stands d b p H) z ∙ ap (λ (n : ℕ). pick (eqb n 0) (some (param-at d b p)) none) (sym (e ∙ bare-pairs d b p H z))
-    go (suc k) z =
-        let n : field b 4 (name-end d b p) ≡ 0 → ⊥ = λ q. omega arith in
-        params-name d b p (call-view d b p) (call-stands d b p H) n ∙ rw (ne-eqb x 0 (λ q. n (bare-params d b p H (sym e ∙ q))))
+    chosen : (n : ℕ) → (n ≡ 0 → ⊥) → pick (eqb n 0) (some (param-at d b p)) none ≡ none
+    chosen n h = rw (ne-eqb n 0 h)
+
+    full : field b 8 (name-end d b p) ≡ 0 → ⊥
+    full q = absurd (omega (arith, e, q))
+
+    go : (n : ℕ) → call-view d b p .params ≡ n → name-only (call-at d b p) ≡ none
+    go zero z = pairs-name d b p (call-view d b p) (call-stands d b p H) z ∙ chosen (call-view d b p .pairs) (full-call d b p H full z)
+    go (suc n) z = params-name d b p (call-view d b p) (call-stands d b p H) (λ q. absurd (omega (arith, z, q)))
 
 -- A name that is a helper's
 
