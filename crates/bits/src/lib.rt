@@ -151,7 +151,8 @@ pub fn same_bytes(s: &[u8], p: usize, n: usize, t: &[u8]) -> bool
     true
 }
 
-fn least(a: usize, b: usize) -> usize
+// The smaller of two numbers, for all that reads or writes so many bytes.
+pub fn least(a: usize, b: usize) -> usize
     ensures { λ r. ⌜ r ≡ min a b ⌝ }
 {
     if a < b { a } else { b }

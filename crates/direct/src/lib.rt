@@ -6,7 +6,6 @@ ghost use Prim.Native.Nat.{_+_, _*_, _^_, _<_};
 ghost use lib.ListN.{length};
 ghost use Rattle.rules.specs.Bytes.{Bytes};
 ghost use Rattle.rules.specs.Bits.{bits};
-ghost use Rattle.rules.specs.Support.{newline-matcher};
 ghost use Rattle.bits.specs.Packed.{bytes-at};
 ghost use Rattle.output.specs.Writer.{output, over};
 ghost use Rattle.support.specs.Feed.{finished, begun, all-emitted};
@@ -33,15 +32,6 @@ pub fn takes(w: Writer, len: usize, n: usize) -> bool
     w.written <= len - n
 }
 
-fn is_newline(c: u8) -> bool
-    ensures { λ r. ⌜ r ≡ newline-matcher c ⌝ }
-{
-    if c == 10 {
-        return true;
-    }
-    c == 13
-}
-
 fn wide(x: u8) -> usize
     ensures { λ r. ⌜ (r ≡ x) × (r < 256) ⌝ }
 {
@@ -53,10 +43,11 @@ fn behind(w: Writer, n: usize, c: u8) -> Writer
     requires { ⌜ w .written + n < 2 ^ 64 ⌝ }
     ensures { λ r. ⌜ r ≡ behind n c w ⌝ }
 {
-    let newline = is_newline(c);
+    let last = wide(c);
+    let newline = support::newline_matcher(last);
     let mut q = w;
     q.written = q.written + n;
-    q.pen = wide(c) + 1;
+    q.pen = last + 1;
     q.trailing_newline = newline;
     q.content_produced = true;
     q.indent_before_write = newline;

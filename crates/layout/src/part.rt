@@ -1,6 +1,6 @@
 // The parts of a bundle that hold neither a call nor a body.
 ghost use mathlib.Core.Path.{_≡_};
-ghost use Prim.Native.Nat.{_+_, _*_, _≤_, _<_, min};
+ghost use Prim.Native.Nat.{_+_, _*_, _≤_, _<_};
 ghost use lib.ListN.{length};
 ghost use Rattle.rules.specs.Utf8.{utf8};
 ghost use Rattle.rules.specs.Bits.{bits};
@@ -59,12 +59,6 @@ pub fn flag(b: &[u8], p: Place) -> Place
     ahead(b, p, 1)
 }
 
-fn least(a: usize, b: usize) -> usize
-    ensures { λ r. ⌜ r ≡ min a b ⌝ }
-{
-    if a < b { a } else { b }
-}
-
 // Whether the last 7 bytes of x are all ASCII. The compiler makes one test of these.
 fn is_ascii(x: u64) -> bool
     ensures { λ r. ⌜ r ≡ ascii (number-bytes 7 x) ⌝ }
@@ -113,7 +107,7 @@ fn mixed_at(b: &[u8], at: usize, n: usize) -> bool
     let mut u = utf8::start();
     let mut i: usize = 0;
     while i < n {
-        let k = least(n - i, 7);
+        let k = bits::least(n - i, 7);
         u = fed(u, bits::field(b, at + 8 * i, 8 * k), k);
         i += k;
     }
@@ -127,7 +121,7 @@ fn utf8_at(b: &[u8], at: usize, n: usize) -> bool
 {
     let mut i: usize = 0;
     while i < n {
-        let k = least(n - i, 7);
+        let k = bits::least(n - i, 7);
         if !is_ascii(bits::field(b, at + 8 * i, 8 * k)) {
             return mixed_at(b, at + 8 * i, n - i);
         }

@@ -2,7 +2,7 @@
 // the page, or, where the writer says so, the buffer of the block texts.
 ghost use mathlib.Core.Bool.{true};
 ghost use mathlib.Core.Path.{_≡_};
-ghost use Prim.Native.Nat.{_+_, _-_, _*_, _^_, _≤_, _<_, min};
+ghost use Prim.Native.Nat.{_+_, _-_, _*_, _^_, _≤_, _<_};
 ghost use lib.ListN.{length, take, drop};
 ghost use lib.Seq.{sets, slice};
 ghost use Rattle.rules.specs.Bits.{bits};
@@ -54,12 +54,6 @@ pub fn new() -> Writer
     }
 }
 
-fn least(a: usize, b: usize) -> usize
-    ensures { λ r. ⌜ r ≡ min a b ⌝ }
-{
-    if a < b { a } else { b }
-}
-
 fn either(first: bool, a: usize, b: usize) -> usize
     ensures { λ r. ⌜ r ≡ pick first a b ⌝ }
 {
@@ -78,7 +72,7 @@ fn limit(w: Writer, n: usize) -> usize
     ensures { λ r. ⌜ r ≡ limit-of w n ⌝ }
 {
     if w.block_text {
-        return least(w.high, n);
+        return bits::least(w.high, n);
     }
     n
 }
@@ -153,7 +147,7 @@ pub fn copy(out: &mut [u8], at: usize, v: &[u8], n: usize)
 pub fn write(out: &mut [u8], w: Writer, v: &[u8]) -> Writer
     ensures { λ r. ⌜ output r (now (out .exit)) ≡ all-put (now (v .entry)) (output w (now (out .entry))) ⌝ }
 {
-    let n = least(v.len(), room(w, out.len()));
+    let n = bits::least(v.len(), room(w, out.len()));
     let at = place(w);
     copy(out, at, v, n);
     fill(advance(w, n), n, v.len())
@@ -204,7 +198,7 @@ pub fn write_packed(out: &mut [u8], w: Writer, s: &[u8], p: usize, n: usize) -> 
     requires { ⌜ p + 8 * n < 2 ^ 64 ⌝ }
     ensures { λ r. ⌜ output r (now (out .exit)) ≡ all-put (bytes-at (bits (now (s .entry))) p n) (output w (now (out .entry))) ⌝ }
 {
-    let m = least(n, room(w, out.len()));
+    let m = bits::least(n, room(w, out.len()));
     let at = place(w);
     copy_packed(out, at, s, p, m);
     fill(advance(w, m), m, n)

@@ -1,7 +1,7 @@
 // What the strings of a text say: their decoded bytes, one by one and without a copy.
 // A string is known by the place of its first quote. Plans are of 65,536 bytes at most, so every caller meets the bounds asked of places.
 ghost use mathlib.Core.Path.{_≡_};
-ghost use Prim.Native.Nat.{_+_, _*_, _≤_, _<_, min};
+ghost use Prim.Native.Nat.{_+_, _*_, _≤_, _<_};
 ghost use lib.ListN.{length, getD};
 ghost use mathlib.Core.List.{_∷_, []};
 ghost use Rattle.rules.specs.Bytes.{same};
@@ -364,18 +364,12 @@ pub fn remaining_packed(s: &[u8], i: usize, j: usize, w: &[u8], p: usize, n: usi
     packed_steps(s, i, j, w, p, n)
 }
 
-fn least(a: usize, b: usize) -> usize
-    ensures { λ r. ⌜ r ≡ min a b ⌝ }
-{
-    if a < b { a } else { b }
-}
-
 // The same from where a character starts. The number x is the first seven packed bytes, so that most names are compared without another read.
 fn packed_headed(s: &[u8], i: usize, w: &[u8], p: usize, n: usize, x: u64) -> bool
     requires { ⌜ (length (now s) ≤ 65536) × (i ≤ 65548) × (p + 8 * n < 18446744073709551616) × (x ≡ field (bits (now w)) 56 p) ⌝ }
     ensures { λ r. ⌜ r ≡ same (remaining (now (s .entry)) i 0) (bytes-at (bits (now (w .entry))) p n) ⌝ }
 {
-    let m = least(n, 7);
+    let m = bits::least(n, 7);
     let mut k: usize = 0;
     while k < m {
         let c = byte(s, i + k);

@@ -3,7 +3,7 @@
 // `begin`, any number of feeds, `finish`.
 ghost use mathlib.Core.Bool.{true};
 ghost use mathlib.Core.Path.{_≡_};
-ghost use Prim.Native.Nat.{_+_, _*_, _^_, _≤_, _<_, min};
+ghost use Prim.Native.Nat.{_+_, _*_, _^_, _≤_, _<_};
 ghost use lib.ListN.{length, drop, getD};
 ghost use Rattle.rules.specs.Bytes.{run};
 ghost use Rattle.rules.specs.Bits.{bits};
@@ -81,13 +81,7 @@ fn wide(x: u8) -> usize
     x as usize
 }
 
-fn least(a: usize, b: usize) -> usize
-    ensures { λ r. ⌜ r ≡ min a b ⌝ }
-{
-    if a < b { a } else { b }
-}
-
-fn newline_matcher(c: usize) -> bool
+pub fn newline_matcher(c: usize) -> bool
     ensures { λ r. ⌜ r ≡ newline-matcher c ⌝ }
 {
     if c == 10 {
@@ -116,7 +110,7 @@ fn indent_before(out: &mut [u8], indent: &[u8], w: Writer, c: u8) -> Writer
     ensures { λ r. ⌜ output r (now (out .exit)) ≡ all-put (before (now (indent .entry)) c w) (output w (now (out .entry))) ⌝ }
 {
     if wants_indent(w, c) {
-        let n = least(w.indent, indent.len());
+        let n = bits::least(w.indent, indent.len());
         return output::write(out, w, &indent[..n]);
     }
     w
