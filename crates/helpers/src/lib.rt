@@ -18,7 +18,8 @@ ghost use Rattle.rules.specs.HelperWith.{with-helper};
 ghost use Rattle.rules.specs.HelperIf.{if-helper};
 ghost use Rattle.rules.specs.Helpers.{lookup-helper};
 ghost use Rattle.rules.specs.Render.{render-expression};
-ghost use Rattle.parts.specs.Holds.{Holds};
+ghost use Rattle.rules.specs.Layout.{field};
+ghost use Rattle.parts.specs.Holds.{Holds, end};
 ghost use Rattle.calls.specs.Calls.{param-view, param-at, call-at};
 ghost use Rattle.places.specs.Accepted.{Accepted};
 ghost use Rattle.meaning.specs.Forms.{Known};
@@ -311,7 +312,31 @@ fn rendered(strict: bool, x: Got) -> Shows
     }
 }
 
-// What an expression does whose name is the path at q. Most are such: the name is the path's raw string, which is read where it lies.
+// What an expression does that is the path at q and nothing else. Most are such: the name is the path's raw string, which is read where it lies.
+pub fn bare_path(
+    s: &[u8],
+    tab: &[u64],
+    b: &[u8],
+    ent: &[u64],
+    sc: &[u64],
+    used: usize,
+    options: Options,
+    q: usize,
+) -> Shows
+    requires { ⌜ Accepted (now s) (now tab) × (length (now b) ≤ 65536) × (0 < used) × (used ≤ 32) × ((t : ℕ) × ScopesStand (now s) (now b) (now ent) (scopes-of (now sc)) used t) × Holds path (bits (now b)) q × (length (now sc) ≡ 96) ⌝ }
+    ensures { λ r. ⌜ ((g : Registry) (st : RenderContext) (t d p : ℕ) (ibw : Bool) → Setting (now (s .entry)) (now (b .entry)) (now (ent .entry)) (scopes-of (now (sc .entry))) used options g st t → Holds (call-of (param d)) (bits (now (b .entry))) p → param-view (bits (now (b .entry))) p ≡ Parameter.Path q → field (bits (now (b .entry))) 8 (end path (bits (now (b .entry))) q) ≡ 0 → Expresses (now (s .entry)) (now (b .entry)) (now (ent .entry)) t g (call-at d (bits (now (b .entry))) p) ibw st (render-expression g (call-at d (bits (now (b .entry))) p) ibw st) r) ⌝ }
+{
+    if known(expand::helper_at(b, q)) {
+        return Shows::Helper;
+    }
+    let found = context::evaluate2(s, tab, b, ent, sc, used, options.recursive_lookup, q);
+    match found {
+        Evaluated::Is(v) => shown(options.strict, v),
+        Evaluated::BadIndex => Shows::Bad(20),
+    }
+}
+
+// What an expression does whose name is the path at q: with parameters or a hash it is a helper's.
 fn path_expression(
     s: &[u8],
     tab: &[u64],
@@ -329,14 +354,7 @@ fn path_expression(
     if bits::field(b, next, 8) != 0 {
         return Shows::Helper;
     }
-    if known(expand::helper_at(b, q)) {
-        return Shows::Helper;
-    }
-    let found = context::evaluate2(s, tab, b, ent, sc, used, options.recursive_lookup, q);
-    match found {
-        Evaluated::Is(v) => shown(options.strict, v),
-        Evaluated::BadIndex => Shows::Bad(20),
-    }
+    bare_path(s, tab, b, ent, sc, used, options, q)
 }
 
 // What the expression with the call at p does.
