@@ -63,7 +63,7 @@ fn is_direct(w: Writer, len: usize, b: &[u8], p: usize, n: usize) -> bool
 }
 
 // The n bytes of a packed string as a text: at once, or begun, fed and finished.
-fn write_packed(
+pub fn write_packed(
     page: &mut [u8],
     texts: &mut [u8],
     indent: &[u8],
@@ -170,7 +170,7 @@ fn write_bytes(
 }
 
 // What a value prints, as a text. Most values of a plan stand there as they are printed.
-fn write_value(
+pub fn write_value(
     page: &mut [u8],
     texts: &mut [u8],
     indent: &[u8],

@@ -1,0 +1,203 @@
+-- Laws of the elements that are drawn with the writer alone.
+use Prim.Native.Nat.{ℕ, _+_, _*_, _-_, _≤_, _<_}
+use mathlib.Core.Bool.{Bool, true, false, not}
+use mathlib.Core.List.{List, [], _++_}
+use mathlib.Core.Option.{Option}
+use mathlib.Core.Path.{_≡_, refl, sym, ap, ap₂, _∙_, subst}
+use native.Mathlib.Omega.{arith}
+use lib.ListN.{length}
+use Rattle.rules.specs.Bytes.{Bytes, pick}
+use Rattle.rules.specs.Bits.{Bits, bits}
+use Rattle.rules.specs.Layout.{field}
+use Rattle.rules.specs.State as rules
+use Rattle.rules.specs.Output.{do-escape, indent-aware-write}
+use Rattle.rules.specs.Value.{render}
+use Rattle.rules.specs.Registry.{Registry}
+use Rattle.rules.specs.Render.{render-element, render-elements, render-expression}
+use Rattle.bits.specs.Packed.{bytes-at}
+use Rattle.output.specs.declared.Writer.{Writer}
+use Rattle.output.specs.Outputs.{Outputs, outputs}
+use Rattle.support.specs.Feed.{escaped, fed}
+use Rattle.layout.specs.Text.{text-at}
+use Rattle.calls.specs.Calls.{call-at}
+use Rattle.template.specs.declared.Element.{Element}
+use Rattle.template.specs.declared.Element.the-variants.{RawString, Expression}
+use Rattle.template.specs.declared.Content.{Content}
+use Rattle.template.specs.Views.{content-view, element-says, element-view}
+use Rattle.value.specs.declared.Value.{Value}
+use Rattle.meaning.specs.Meaning.{json-of}
+use Rattle.meaning.specs.Means.{Means}
+use Rattle.meaning.specs.Standing.{Stands}
+use Rattle.expand.specs.declared.Options.{Options}
+use Rattle.expand.specs.Answers.{Setting}
+use Rattle.helpers.specs.declared.Shows.{Shows}
+use Rattle.helpers.specs.declared.Shows.the-variants as shows
+use Rattle.helpers.specs.Does.{Expresses}
+use Rattle.state.specs.Context.{RenderContext}
+use Rattle.state.specs.Setters.{wrote}
+use Rattle.state.specs.World.{World, world, over, abs, Ready, Draws}
+use Rattle.writing.specs.Writes.{Wrote}
+use Rattle.writing.specs.Laws.{draws-fed, escape-is, wrote-by}
+use Rattle.drawing.specs.Renders.{Renders}
+use Rattle.drawing.specs.Elements.{element-raw, element-expression}
+use Rattle.expressions.specs.Laws.{expression-refused, expression-written, expression-nothing}
+use Rattle.parts.specs.HoldsLaws.{Passed}
+use Rattle.template.specs.Views.{in-body}
+use Rattle.template.specs.Bodies.{elements-at}
+use Rattle.rules.specs.Template.{Template}
+use Rattle.rules.specs.State.{prefixed}
+use Rattle.state.specs.Setters.{located}
+use Rattle.state.specs.World.{name-at}
+use Rattle.state.specs.Laws.{goes-self, goes-trans}
+use Rattle.drawing.specs.Renders.{registry-of}
+use Rattle.rules.specs.Render.{render-template}
+use Rattle.drawing.specs.Loop.{prefixed-nothing, prefixed-both, draws-prefixed, renders-at, Drawing, drawing-stop, drawing-more}
+use Rattle.plain.specs.declared.One.{One}
+use Rattle.plain.specs.Plain.{kept, full-number, TextIs, PathIs, OneDrawn, one-of, Step, Run}
+
+-- a writer that has written
+pub kept-wrote : (c : RenderContext) (w u : Writer) → kept c u (full-number u) ≡ wrote (kept c w 0) u
+kept-wrote c w u = by (u .full)
+  where
+    by : (t : Bool) → kept c u (pick t (pick (u .«block_text») 24 25) 0) ≡ pick t (kept (kept c w 0) u (pick (u .«block_text») 24 25)) (kept c u 0)
+    by true = refl
+    by false = refl
+
+-- c is the context with the writer w in front of the element at p
+module _ (s b : Bytes) (o : Options) (d p : ℕ) (c : RenderContext) (w : Writer) (page texts indent : Bytes) (ent : List ℕ) (r : Ready s b (world (kept c w 0) page texts indent ent)) where
+  abbrev before : World
+  before = world (kept c w 0) page texts indent ent
+
+  -- the text was fed, and u is the writer behind it
+  pub text-drawn : (n : ℕ) → TextIs d (bits b) (p + 16 + 16) n → (u : Writer) (page′ texts′ : Bytes) → outputs u page′ texts′ ≡ fed indent (bytes-at (bits b) (p + 16 + 16 + 20) n) (outputs w page texts)
+      → OneDrawn s b o d p before (world (kept c u (full-number u)) page′ texts′ indent ent) (p + 16 + 16 + 20 + 8 * n)
+  text-drawn n T u page′ texts′ h =
+      let q = p + 16 + 16 in
+      let a : q + 20 ≡ q + 4 + 16 = omega arith in
+      let v : bytes-at (bits b) (q + 20) n ≡ text-at (bits b) (q + 4) = ap₂ (bytes-at (bits b)) a (T .count) in
+      let z : Wrote (kept c w 0) (kept c u (full-number u)) page′ texts′ (fed indent (text-at (bits b) (q + 4)) (outputs w page texts)) =
+      wrote-by (kept c w 0) (kept c u (full-number u)) u page′ texts′ (fed indent (text-at (bits b) (q + 4)) (outputs w page texts))
+      (h ∙ ap (λ (x : Bytes). fed indent x (outputs w page texts)) v) (kept-wrote c w u) in
+      record {
+        next = sym (ap (λ (x : Content). x .next) (T .seen));
+        renders = element-raw s b o before (world (kept c u (full-number u)) page′ texts′ indent ent) d (element-view 16 d (bits b) p .element) (q + 4)
+            (ap (λ (x : Content). x .element) (T .seen)) (draws-fed s b before (kept c u (full-number u)) page′ texts′ r (text-at (bits b) (q + 4)) z);
+      }
+
+  -- a is what an expression with a path alone does
+  module _ (e : ℕ) (P : PathIs d (bits b) (p + 16 + 16) e) (a : Shows)
+      (E : (g : Registry) (st : rules.RenderContext) (t : ℕ) (ibw : Bool) → Setting s b ent (c .scopes) (c .used) o g st t → Expresses s b ent t g (call-at d (bits b) (p + 16 + 16 + 4)) ibw st (render-expression g (call-at d (bits b) (p + 16 + 16 + 4)) ibw st) a) where
+    drawn : (l : World) → Renders s b o before l (λ g R. render-expression g (call-at d (bits b) (p + 16 + 16 + 4)) (P .before)) → OneDrawn s b o d p before l (e + 9)
+    drawn l R = record {
+      next = sym (ap (λ (x : Content). x .next) (P .seen));
+      renders = element-expression s b o before l d (element-view 16 d (bits b) p .element) (p + 16 + 16 + 4) (P .before) (ap (λ (x : Content). x .element) (P .seen)) R;
+    }
+
+    pub path-refused : (n : ℕ) → a ≡ shows.Bad n → OneDrawn s b o d p before (world (kept c w n) page texts indent ent) (e + 9)
+    path-refused n h = drawn (world (kept c w n) page texts indent ent) (expression-refused s b o before r (call-at d (bits b) (p + 16 + 16 + 4)) (P .before) a E n h (kept c w n) refl)
+
+    pub path-nothing : a ≡ shows.Nothing → OneDrawn s b o d p before before (e + 9)
+    path-nothing h = drawn before (expression-nothing s b o before r (call-at d (bits b) (p + 16 + 16 + 4)) (P .before) a E h)
+
+    pub path-written : (v : Value) → a ≡ shows.Value v → (u : Writer) (page′ texts′ : Bytes)
+        → Means s b v (λ j. outputs u page′ texts′ ≡ fed indent (escaped (not (c .«disable_escape»)) (render j)) (outputs w page texts))
+        → OneDrawn s b o d p before (world (kept c u (full-number u)) page′ texts′ indent ent) (e + 9)
+    path-written v h u page′ texts′ M =
+        drawn (world (kept c u (full-number u)) page′ texts′ indent ent)
+        (expression-written s b o before r (call-at d (bits b) (p + 16 + 16 + 4)) (P .before) a E v h (kept c u (full-number u)) page′ texts′
+        (λ ent′ t st ready.
+        let x = world (kept c w 0) page texts indent ent′ in
+        let j = render (json-of s b ent′ v) in
+        subst (λ (y : Bytes). Draws s b x (world (kept c u (full-number u)) page′ texts′ indent ent′) (indent-aware-write y (abs s b x))) (escape-is s b x j)
+        (draws-fed s b x (kept c u (full-number u)) page′ texts′ ready (escaped (not (c .«disable_escape»)) j)
+        (wrote-by (kept c w 0) (kept c u (full-number u)) u page′ texts′ (fed indent (escaped (not (c .«disable_escape»)) j) (outputs w page texts)) (M .at ent′ t st) (kept-wrote c w u)))))
+
+-- How a function comes to a step
+
+module _ (s b : Bytes) (o : Options) (d p : ℕ) (c : RenderContext) (w : Writer) (page texts indent page′ texts′ : Bytes) (ent : List ℕ) (r : One) where
+  pub step-done : (u : Writer) (z n : ℕ) → r ≡ one-of u z n true → OneDrawn s b o d p (world (kept c w 0) page texts indent ent) (world (kept c u n) page′ texts′ indent ent) z
+      → Step s b o d p c w page texts indent page′ texts′ ent r
+  step-done u z n e D = record {
+    done = λ t. subst (λ (x : One). OneDrawn s b o d p (world (kept c w 0) page texts indent ent) (world (kept c (x .writer) (x .bad)) page′ texts′ indent ent) (x .next)) (sym e) D;
+    left = λ f.
+        let x : true ≡ false = sym (ap (λ (x : One). x .drawn) e) ∙ f in
+        let y : _≡_ {A = ℕ} 0 1 = cc in
+        absurd (omega arith);
+  }
+
+  pub step-left : r .drawn ≡ false → page′ ≡ page → texts′ ≡ texts → Step s b o d p c w page texts indent page′ texts′ ent r
+  step-left e f g = record {
+    done = λ t.
+        let x : true ≡ false = sym t ∙ e in
+        let y : _≡_ {A = ℕ} 0 1 = cc in
+        absurd (omega arith);
+    left = λ h. (f, g);
+  }
+
+-- Elements one after the other
+
+-- a context that holds no error
+pub kept-same : (c : RenderContext) → c .bad ≡ 0 → c ≡ kept c (c .writer) 0
+kept-same c e = ap (λ (n : ℕ). kept c (c .writer) n) e
+
+-- none is drawn yet
+pub drawing-here : (s b : Bytes) (o : Options) (d count : ℕ) (l : World) (i p : ℕ) → Ready s b l → (n : Option Bytes) (z : ℕ) → Passed (in-body 16 d) (bits b) count i p z
+    → Drawing s b o n (elements-at 16 d (count - i) (bits b) p) d count z l l i p
+drawing-here s b o d count l i p r n z P = record {
+  passed = P;
+  text = [];
+  goes = goes-self s b l r;
+  rest = λ f le. sym (prefixed-nothing (render-elements (registry-of s b o (length (l .page))) (render-template (registry-of s b o (length (l .page))) f) n (elements-at 16 d (count - i) (bits b) p) (abs s b l)));
+}
+
+-- from l on, the elements from the i-th at p to the k-th at q are drawn, and m is left
+abbrev pub Onward : Bytes → Bytes → Options → ℕ → ℕ → World → World → ℕ → ℕ → ℕ → ℕ → Type 0
+Onward s b o d count l m i p k q = (n : Option Bytes) (z : ℕ) → Passed (in-body 16 d) (bits b) count i p z → Drawing s b o n (elements-at 16 d (count - i) (bits b) p) d count z l m k q
+
+module _ (s b : Bytes) (o : Options) (d count : ℕ) (l m : World) (i p k q : ℕ) (D : Onward s b o d count l m i p k q) where
+  pub run-left : i ≤ k → m .rc .bad ≡ 0 → Run s b o d count l m i p k q
+  run-left le f = record { forth = le; drawn = λ n z P e. D n z P; refused = λ n z j P h bad. absurd (bad f) }
+
+  module _ (lt : k < count) (m′ : World) (next : ℕ) (E : OneDrawn s b o d q m m′ next) where
+    pub run-stop : i ≤ k → (m′ .rc .bad ≡ 0 → ⊥) → Run s b o d count l m′ i p k q
+    run-stop le bad = record {
+      forth = le;
+      drawn = λ n z P e. absurd (bad e);
+      refused = λ n z j P h e. drawing-stop s b o n l (elements-at 16 d (count - i) (bits b) p) d count z m k q (D n z P) lt (element-view 16 d (bits b) q) refl m′ (E .renders) j h e;
+    }
+
+    pub run-more : m′ .rc .bad ≡ 0 → Onward s b o d count l m′ i p (k + 1) next
+    run-more e n z P =
+        subst (Drawing s b o n (elements-at 16 d (count - i) (bits b) p) d count z l m′ (k + 1)) (sym (E .next))
+        (drawing-more s b o n l (elements-at 16 d (count - i) (bits b) p) d count z m k q (D n z P) lt (element-view 16 d (bits b) q) refl m′ (E .renders) e)
+
+-- A run within the drawing of a body
+
+module _ (s b : Bytes) (o : Options) (n : Option Bytes) (w : World) (T : Template) (d count z : ℕ) (l : World) (i p : ℕ) (D : Drawing s b o n T d count z w l i p) (m : World) (k q : ℕ) (R : Run s b o d count l m i p k q) where
+  pub run-drawn : m .rc .bad ≡ 0 → Drawing s b o n T d count z w m k q
+  run-drawn e =
+      let E = R .drawn n z (D .passed) e in
+      let x = D .goes .sizes .page in
+      let u : ((f : ℕ) → 32 ≤ f + l .rc .used → render-elements (registry-of s b o (length (w .page))) (render-template (registry-of s b o (length (w .page))) f) n (elements-at 16 d (count - i) (bits b) p) (abs s b l)
+      ≡ prefixed (E .text) (render-elements (registry-of s b o (length (w .page))) (render-template (registry-of s b o (length (w .page))) f) n (elements-at 16 d (count - k) (bits b) q) (abs s b m))) =
+      subst (λ (j : ℕ). (f : ℕ) → 32 ≤ f + l .rc .used → render-elements (registry-of s b o j) (render-template (registry-of s b o j) f) n (elements-at 16 d (count - i) (bits b) p) (abs s b l)
+      ≡ prefixed (E .text) (render-elements (registry-of s b o j) (render-template (registry-of s b o j) f) n (elements-at 16 d (count - k) (bits b) q) (abs s b m))) x (E .rest) in
+      record {
+        passed = E .passed;
+        text = D .text ++ E .text;
+        goes = goes-trans s b (D .text) (E .text) w l m (D .goes) (E .goes);
+        rest = λ f le.
+            D .rest f le
+            ∙ ap (prefixed (D .text)) (u f (subst (λ (j : ℕ). 32 ≤ f + j) (sym (D .goes .used)) le))
+            ∙ prefixed-both (D .text) (E .text) (render-elements (registry-of s b o (length (w .page))) (render-template (registry-of s b o (length (w .page))) f) n (elements-at 16 d (count - k) (bits b) q) (abs s b m));
+      }
+
+  pub run-refused : (j : ℕ) → n ≡ name-at b j → (m .rc .bad ≡ 0 → ⊥) → Renders s b o w (over (located (m .rc) j (field (bits b) 16 q) (field (bits b) 16 (q + 16))) m) (λ g R. render-elements g R n T)
+  run-refused j h bad =
+      let v : World = over (located (m .rc) j (field (bits b) 16 q) (field (bits b) 16 (q + 16))) m in
+      let E = R .refused n z j (D .passed) h bad in
+      record {
+        at = λ f le.
+            subst (Draws s b w v) (sym (D .rest f le))
+            (draws-prefixed s b (D .text) w l v _ (D .goes) (renders-at s b o w l v (λ g R. render-elements g R n (elements-at 16 d (count - i) (bits b) p)) (D .goes .sizes .page) (D .goes .used) E f le));
+      }

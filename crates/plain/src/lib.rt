@@ -1,0 +1,245 @@
+// render.rs: of the elements of a body, the raw texts and the expressions that are a path alone, one after the other. Most elements are such, and only the writer
+// changes from one to the next, so nothing else goes from call to call.
+// s is the plan with its places tab, b the bundle; ent holds the entries of open partials, indent the indent in force; d is the number of depths left for what
+// stands in an element.
+ghost use mathlib.Core.Bool.{true, false};
+ghost use mathlib.Core.Path.{_≡_};
+ghost use Prim.Native.Nat.{ℕ, _+_, _≤_};
+ghost use lib.ListN.{length};
+ghost use Rattle.rules.specs.Bits.{bits};
+ghost use Rattle.rules.specs.Bundle.{param, call-of, element-of, body};
+ghost use Rattle.parts.specs.Holds.{Holds};
+ghost use Rattle.parts.specs.HoldsLaws.{Passed};
+ghost use Rattle.template.specs.Views.{in-body};
+ghost use Rattle.places.specs.Accepted.{Accepted};
+ghost use Rattle.state.specs.Context.{whole};
+ghost use Rattle.state.specs.World.{world, Ready};
+ghost use Rattle.plain.specs.Plain.{kept, full-number, PlainIs, PathIs, one-of, Step, run-of};
+ghost use Rattle.plain.specs.Plain as plain;
+use expand::Options;
+use helpers::Shows;
+use output::Writer;
+use state::RenderContext;
+
+// What an element is, as far as few reads tell.
+enum Plain {
+    // a raw text of so many bytes
+    Text(usize),
+    // an expression that is a path alone: the place behind the path
+    Path(usize),
+    Other,
+}
+
+// The element whose kind stands at p.
+fn plain_at(b: &[u8], p: usize, d: usize) -> Plain
+    requires { ⌜ (length (now b) ≤ 65536) × Holds (element-of (call-of (param d)) (body 16 d)) (bits (now b)) p ⌝ }
+    ensures { λ r. ⌜ PlainIs d (bits (now (b .entry))) p r ⌝ }
+{
+    // the kind, and behind it the count of a raw text, or a name's kind and the count of the string that a path begins with
+    let x = bits::field(b, p, 22);
+    if x < 262144 {
+        return Plain::Text((x / 4) as usize);
+    }
+    // 2 and 1: an expression, and a path
+    if x / 65536 != 9 {
+        return Plain::Other;
+    }
+    let e = parts::skip_path(b, p + 6);
+    // the counts of parameters and pairs, and the bit behind the call
+    if 1 < bits::field(b, e, 9) {
+        return Plain::Other;
+    }
+    Plain::Path(e)
+}
+
+// An element that may be drawn: the writer behind it and the place behind it, or the number of its refusal.
+struct One {
+    writer: Writer,
+    next: usize,
+    bad: u8,
+    drawn: bool,
+}
+
+fn full_number(w: Writer) -> u8
+    ensures { λ r. ⌜ r ≡ full-number w ⌝ }
+{
+    if !w.full {
+        return 0;
+    }
+    if w.block_text {
+        return 24;
+    }
+    25
+}
+
+// A text that was written.
+fn written(w: Writer, next: usize) -> One
+    ensures { λ r. ⌜ r ≡ one-of w next (full-number w) true ⌝ }
+{
+    let bad = full_number(w);
+    One {
+        writer: w,
+        next,
+        bad,
+        drawn: true,
+    }
+}
+
+// Nothing was written.
+fn unwritten(w: Writer, next: usize, bad: u8, drawn: bool) -> One
+    ensures { λ r. ⌜ r ≡ one-of w next bad drawn ⌝ }
+{
+    One {
+        writer: w,
+        next,
+        bad,
+        drawn,
+    }
+}
+
+// The expression at p, with a path that ends at e. One that calls a helper is left.
+fn draw_path(
+    s: &[u8],
+    tab: &[u64],
+    b: &[u8],
+    ent: &[u64],
+    page: &mut [u8],
+    texts: &mut [u8],
+    indent: &[u8],
+    sc: &[u64],
+    options: Options,
+    p: usize,
+    e: usize,
+    rc: RenderContext,
+    w: Writer,
+) -> One
+    requires { ⌜ Accepted (now s) (now tab) × (length (now b) ≤ 65536) × Ready (now s) (now b) (world (kept (whole rc (now sc)) w 0) (now page) (now texts) (now indent) (now ent)) × ((d : ℕ) × PathIs d (bits (now b)) (p + 16 + 16) e) × (length (now sc) ≡ 96) ⌝ }
+    ensures { λ r. ⌜ ((d : ℕ) → PathIs d (bits (now (b .entry))) (p + 16 + 16) e → Step (now (s .entry)) (now (b .entry)) options d p (whole rc (now (sc .entry))) w (now (page .entry)) (now (texts .entry)) (now (indent .entry)) (now (page .exit)) (now (texts .exit)) (now (ent .entry)) r) ⌝ }
+{
+    let shows = helpers::bare_path(s, tab, b, ent, sc, rc.used, options, p + 16 + 16 + 6);
+    match shows {
+        Shows::Bad(n) => unwritten(w, e + 9, n, true),
+        Shows::Helper => unwritten(w, e + 9, 0, false),
+        Shows::Value(v) => {
+            let escape = !rc.disable_escape;
+            let u = writing::write_value(page, texts, indent, w, s, tab, b, v, escape);
+            written(u, e + 9)
+        }
+        Shows::Nothing => unwritten(w, e + 9, 0, true),
+    }
+}
+
+// The element at p, if it is one of these.
+fn draw_one(
+    s: &[u8],
+    tab: &[u64],
+    b: &[u8],
+    ent: &[u64],
+    page: &mut [u8],
+    texts: &mut [u8],
+    indent: &[u8],
+    sc: &[u64],
+    options: Options,
+    p: usize,
+    d: usize,
+    rc: RenderContext,
+    w: Writer,
+) -> One
+    requires { ⌜ Accepted (now s) (now tab) × (length (now b) ≤ 65536) × Ready (now s) (now b) (world (kept (whole rc (now sc)) w 0) (now page) (now texts) (now indent) (now ent)) × Holds (in-body 16 d) (bits (now b)) p × (length (now sc) ≡ 96) ⌝ }
+    ensures { λ r. ⌜ Step (now (s .entry)) (now (b .entry)) options d p (whole rc (now (sc .entry))) w (now (page .entry)) (now (texts .entry)) (now (indent .entry)) (now (page .exit)) (now (texts .exit)) (now (ent .entry)) r ⌝ }
+{
+    let q = p + 16 + 16;
+    match plain_at(b, q, d) {
+        Plain::Text(n) => {
+            let u = writing::write_packed(page, texts, indent, w, b, q + 20, n);
+            written(u, q + 20 + 8 * n)
+        }
+        Plain::Path(e) => draw_path(
+            s,
+            tab,
+            b,
+            ent,
+            page,
+            texts,
+            indent,
+            sc,
+            options,
+            p,
+            e,
+            rc,
+            w,
+        ),
+        Plain::Other => unwritten(w, q, 0, false),
+    }
+}
+
+// How far the elements of a body are drawn: the writer, the number of the next one and its place, and the number of its refusal, or 0.
+pub struct Run {
+    pub writer: Writer,
+    pub i: u64,
+    pub cur: usize,
+    pub bad: u8,
+}
+
+fn run_of(writer: Writer, i: u64, cur: usize, bad: u8) -> Run
+    ensures { λ r. ⌜ r ≡ run-of writer i cur bad ⌝ }
+{
+    Run {
+        writer,
+        i,
+        cur,
+        bad,
+    }
+}
+
+// The elements of a body from the i-th on, which stands at p, until one is another. There are count in all.
+pub fn draw_run(
+    s: &[u8],
+    tab: &[u64],
+    b: &[u8],
+    ent: &[u64],
+    page: &mut [u8],
+    texts: &mut [u8],
+    indent: &[u8],
+    sc: &[u64],
+    options: Options,
+    count: u64,
+    i: u64,
+    p: usize,
+    d: usize,
+    rc: RenderContext,
+) -> Run
+    requires { ⌜ Accepted (now s) (now tab) × (length (now b) ≤ 65536) × Ready (now s) (now b) (world (whole rc (now sc)) (now page) (now texts) (now indent) (now ent)) × ((z : ℕ) × Passed (in-body 16 d) (bits (now b)) count i p z) × (length (now sc) ≡ 96) ⌝ }
+    ensures { λ r. ⌜ plain.Run (now (s .entry)) (now (b .entry)) options d count (world (whole rc (now (sc .entry))) (now (page .entry)) (now (texts .entry)) (now (indent .entry)) (now (ent .entry))) (world (kept (whole rc (now (sc .entry))) (r .writer) (r .bad)) (now (page .exit)) (now (texts .exit)) (now (indent .entry)) (now (ent .entry))) i p (r .i) (r .cur) ⌝ }
+{
+    let mut w = rc.writer;
+    let mut k = i;
+    let mut cur = p;
+    while k < count {
+        let e = draw_one(
+            s,
+            tab,
+            b,
+            ent,
+            page,
+            texts,
+            indent,
+            sc,
+            options,
+            cur,
+            d,
+            rc,
+            w,
+        );
+        if !e.drawn {
+            return run_of(w, k, cur, 0);
+        }
+        w = e.writer;
+        if e.bad != 0 {
+            return run_of(w, k, cur, e.bad);
+        }
+        cur = e.next;
+        k += 1;
+    }
+    run_of(w, k, cur, 0)
+}
