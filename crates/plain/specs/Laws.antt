@@ -2,7 +2,7 @@
 use Prim.Native.Nat.{ℕ, _+_, _*_, _-_, _≤_, _<_}
 use mathlib.Core.Bool.{Bool, true, false, not}
 use mathlib.Core.List.{List, [], _++_}
-use mathlib.Core.Option.{Option}
+use mathlib.Core.Option.{Option, none}
 use mathlib.Core.Path.{_≡_, refl, sym, ap, ap₂, _∙_, subst}
 use native.Mathlib.Omega.{arith}
 use lib.ListN.{length}
@@ -43,7 +43,8 @@ use Rattle.drawing.specs.Elements.{element-raw, element-expression}
 use Rattle.expressions.specs.Laws.{expression-refused, expression-written, expression-nothing}
 use Rattle.parts.specs.HoldsLaws.{Passed}
 use Rattle.template.specs.Views.{in-body}
-use Rattle.template.specs.Bodies.{elements-at}
+use Rattle.template.specs.Bodies.{elements-at, element-here, placed-fits}
+use Rattle.rules.specs.Bundle.{param, call-of, body}
 use Rattle.rules.specs.Template.{Template}
 use Rattle.rules.specs.State.{prefixed}
 use Rattle.state.specs.Setters.{located}
@@ -156,12 +157,13 @@ Onward s b o d count l m i p k q = (n : Option Bytes) (z : ℕ) → Passed (in-b
 
 module _ (s b : Bytes) (o : Options) (d count : ℕ) (l m : World) (i p k q : ℕ) (D : Onward s b o d count l m i p k q) where
   pub run-left : i ≤ k → m .rc .bad ≡ 0 → Run s b o d count l m i p k q
-  run-left le f = record { forth = le; drawn = λ n z P e. D n z P; refused = λ n z j P h bad. absurd (bad f) }
+  run-left le f = record { forth = le; fits = λ z P bad. absurd (bad f); drawn = λ n z P e. D n z P; refused = λ n z j P h bad. absurd (bad f) }
 
   module _ (lt : k < count) (m′ : World) (next : ℕ) (E : OneDrawn s b o d q m m′ next) where
     pub run-stop : i ≤ k → (m′ .rc .bad ≡ 0 → ⊥) → Run s b o d count l m′ i p k q
     run-stop le bad = record {
       forth = le;
+      fits = λ z P e. placed-fits 16 (call-of (param d)) (body 16 d) (bits b) q (element-here 16 d (bits b) count k q z (D none z P .passed) lt);
       drawn = λ n z P e. absurd (bad e);
       refused = λ n z j P h e. drawing-stop s b o n l (elements-at 16 d (count - i) (bits b) p) d count z m k q (D n z P) lt (element-view 16 d (bits b) q) refl m′ (E .renders) j h e;
     }

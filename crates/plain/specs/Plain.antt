@@ -79,6 +79,7 @@ run-of w k q n = record { writer = w; i = k; cur = q; bad = n }
 -- How far it goes is free; where it stops with a refusal, that is the one of the next element.
 pub record Run (s b : Bytes) (o : Options) (d count : ℕ) (l l′ : World) (i p k q : ℕ) : Type 0 where
   pub forth : i ≤ k
+  pub fits : (z : ℕ) → Passed (in-body 16 d) (bits b) count i p z → (l′ .rc .bad ≡ 0 → ⊥) → q + 16 + 16 ≤ bits b .size
   pub drawn : (n : Option Bytes) (z : ℕ) → Passed (in-body 16 d) (bits b) count i p z → l′ .rc .bad ≡ 0
       → Drawing s b o n (elements-at 16 d (count - i) (bits b) p) d count z l l′ k q
   pub refused : (n : Option Bytes) (z m : ℕ) → Passed (in-body 16 d) (bits b) count i p z → n ≡ name-at b m → (l′ .rc .bad ≡ 0 → ⊥)

@@ -2,6 +2,7 @@
 // s is the plan with its places tab, b the bundle with the places of its templates; d is the number of depths left for a body, its own
 // included. ent holds the entries of open partials, indent the indent in force; page and texts are written into.
 ghost use mathlib.Core.Path.{_≡_};
+ghost use mathlib.Core.List.{List};
 ghost use mathlib.Core.Option.{some};
 ghost use Prim.Native.Nat.{ℕ, _+_, _≤_, _<_};
 ghost use lib.ListN.{length};
@@ -17,20 +18,41 @@ ghost use Rattle.parts.specs.Holds.{Holds};
 ghost use Rattle.parts.specs.Says.{MaybeHolds, names-at};
 ghost use Rattle.template.specs.Views.{template-at, element-says, ElementHolds};
 ghost use Rattle.state.specs.Context.{whole};
-ghost use Rattle.state.specs.Setters.{fresh};
+ghost use Rattle.rules.specs.Layout.{field};
+ghost use Rattle.state.specs.Setters.{fresh, located};
 ghost use Rattle.state.specs.World.{world, Ready, Draws};
 ghost use Rattle.drawing.specs.Renders.{Checked, Named, Renders, registry-of, Openable};
 ghost use Rattle.helping.specs.Decided.{helper-rule};
 ghost use Rattle.drawing.specs.EachLoop.{each-rule};
 ghost use Rattle.drawing.specs.Renders.{body-rule};
 ghost use Rattle.beginning.specs.Opened.{partial-rule};
+ghost use Rattle.plain.specs.Plain.{kept};
 ghost use Rattle.render.specs.Texts.{TextDrawn, TextReady};
 use expand::Options;
+use output::Writer;
 use parts::Maybe;
 use state::RenderContext;
 use template::Element;
 use turns::Turn;
 use value::Value;
+
+// The error of the element at p gets the line and column that stand there.
+fn stopped(b: &[u8], name: usize, p: usize, rc: RenderContext) -> RenderContext
+    requires { ⌜ p ≤ 524288 ⌝ }
+    ensures { λ r. ⌜ ((l : List ℕ) → whole r l ≡ located (whole rc l) name (field (bits (now (b .entry))) 16 p) (field (bits (now (b .entry))) 16 (p + 16))) ⌝ }
+{
+    state::located(rc, name, bits::field(b, p, 16), bits::field(b, p + 16, 16))
+}
+
+// The context behind a run of elements.
+fn resumed(rc: RenderContext, w: Writer, bad: u8) -> RenderContext
+    ensures { λ r. ⌜ ((l : List ℕ) → whole r l ≡ kept (whole rc l) w bad) ⌝ }
+{
+    let mut q = rc;
+    q.writer = w;
+    q.bad = bad;
+    q
+}
 
 // A body, or all of a template whose name stands at the place before name; 0 where it has none.
 fn render_elements(
@@ -58,6 +80,32 @@ fn render_elements(
     let mut cur = body.first;
     let mut i: u64 = 0;
     while i < count {
+        let run = plain::draw_run(
+            s,
+            tab,
+            b,
+            ent,
+            page,
+            texts,
+            indent,
+            sc,
+            options,
+            count,
+            i,
+            cur,
+            d - 1,
+            q,
+        );
+        let w = run.writer;
+        q = resumed(q, w, run.bad);
+        cur = run.cur;
+        i = run.i;
+        if q.bad != 0 {
+            return stopped(b, name, cur, q);
+        }
+        if count <= i {
+            return q;
+        }
         let e = template::content_at(b, cur + 16 + 16, 16, d - 1);
         let element = e.element;
         q = render_element(
@@ -76,12 +124,7 @@ fn render_elements(
             q,
         );
         if q.bad != 0 {
-            return state::located(
-                q,
-                name,
-                bits::field(b, cur, 16),
-                bits::field(b, cur + 16, 16),
-            );
+            return stopped(b, name, cur, q);
         }
         cur = e.next;
         i += 1;
