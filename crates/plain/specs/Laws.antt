@@ -49,12 +49,13 @@ use Rattle.rules.specs.Template.{Template}
 use Rattle.rules.specs.State.{prefixed}
 use Rattle.state.specs.Setters.{located}
 use Rattle.state.specs.World.{name-at}
-use Rattle.state.specs.Laws.{goes-self, goes-trans}
+use Rattle.state.specs.Laws.{goes-self, goes-trans, reason-some}
+use Rattle.state.specs.World.{top}
+use Rattle.drawing.specs.Members.{setting}
 use Rattle.drawing.specs.Renders.{registry-of}
 use Rattle.rules.specs.Render.{render-template}
 use Rattle.drawing.specs.Loop.{prefixed-nothing, prefixed-both, draws-prefixed, renders-at, Drawing, drawing-stop, drawing-more}
-use Rattle.plain.specs.declared.One.{One}
-use Rattle.plain.specs.Plain.{kept, full-number, TextIs, PathIs, OneDrawn, one-of, Step, Run}
+use Rattle.plain.specs.Plain.{kept, full-number, TextIs, PathIs, OneDrawn, Run}
 
 -- a writer that has written
 pub kept-wrote : (c : RenderContext) (w u : Writer) → kept c u (full-number u) ≡ wrote (kept c w 0) u
@@ -63,6 +64,26 @@ kept-wrote c w u = by (u .full)
     by : (t : Bool) → kept c u (pick t (pick (u .«block_text») 24 25) 0) ≡ pick t (kept (kept c w 0) u (pick (u .«block_text») 24 25)) (kept c u 0)
     by true = refl
     by false = refl
+
+pub full-none : (w : Writer) → w .full ≡ false → full-number w ≡ 0
+full-none w e = ap (λ (t : Bool). pick t (pick (w .«block_text») 24 25) 0) e
+
+pub full-bad : (w : Writer) → w .full ≡ true → full-number w ≡ 0 → ⊥
+full-bad w e h = by (w .«block_text») (sym (ap (λ (t : Bool). pick t (pick (w .«block_text») 24 25) 0) e) ∙ h)
+  where
+    by : (t : Bool) → _≡_ {A = ℕ} (pick t 24 25) 0 → ⊥
+    by true h = omega (arith, h)
+    by false h = omega (arith, h)
+
+-- the same element, by other names for what is left
+pub one-moved : (s b : Bytes) (o : Options) (d p : ℕ) (l : World) (c : RenderContext) (indent : Bytes) (ent : List ℕ) (u u′ : Writer) (page page′ texts texts′ : Bytes) (z z′ : ℕ)
+    → page′ ≡ page → texts′ ≡ texts → u′ ≡ u → z′ ≡ z → OneDrawn s b o d p l (world (kept c u (full-number u)) page texts indent ent) z
+    → OneDrawn s b o d p l (world (kept c u′ (full-number u′)) page′ texts′ indent ent) z′
+one-moved s b o d p l c indent ent u u′ page page′ texts texts′ z z′ e f g h O =
+    subst (λ (x : Bytes). OneDrawn s b o d p l (world (kept c u′ (full-number u′)) x texts′ indent ent) z′) (sym e)
+    (subst (λ (x : Bytes). OneDrawn s b o d p l (world (kept c u′ (full-number u′)) page x indent ent) z′) (sym f)
+    (subst (λ (x : Writer). OneDrawn s b o d p l (world (kept c x (full-number x)) page texts indent ent) z′) (sym g)
+    (subst (OneDrawn s b o d p l (world (kept c u (full-number u)) page texts indent ent)) (sym h) O)))
 
 -- c is the context with the writer w in front of the element at p
 module _ (s b : Bytes) (o : Options) (d p : ℕ) (c : RenderContext) (w : Writer) (page texts indent : Bytes) (ent : List ℕ) (r : Ready s b (world (kept c w 0) page texts indent ent)) where
@@ -97,8 +118,18 @@ module _ (s b : Bytes) (o : Options) (d p : ℕ) (c : RenderContext) (w : Writer
     pub path-refused : (n : ℕ) → a ≡ shows.Bad n → OneDrawn s b o d p before (world (kept c w n) page texts indent ent) (e + 9)
     path-refused n h = drawn (world (kept c w n) page texts indent ent) (expression-refused s b o before r (call-at d (bits b) (p + 16 + 16 + 4)) (P .before) a E n h (kept c w n) refl)
 
-    pub path-nothing : a ≡ shows.Nothing → OneDrawn s b o d p before before (e + 9)
-    path-nothing h = drawn before (expression-nothing s b o before r (call-at d (bits b) (p + 16 + 16 + 4)) (P .before) a E h)
+    pub path-number : (n : ℕ) → a ≡ shows.Bad n → n ≡ 0 → ⊥
+    path-number n h z =
+        let g = registry-of s b o (length page) in
+        let c = call-at d (bits b) (p + 16 + 16 + 4) in
+        let f : Expresses s b ent (top before) g c (P .before) (abs s b before) (render-expression g c (P .before) (abs s b before)) (shows.Bad n) =
+        subst (Expresses s b ent (top before) g c (P .before) (abs s b before) (render-expression g c (P .before) (abs s b before))) h (E g (abs s b before) (top before) (P .before) (setting s b o before r (length page))) in
+        reason-some (f .reason) (f .by-number ∙ z)
+
+    pub path-nothing : a ≡ shows.Nothing → OneDrawn s b o d p before (world (kept c w (full-number w)) page texts indent ent) (e + 9)
+    path-nothing h =
+        subst (λ (n : ℕ). OneDrawn s b o d p before (world (kept c w n) page texts indent ent) (e + 9)) (sym (full-none w (r .sound .goes)))
+        (drawn before (expression-nothing s b o before r (call-at d (bits b) (p + 16 + 16 + 4)) (P .before) a E h))
 
     pub path-written : (v : Value) → a ≡ shows.Value v → (u : Writer) (page′ texts′ : Bytes)
         → Means s b v (λ j. outputs u page′ texts′ ≡ fed indent (escaped (not (c .«disable_escape»)) (render j)) (outputs w page texts))
@@ -112,28 +143,6 @@ module _ (s b : Bytes) (o : Options) (d p : ℕ) (c : RenderContext) (w : Writer
         subst (λ (y : Bytes). Draws s b x (world (kept c u (full-number u)) page′ texts′ indent ent′) (indent-aware-write y (abs s b x))) (escape-is s b x j)
         (draws-fed s b x (kept c u (full-number u)) page′ texts′ ready (escaped (not (c .«disable_escape»)) j)
         (wrote-by (kept c w 0) (kept c u (full-number u)) u page′ texts′ (fed indent (escaped (not (c .«disable_escape»)) j) (outputs w page texts)) (M .at ent′ t st) (kept-wrote c w u)))))
-
--- How a function comes to a step
-
-module _ (s b : Bytes) (o : Options) (d p : ℕ) (c : RenderContext) (w : Writer) (page texts indent page′ texts′ : Bytes) (ent : List ℕ) (r : One) where
-  pub step-done : (u : Writer) (z n : ℕ) → r ≡ one-of u z n true → OneDrawn s b o d p (world (kept c w 0) page texts indent ent) (world (kept c u n) page′ texts′ indent ent) z
-      → Step s b o d p c w page texts indent page′ texts′ ent r
-  step-done u z n e D = record {
-    done = λ t. subst (λ (x : One). OneDrawn s b o d p (world (kept c w 0) page texts indent ent) (world (kept c (x .writer) (x .bad)) page′ texts′ indent ent) (x .next)) (sym e) D;
-    left = λ f.
-        let x : true ≡ false = sym (ap (λ (x : One). x .drawn) e) ∙ f in
-        let y : _≡_ {A = ℕ} 0 1 = cc in
-        absurd (omega arith);
-  }
-
-  pub step-left : r .drawn ≡ false → page′ ≡ page → texts′ ≡ texts → Step s b o d p c w page texts indent page′ texts′ ent r
-  step-left e f g = record {
-    done = λ t.
-        let x : true ≡ false = sym t ∙ e in
-        let y : _≡_ {A = ℕ} 0 1 = cc in
-        absurd (omega arith);
-    left = λ h. (f, g);
-  }
 
 -- Elements one after the other
 

@@ -23,7 +23,6 @@ use Rattle.state.specs.Setters.{failed, located, with-writer}
 use Rattle.state.specs.World.{World, world, over, name-at}
 use Rattle.drawing.specs.Renders.{Renders}
 use Rattle.drawing.specs.Loop.{Drawing}
-use Rattle.plain.specs.declared.One.{One}
 use Rattle.plain.specs.declared.Run as code
 use Rattle.plain.specs.declared.Plain.{Plain}
 use Rattle.plain.specs.declared.Plain.the-variants.{Text, Path, Other}
@@ -63,14 +62,6 @@ PlainIs d b p Other = Unit {0}
 pub record OneDrawn (s b : Bytes) (o : Options) (d p : ℕ) (l l′ : World) (z : ℕ) : Type 0 where
   pub next : z ≡ element-view 16 d (bits b) p .next
   pub renders : Renders s b o l l′ (λ g R. render-element g R (element-says 16 d (bits b) (element-view 16 d (bits b) p .element)))
-
-abbrev pub one-of : Writer → ℕ → ℕ → Bool → One
-one-of w next n drawn = record { writer = w; next = next; bad = n; drawn = drawn }
-
--- the element at p is drawn with the writer w in the context c, or nothing is changed
-pub record Step (s b : Bytes) (o : Options) (d p : ℕ) (c : RenderContext) (w : Writer) (page texts indent page′ texts′ : Bytes) (ent : List ℕ) (r : One) : Type 0 where
-  pub done : r .drawn ≡ true → OneDrawn s b o d p (world (kept c w 0) page texts indent ent) (world (kept c (r .writer) (r .bad)) page′ texts′ indent ent) (r .next)
-  pub left : r .drawn ≡ false → (page′ ≡ page) × (texts′ ≡ texts)
 
 abbrev pub run-of : Writer → ℕ → ℕ → ℕ → code.Run
 run-of w k q n = record { writer = w; i = k; cur = q; bad = n }

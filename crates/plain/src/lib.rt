@@ -14,7 +14,7 @@ ghost use Rattle.template.specs.Views.{in-body};
 ghost use Rattle.places.specs.Accepted.{Accepted};
 ghost use Rattle.state.specs.Context.{whole};
 ghost use Rattle.state.specs.World.{world, Ready};
-ghost use Rattle.plain.specs.Plain.{kept, full-number, PlainIs, PathIs, one-of, Step, run-of};
+ghost use Rattle.plain.specs.Plain.{kept, full-number, PlainIs, run-of};
 ghost use Rattle.plain.specs.Plain as plain;
 use expand::Options;
 use helpers::Shows;
@@ -52,14 +52,6 @@ fn plain_at(b: &[u8], p: usize, d: usize) -> Plain
     Plain::Path(e)
 }
 
-// An element that may be drawn: the writer behind it and the place behind it, or the number of its refusal.
-struct One {
-    writer: Writer,
-    next: usize,
-    bad: u8,
-    drawn: bool,
-}
-
 fn full_number(w: Writer) -> u8
     ensures { λ r. ⌜ r ≡ full-number w ⌝ }
 {
@@ -70,107 +62,6 @@ fn full_number(w: Writer) -> u8
         return 24;
     }
     25
-}
-
-// A text that was written.
-fn written(w: Writer, next: usize) -> One
-    ensures { λ r. ⌜ r ≡ one-of w next (full-number w) true ⌝ }
-{
-    let bad = full_number(w);
-    One {
-        writer: w,
-        next,
-        bad,
-        drawn: true,
-    }
-}
-
-// Nothing was written.
-fn unwritten(w: Writer, next: usize, bad: u8, drawn: bool) -> One
-    ensures { λ r. ⌜ r ≡ one-of w next bad drawn ⌝ }
-{
-    One {
-        writer: w,
-        next,
-        bad,
-        drawn,
-    }
-}
-
-// The expression at p, with a path that ends at e. One that calls a helper is left.
-fn draw_path(
-    s: &[u8],
-    tab: &[u64],
-    b: &[u8],
-    ent: &[u64],
-    page: &mut [u8],
-    texts: &mut [u8],
-    indent: &[u8],
-    sc: &[u64],
-    options: Options,
-    p: usize,
-    e: usize,
-    rc: RenderContext,
-    w: Writer,
-) -> One
-    requires { ⌜ Accepted (now s) (now tab) × (length (now b) ≤ 65536) × Ready (now s) (now b) (world (kept (whole rc (now sc)) w 0) (now page) (now texts) (now indent) (now ent)) × ((d : ℕ) × PathIs d (bits (now b)) (p + 16 + 16) e) × (length (now sc) ≡ 96) ⌝ }
-    ensures { λ r. ⌜ ((d : ℕ) → PathIs d (bits (now (b .entry))) (p + 16 + 16) e → Step (now (s .entry)) (now (b .entry)) options d p (whole rc (now (sc .entry))) w (now (page .entry)) (now (texts .entry)) (now (indent .entry)) (now (page .exit)) (now (texts .exit)) (now (ent .entry)) r) ⌝ }
-{
-    let shows = helpers::bare_path(s, tab, b, ent, sc, rc.used, options, p + 16 + 16 + 6);
-    match shows {
-        Shows::Bad(n) => unwritten(w, e + 9, n, true),
-        Shows::Helper => unwritten(w, e + 9, 0, false),
-        Shows::Value(v) => {
-            let escape = !rc.disable_escape;
-            let u = writing::write_value(page, texts, indent, w, s, tab, b, v, escape);
-            written(u, e + 9)
-        }
-        Shows::Nothing => unwritten(w, e + 9, 0, true),
-    }
-}
-
-// The element at p, if it is one of these.
-fn draw_one(
-    s: &[u8],
-    tab: &[u64],
-    b: &[u8],
-    ent: &[u64],
-    page: &mut [u8],
-    texts: &mut [u8],
-    indent: &[u8],
-    sc: &[u64],
-    options: Options,
-    p: usize,
-    d: usize,
-    rc: RenderContext,
-    w: Writer,
-) -> One
-    requires { ⌜ Accepted (now s) (now tab) × (length (now b) ≤ 65536) × Ready (now s) (now b) (world (kept (whole rc (now sc)) w 0) (now page) (now texts) (now indent) (now ent)) × Holds (in-body 16 d) (bits (now b)) p × (length (now sc) ≡ 96) ⌝ }
-    ensures { λ r. ⌜ Step (now (s .entry)) (now (b .entry)) options d p (whole rc (now (sc .entry))) w (now (page .entry)) (now (texts .entry)) (now (indent .entry)) (now (page .exit)) (now (texts .exit)) (now (ent .entry)) r ⌝ }
-{
-    let q = p + 16 + 16;
-    match plain_at(b, q, d) {
-        Plain::Text(n) => {
-            let u = writing::write_packed(page, texts, indent, w, b, q + 20, n);
-            written(u, q + 20 + 8 * n)
-        }
-        Plain::Path(e) => draw_path(
-            s,
-            tab,
-            b,
-            ent,
-            page,
-            texts,
-            indent,
-            sc,
-            options,
-            p,
-            e,
-            rc,
-            w,
-        ),
-        Plain::Other => unwritten(w, q, 0, false),
-    }
 }
 
 // How far the elements of a body are drawn: the writer, the number of the next one and its place, and the number of its refusal, or 0.
@@ -216,29 +107,37 @@ pub fn draw_run(
     let mut k = i;
     let mut cur = p;
     while k < count {
-        let e = draw_one(
-            s,
-            tab,
-            b,
-            ent,
-            page,
-            texts,
-            indent,
-            sc,
-            options,
-            cur,
-            d,
-            rc,
-            w,
-        );
-        if !e.drawn {
-            return run_of(w, k, cur, 0);
+        let q = cur + 16 + 16;
+        let mut next = q;
+        match plain_at(b, q, d) {
+            Plain::Text(n) => {
+                w = writing::write_packed(page, texts, indent, w, b, q + 20, n);
+                next = q + 20 + 8 * n;
+            }
+            Plain::Path(e) => {
+                match helpers::bare_path(s, tab, b, ent, sc, rc.used, options, q + 6) {
+                    Shows::Bad(n) => {
+                        return run_of(w, k, cur, n);
+                    }
+                    Shows::Helper => {
+                        return run_of(w, k, cur, 0);
+                    }
+                    Shows::Value(v) => {
+                        let escape = !rc.disable_escape;
+                        w = writing::write_value(page, texts, indent, w, s, tab, b, v, escape);
+                    }
+                    Shows::Nothing => {}
+                }
+                next = e + 9;
+            }
+            Plain::Other => {
+                return run_of(w, k, cur, 0);
+            }
         }
-        w = e.writer;
-        if e.bad != 0 {
-            return run_of(w, k, cur, e.bad);
+        if w.full {
+            return run_of(w, k, cur, full_number(w));
         }
-        cur = e.next;
+        cur = next;
         k += 1;
     }
     run_of(w, k, cur, 0)

@@ -1,25 +1,34 @@
 -- `plain::draw_run` meets its contract.
 use native.Mathlib.Omega.{arith}
-use Prim.Native.Nat.{ℕ, _+_, _-_, _≤_}
-use mathlib.Core.List.{List}
+use Prim.Native.Nat.{ℕ, _+_, _-_, _*_, _≤_}
+use mathlib.Core.Logic.{⊎-elim}
 use mathlib.Core.Option.{none}
-use mathlib.Core.Path.{_≡_, refl, sym, ap, _∙_, subst}
-use borrow.Author.Tests.{not-true, not-false}
-use Rattle.rules.specs.Bytes.{Bytes}
+use mathlib.Core.Path.{_≡_, refl, sym, ap, subst}
+use lib.ListN.{length}
 use Rattle.rules.specs.Bits.{bits}
-use Rattle.template.specs.Bodies.{element-here}
+use Rattle.rules.specs.Bundle.{param, call-of, body}
+use Rattle.rules.specs.BundleLaws.{bits-size}
+use Rattle.parts.specs.HoldsLaws.{string-in}
+use Rattle.parts.specs.Parts.{path-raw}
+use Rattle.calls.specs.Calls.{call-at}
+use Rattle.template.specs.Bodies.{element-here, placed-fits, placed-holds}
 use Rattle.state.specs.Context.{RenderContext, whole}
-use Rattle.state.specs.World.{World, world}
+use Rattle.state.specs.World.{World, world, top}
+use Rattle.expressions.specs.Laws.{expression-known}
 use Rattle.plain.specs.declared.Run as code
-use Rattle.plain.specs.Plain.{kept, Run}
-use Rattle.plain.specs.Laws.{kept-same, drawing-here, Onward, run-left, run-stop, run-more}
+use Rattle.plain.specs.Plain.{kept, full-number, TextIs, PathIs, PlainIs, OneDrawn, Run}
+use Rattle.plain.specs.Laws.{kept-same, full-none, full-bad, one-moved, text-drawn, path-refused, path-number, path-nothing, path-written, drawing-here, Onward, run-left, run-stop, run-more}
 use borrow.Author.Needs.{needs}
 use Rattle.plain.proofs.draw_run.Statement.{statement}
 use Rattle.plain.proofs.draw_run.Tie as tie
 use Rattle.plain.proofs.draw_run.Reads as reads
 use Rattle.plain.proofs.draw_run.Lts as lts
-use Rattle.plain.proofs.draw_one.Reads as draw-one-reads
+use Rattle.helpers.proofs.bare_path.Reads as bare-path-reads
+use Rattle.plain.proofs.full_number.Reads as full-number-reads
+use Rattle.plain.proofs.plain_at.Reads as plain-at-reads
 use Rattle.plain.proofs.run_of.Reads as run-of-reads
+use Rattle.writing.proofs.write_packed.Reads as write-packed-reads
+use Rattle.writing.proofs.write_value.Reads as write-value-reads
 
 abbrev Inv-loop : tie.InvT-loop
 Inv-loop s tab b ent page₀ texts₀ indent sc options count i p d rc w₀ k₀ cur₀ page texts w k cur = (i ≤ k)
@@ -33,80 +42,309 @@ loop-holds c = let z = (c .before .before .before .before .before .before .befor
     let a = z .args in
     (omega arith, subst (λ (x : RenderContext). Onward (a .s .now) (a .b .now) (a .options) (a .d) (a .count) (world (whole (a .rc) (a .sc .now)) (a .page .now) (a .texts .now) (a .indent .now) (a .ent .now)) (world x (a .page .now) (a .texts .now) (a .indent .now) (a .ent .now)) (a .i) (a .p) (a .i) (a .p)) (kept-same (whole (a .rc) (a .sc .now)) (z .pre .2 .fine)) (drawing-here (a .s .now) (a .b .now) (a .options) (a .d) (a .count) (world (whole (a .rc) (a .sc .now)) (a .page .now) (a .texts .now) (a .indent .now) (a .ent .now)) (a .i) (a .p) (z .pre .2)))
 
-draw-one-requires : tie.Need-draw-one-requires Inv-loop μ-loop
-draw-one-requires c κs = let z = (c .before .before .before .before .before .before .before .before .before .before .before .before .before) in
+add-q : tie.Need-add-q Inv-loop μ-loop
+add-q c = let z = (c .before .before .before .before .before .before .before .before .before .before .before) in
     let a = z .args in
-    let l = (c .before .before .before) .loop in
+    let l = (c .before) .loop in
     let D = l .inv .1 none (z .pre .3 .0) (z .pre .3 .1) in
-    (z .pre .0, z .pre .1, D .goes .ready, element-here 16 (a .d) (bits (a .b .now)) (a .count) (l .k) (l .cur) (z .pre .3 .0) (D .passed) ((c .before .before) .loop-test .taken), z .pre .4)
+    let g = element-here 16 (a .d) (bits (a .b .now)) (a .count) (l .k) (l .cur) (z .pre .3 .0) (D .passed) (c .loop-test .taken) in
+    let k = placed-fits 16 (call-of (param (a .d))) (body 16 (a .d)) (bits (a .b .now)) (l .cur) g in
+    omega (arith, k, z .pre .1, bits-size (a .b .now))
+
+add-q-2 : tie.Need-add-q-2 Inv-loop μ-loop
+add-q-2 c = let z = (c .before .before .before .before .before .before .before .before .before .before .before) in
+    let a = z .args in
+    let l = (c .before) .loop in
+    let D = l .inv .1 none (z .pre .3 .0) (z .pre .3 .1) in
+    let g = element-here 16 (a .d) (bits (a .b .now)) (a .count) (l .k) (l .cur) (z .pre .3 .0) (D .passed) (c .loop-test .taken) in
+    let k = placed-fits 16 (call-of (param (a .d))) (body 16 (a .d)) (bits (a .b .now)) (l .cur) g in
+    omega (arith, k, z .pre .1, bits-size (a .b .now))
+
+plain-at-requires : tie.Need-plain-at-requires Inv-loop μ-loop
+plain-at-requires c κs = let z = (c .before .before .before .before .before .before .before .before .before .before .before) in
+    let a = z .args in
+    let l = (c .before) .loop in
+    let D = l .inv .1 none (z .pre .3 .0) (z .pre .3 .1) in
+    let g = element-here 16 (a .d) (bits (a .b .now)) (a .count) (l .k) (l .cur) (z .pre .3 .0) (D .passed) (c .loop-test .taken) in
+    (z .pre .1, placed-holds 16 (call-of (param (a .d))) (body 16 (a .d)) (bits (a .b .now)) (l .cur) g)
+
+enum-known-n : tie.Need-enum-known-n Inv-loop μ-loop
+enum-known-n c = search needs
+
+add-write-packed : tie.Need-add-write-packed Inv-loop μ-loop
+add-write-packed c = let z = (c .before .before .before .before .before .before .before .before .before .before .before .before .before .before .before .before .before) in
+    let a = z .args in
+    let l = (c .before .before .before .before .before .before .before) .loop in
+    let D = l .inv .1 none (z .pre .3 .0) (z .pre .3 .1) in
+    let T : TextIs (a .d) (bits (a .b .now)) (l .cur + 16 + 16) ((c .before .before .before) .n .given .0 .0) = subst (PlainIs (a .d) (bits (a .b .now)) (l .cur + 16 + 16)) ((c .before .before .before) .n .given .1) ((c .before .before .before .before .before) .plain-at .ensures) in
+    let k = string-in (bits (a .b .now)) (l .cur + 16 + 16 + 4) (T .text) in
+    omega (arith, k, T .count, z .pre .1, bits-size (a .b .now))
+
+write-packed-requires : tie.Need-write-packed-requires Inv-loop μ-loop
+write-packed-requires c κs = let z = (c .before .before .before .before .before .before .before .before .before .before .before .before .before .before .before .before .before) in
+    let a = z .args in
+    let l = (c .before .before .before .before .before .before .before) .loop in
+    let D = l .inv .1 none (z .pre .3 .0) (z .pre .3 .1) in
+    let T : TextIs (a .d) (bits (a .b .now)) (l .cur + 16 + 16) ((c .before .before .before) .n .given .0 .0) = subst (PlainIs (a .d) (bits (a .b .now)) (l .cur + 16 + 16)) ((c .before .before .before) .n .given .1) ((c .before .before .before .before .before) .plain-at .ensures) in
+    let k = string-in (bits (a .b .now)) (l .cur + 16 + 16 + 4) (T .text) in
+    omega (arith, k, T .count, z .pre .1, bits-size (a .b .now))
+
+add-next : tie.Need-add-next Inv-loop μ-loop
+add-next c = let z = (c .before .before .before .before .before .before .before .before .before .before .before .before .before .before .before .before .before .before .before .before .before .before) in
+    let a = z .args in
+    let l = (c .before .before .before .before .before .before .before .before .before .before .before .before) .loop in
+    let D = l .inv .1 none (z .pre .3 .0) (z .pre .3 .1) in
+    let T : TextIs (a .d) (bits (a .b .now)) (l .cur + 16 + 16) ((c .before .before .before .before .before .before .before .before) .n .given .0 .0) = subst (PlainIs (a .d) (bits (a .b .now)) (l .cur + 16 + 16)) ((c .before .before .before .before .before .before .before .before) .n .given .1) ((c .before .before .before .before .before .before .before .before .before .before) .plain-at .ensures) in
+    let k = string-in (bits (a .b .now)) (l .cur + 16 + 16 + 4) (T .text) in
+    omega (arith, k, T .count, z .pre .1, bits-size (a .b .now))
+
+mul-next : tie.Need-mul-next Inv-loop μ-loop
+mul-next c = let z = (c .before .before .before .before .before .before .before .before .before .before .before .before .before .before .before .before .before .before .before .before .before .before) in
+    let a = z .args in
+    let l = (c .before .before .before .before .before .before .before .before .before .before .before .before) .loop in
+    let D = l .inv .1 none (z .pre .3 .0) (z .pre .3 .1) in
+    let T : TextIs (a .d) (bits (a .b .now)) (l .cur + 16 + 16) ((c .before .before .before .before .before .before .before .before) .n .given .0 .0) = subst (PlainIs (a .d) (bits (a .b .now)) (l .cur + 16 + 16)) ((c .before .before .before .before .before .before .before .before) .n .given .1) ((c .before .before .before .before .before .before .before .before .before .before) .plain-at .ensures) in
+    let k = string-in (bits (a .b .now)) (l .cur + 16 + 16 + 4) (T .text) in
+    omega (arith, k, T .count, z .pre .1, bits-size (a .b .now))
+
+add-next-2 : tie.Need-add-next-2 Inv-loop μ-loop
+add-next-2 c = let z = (c .before .before .before .before .before .before .before .before .before .before .before .before .before .before .before .before .before .before .before .before .before .before) in
+    let a = z .args in
+    let l = (c .before .before .before .before .before .before .before .before .before .before .before .before) .loop in
+    let D = l .inv .1 none (z .pre .3 .0) (z .pre .3 .1) in
+    let T : TextIs (a .d) (bits (a .b .now)) (l .cur + 16 + 16) ((c .before .before .before .before .before .before .before .before) .n .given .0 .0) = subst (PlainIs (a .d) (bits (a .b .now)) (l .cur + 16 + 16)) ((c .before .before .before .before .before .before .before .before) .n .given .1) ((c .before .before .before .before .before .before .before .before .before .before) .plain-at .ensures) in
+    let k = string-in (bits (a .b .now)) (l .cur + 16 + 16 + 4) (T .text) in
+    omega (arith, k, T .count, z .pre .1, bits-size (a .b .now))
+
+enum-known-e : tie.Need-enum-known-e Inv-loop μ-loop
+enum-known-e c = search needs
+
+add-bare-path : tie.Need-add-bare-path Inv-loop μ-loop
+add-bare-path c = let z = (c .before .before .before .before .before .before .before .before .before .before .before .before .before .before .before) in
+    let a = z .args in
+    let l = (c .before .before .before .before .before) .loop in
+    let D = l .inv .1 none (z .pre .3 .0) (z .pre .3 .1) in
+    let P : PathIs (a .d) (bits (a .b .now)) (l .cur + 16 + 16) ((c .before) .e .given .0 .0) = subst (PlainIs (a .d) (bits (a .b .now)) (l .cur + 16 + 16)) ((c .before) .e .given .1) ((c .before .before .before) .plain-at .ensures) in
+    let k = string-in (bits (a .b .now)) (l .cur + 16 + 16 + 6) (path-raw (bits (a .b .now)) (l .cur + 16 + 16 + 6) (P .leads)) in
+    omega (arith, z .pre .1, k, P .fits, bits-size (a .b .now))
+
+bare-path-requires : tie.Need-bare-path-requires Inv-loop μ-loop
+bare-path-requires c κs = let z = (c .before .before .before .before .before .before .before .before .before .before .before .before .before .before .before) in
+    let a = z .args in
+    let l = (c .before .before .before .before .before) .loop in
+    let D = l .inv .1 none (z .pre .3 .0) (z .pre .3 .1) in
+    let P : PathIs (a .d) (bits (a .b .now)) (l .cur + 16 + 16) ((c .before) .e .given .0 .0) = subst (PlainIs (a .d) (bits (a .b .now)) (l .cur + 16 + 16)) ((c .before) .e .given .1) ((c .before .before .before) .plain-at .ensures) in
+    (z .pre .0, z .pre .1, D .goes .ready .one, D .goes .ready .most, (top (world (kept (whole (a .rc) (a .sc .now)) (l .w) 0) (l .page) (l .texts) (a .indent .now) (a .ent .now)), D .goes .ready .scopes), P .leads, z .pre .4)
+
+enum-known-n-2 : tie.Need-enum-known-n-2 Inv-loop μ-loop
+enum-known-n-2 c = search needs
 
 run-of-requires : tie.Need-run-of-requires Inv-loop μ-loop
 run-of-requires c κs = search needs
 
 same-length : tie.Need-same-length Inv-loop μ-loop
-same-length c = let z = (c .before .before .before .before .before .before .before .before .before .before .before .before .before .before .before .before .before .before .before .before .before) in let D = (c .before .before .before .before .before .before .before .before .before .before .before) .loop .inv .1 none (z .pre .3 .0) (z .pre .3 .1) in omega (arith, (c .before .before .before .before .before .before .before) .draw-one .kept .1 .1 .1 .1 .0, D .goes .sizes .page)
+same-length c = let z = (c .before .before .before .before .before .before .before .before .before .before .before .before .before .before .before .before .before .before .before .before) in let D = (c .before .before .before .before .before .before .before .before .before .before) .loop .inv .1 none (z .pre .3 .0) (z .pre .3 .1) in omega (arith, D .goes .sizes .page)
 
 same-length-2 : tie.Need-same-length-2 Inv-loop μ-loop
-same-length-2 c = let z = (c .before .before .before .before .before .before .before .before .before .before .before .before .before .before .before .before .before .before .before .before .before) in let D = (c .before .before .before .before .before .before .before .before .before .before .before) .loop .inv .1 none (z .pre .3 .0) (z .pre .3 .1) in omega (arith, (c .before .before .before .before .before .before .before) .draw-one .kept .1 .1 .1 .1 .1 .0, D .goes .sizes .texts)
+same-length-2 c = let z = (c .before .before .before .before .before .before .before .before .before .before .before .before .before .before .before .before .before .before .before .before) in let D = (c .before .before .before .before .before .before .before .before .before .before) .loop .inv .1 none (z .pre .3 .0) (z .pre .3 .1) in omega (arith, D .goes .sizes .texts)
 
 returns : tie.Need-returns Inv-loop μ-loop
-returns c = let z = (c .before .before .before .before .before .before .before .before .before .before .before .before .before .before .before .before .before .before .before .before .before) in
+returns c = let z = (c .before .before .before .before .before .before .before .before .before .before .before .before .before .before .before .before .before .before .before .before) in
     let a = z .args in
-    let l = (c .before .before .before .before .before .before .before .before .before .before .before) .loop in
-    let f = (c .before .before .before .before .before .before .before) .draw-one in
-    let e = f .ensures .left (not-true (f .result .drawn) ((c .before) .if1 .taken)) in
-    subst (λ (x : code.Run). Run (a .s .now) (a .b .now) (a .options) (a .d) (a .count) (world (whole (a .rc) (a .sc .now)) (a .page .now) (a .texts .now) (a .indent .now) (a .ent .now)) (world (kept (whole (a .rc) (a .sc .now)) (x .writer) (x .bad)) (f .last .1 .1 .1 .1 .0) (f .last .1 .1 .1 .1 .1 .0) (a .indent .now) (a .ent .now)) (a .i) (a .p) (x .i) (x .cur)) (sym (c .run-of .ensures))
-    (subst (λ (x : Bytes). Run (a .s .now) (a .b .now) (a .options) (a .d) (a .count) (world (whole (a .rc) (a .sc .now)) (a .page .now) (a .texts .now) (a .indent .now) (a .ent .now)) (world (kept (whole (a .rc) (a .sc .now)) (l .w) 0) x (f .last .1 .1 .1 .1 .1 .0) (a .indent .now) (a .ent .now)) (a .i) (a .p) (l .k) (l .cur)) (sym (e .0))
-    (subst (λ (x : Bytes). Run (a .s .now) (a .b .now) (a .options) (a .d) (a .count) (world (whole (a .rc) (a .sc .now)) (a .page .now) (a .texts .now) (a .indent .now) (a .ent .now)) (world (kept (whole (a .rc) (a .sc .now)) (l .w) 0) (l .page) x (a .indent .now) (a .ent .now)) (a .i) (a .p) (l .k) (l .cur)) (sym (e .1))
-    (run-left (a .s .now) (a .b .now) (a .options) (a .d) (a .count) (world (whole (a .rc) (a .sc .now)) (a .page .now) (a .texts .now) (a .indent .now) (a .ent .now)) (world (kept (whole (a .rc) (a .sc .now)) (l .w) 0) (l .page) (l .texts) (a .indent .now) (a .ent .now)) (a .i) (a .p) (l .k) (l .cur) (l .inv .1) (l .inv .0) refl)))
+    let l = (c .before .before .before .before .before .before .before .before .before .before) .loop in
+    let D = l .inv .1 none (z .pre .3 .0) (z .pre .3 .1) in
+    let P : PathIs (a .d) (bits (a .b .now)) (l .cur + 16 + 16) ((c .before .before .before .before .before .before) .e .given .0 .0) = subst (PlainIs (a .d) (bits (a .b .now)) (l .cur + 16 + 16)) ((c .before .before .before .before .before .before) .e .given .1) ((c .before .before .before .before .before .before .before .before) .plain-at .ensures) in
+    subst (λ (j : code.Run). Run (a .s .now) (a .b .now) (a .options) (a .d) (a .count) (world (whole (a .rc) (a .sc .now)) (a .page .now) (a .texts .now) (a .indent .now) (a .ent .now)) (world (kept (whole (a .rc) (a .sc .now)) (j .writer) (j .bad)) (l .page) (l .texts) (a .indent .now) (a .ent .now)) (a .i) (a .p) (j .i) (j .cur)) (sym (c .run-of .ensures))
+    (run-stop (a .s .now) (a .b .now) (a .options) (a .d) (a .count) (world (whole (a .rc) (a .sc .now)) (a .page .now) (a .texts .now) (a .indent .now) (a .ent .now)) (world (kept (whole (a .rc) (a .sc .now)) (l .w) 0) (l .page) (l .texts) (a .indent .now) (a .ent .now)) (a .i) (a .p) (l .k) (l .cur) (l .inv .1) ((c .before .before .before .before .before .before .before .before .before) .loop-test .taken) (world (kept (whole (a .rc) (a .sc .now)) (l .w) ((c .before .before) .n2 .given .0 .0)) (l .page) (l .texts) (a .indent .now) (a .ent .now)) ((c .before .before .before .before .before .before) .e .given .0 .0 + 9)
+    (path-refused (a .s .now) (a .b .now) (a .options) (a .d) (l .cur) (whole (a .rc) (a .sc .now)) (l .w) (l .page) (l .texts) (a .indent .now) (a .ent .now) (D .goes .ready) ((c .before .before .before .before .before .before) .e .given .0 .0) P ((c .before .before .before .before) .bare-path .result) (λ g st j ibw h. (c .before .before .before .before) .bare-path .ensures g st j (a .d) (l .cur + 16 + 16 + 4) ibw h (P .call) (P .named) (P .bare)) ((c .before .before) .n2 .given .0 .0) ((c .before .before) .n2 .given .1)) (l .inv .0)
+    (path-number (a .s .now) (a .b .now) (a .options) (a .d) (l .cur) (whole (a .rc) (a .sc .now)) (l .w) (l .page) (l .texts) (a .indent .now) (a .ent .now) (D .goes .ready) ((c .before .before .before .before .before .before) .e .given .0 .0) P ((c .before .before .before .before) .bare-path .result) (λ g st j ibw h. (c .before .before .before .before) .bare-path .ensures g st j (a .d) (l .cur + 16 + 16 + 4) ibw h (P .call) (P .named) (P .bare)) ((c .before .before) .n2 .given .0 .0) ((c .before .before) .n2 .given .1)))
+
+enum-told : tie.Need-enum-told Inv-loop μ-loop
+enum-told c = search needs
 
 run-of-requires-2 : tie.Need-run-of-requires-2 Inv-loop μ-loop
 run-of-requires-2 c κs = search needs
 
 same-length-3 : tie.Need-same-length-3 Inv-loop μ-loop
-same-length-3 c = let z = (c .before .before .before .before .before .before .before .before .before .before .before .before .before .before .before .before .before .before .before .before .before .before .before .before) in let D = (c .before .before .before .before .before .before .before .before .before .before .before .before .before .before) .loop .inv .1 none (z .pre .3 .0) (z .pre .3 .1) in omega (arith, (c .before .before .before .before .before .before .before .before .before .before) .draw-one .kept .1 .1 .1 .1 .0, D .goes .sizes .page)
+same-length-3 c = let z = (c .before .before .before .before .before .before .before .before .before .before .before .before .before .before .before .before .before .before .before) in let D = (c .before .before .before .before .before .before .before .before .before) .loop .inv .1 none (z .pre .3 .0) (z .pre .3 .1) in omega (arith, D .goes .sizes .page)
 
 same-length-4 : tie.Need-same-length-4 Inv-loop μ-loop
-same-length-4 c = let z = (c .before .before .before .before .before .before .before .before .before .before .before .before .before .before .before .before .before .before .before .before .before .before .before .before) in let D = (c .before .before .before .before .before .before .before .before .before .before .before .before .before .before) .loop .inv .1 none (z .pre .3 .0) (z .pre .3 .1) in omega (arith, (c .before .before .before .before .before .before .before .before .before .before) .draw-one .kept .1 .1 .1 .1 .1 .0, D .goes .sizes .texts)
+same-length-4 c = let z = (c .before .before .before .before .before .before .before .before .before .before .before .before .before .before .before .before .before .before .before) in let D = (c .before .before .before .before .before .before .before .before .before) .loop .inv .1 none (z .pre .3 .0) (z .pre .3 .1) in omega (arith, D .goes .sizes .texts)
 
 returns-2 : tie.Need-returns-2 Inv-loop μ-loop
-returns-2 c = let z = (c .before .before .before .before .before .before .before .before .before .before .before .before .before .before .before .before .before .before .before .before .before .before .before .before) in
+returns-2 c = let z = (c .before .before .before .before .before .before .before .before .before .before .before .before .before .before .before .before .before .before .before) in
     let a = z .args in
-    let l = (c .before .before .before .before .before .before .before .before .before .before .before .before .before .before) .loop in
-    let f = (c .before .before .before .before .before .before .before .before .before .before) .draw-one in
-    let N : World = world (kept (whole (a .rc) (a .sc .now)) (f .result .writer) (f .result .bad)) (f .last .1 .1 .1 .1 .0) (f .last .1 .1 .1 .1 .1 .0) (a .indent .now) (a .ent .now) in
-    subst (λ (x : code.Run). Run (a .s .now) (a .b .now) (a .options) (a .d) (a .count) (world (whole (a .rc) (a .sc .now)) (a .page .now) (a .texts .now) (a .indent .now) (a .ent .now)) (world (kept (whole (a .rc) (a .sc .now)) (x .writer) (x .bad)) (f .last .1 .1 .1 .1 .0) (f .last .1 .1 .1 .1 .1 .0) (a .indent .now) (a .ent .now)) (a .i) (a .p) (x .i) (x .cur)) (sym (c .run-of2 .ensures))
-    (run-stop (a .s .now) (a .b .now) (a .options) (a .d) (a .count) (world (whole (a .rc) (a .sc .now)) (a .page .now) (a .texts .now) (a .indent .now) (a .ent .now)) (world (kept (whole (a .rc) (a .sc .now)) (l .w) 0) (l .page) (l .texts) (a .indent .now) (a .ent .now)) (a .i) (a .p) (l .k) (l .cur) (l .inv .1) ((c .before .before .before .before .before .before .before .before .before .before .before .before .before) .loop-test .taken) N (f .result .next) (f .ensures .done (not-false (f .result .drawn) ((c .before .before .before .before) .if1 .left))) (l .inv .0) ((c .before) .if2 .taken))
+    let l = (c .before .before .before .before .before .before .before .before .before) .loop in
+    let D = l .inv .1 none (z .pre .3 .0) (z .pre .3 .1) in
+    subst (λ (j : code.Run). Run (a .s .now) (a .b .now) (a .options) (a .d) (a .count) (world (whole (a .rc) (a .sc .now)) (a .page .now) (a .texts .now) (a .indent .now) (a .ent .now)) (world (kept (whole (a .rc) (a .sc .now)) (j .writer) (j .bad)) (l .page) (l .texts) (a .indent .now) (a .ent .now)) (a .i) (a .p) (j .i) (j .cur)) (sym (c .run-of2 .ensures))
+    (run-left (a .s .now) (a .b .now) (a .options) (a .d) (a .count) (world (whole (a .rc) (a .sc .now)) (a .page .now) (a .texts .now) (a .indent .now) (a .ent .now)) (world (kept (whole (a .rc) (a .sc .now)) (l .w) 0) (l .page) (l .texts) (a .indent .now) (a .ent .now)) (a .i) (a .p) (l .k) (l .cur) (l .inv .1) (l .inv .0) refl)
 
-add-k : tie.Need-add-k Inv-loop μ-loop
-add-k c = omega (arith, (c .before .before .before .before .before .before .before .before .before .before .before .before) .loop-test .taken, (c .before .before .before .before .before .before .before .before .before .before .before .before .before .before .before .before .before .before .before .before .before .before .before) .good .1 .1 .1 .1 .1 .1 .1 .1 .1 .0)
+enum-known-v : tie.Need-enum-known-v Inv-loop μ-loop
+enum-known-v c = search needs
 
-loop-less : tie.Need-loop-less Inv-loop μ-loop
-loop-less c = search needs
-
-loop-again : tie.Need-loop-again Inv-loop μ-loop
-loop-again c = let z = (c .before .before .before .before .before .before .before .before .before .before .before .before .before .before .before .before .before .before .before .before .before .before .before) in
+write-value-requires : tie.Need-write-value-requires Inv-loop μ-loop
+write-value-requires c κs = let z = (c .before .before .before .before .before .before .before .before .before .before .before .before .before .before .before .before .before .before .before .before .before .before) in
     let a = z .args in
-    let l = (c .before .before .before .before .before .before .before .before .before .before .before .before .before) .loop in
-    let f = (c .before .before .before .before .before .before .before .before .before) .draw-one in
-    let N : World = world (kept (whole (a .rc) (a .sc .now)) (f .result .writer) (f .result .bad)) (f .last .1 .1 .1 .1 .0) (f .last .1 .1 .1 .1 .1 .0) (a .indent .now) (a .ent .now) in
-    let O = run-more (a .s .now) (a .b .now) (a .options) (a .d) (a .count) (world (whole (a .rc) (a .sc .now)) (a .page .now) (a .texts .now) (a .indent .now) (a .ent .now)) (world (kept (whole (a .rc) (a .sc .now)) (l .w) 0) (l .page) (l .texts) (a .indent .now) (a .ent .now)) (a .i) (a .p) (l .k) (l .cur) (l .inv .1) ((c .before .before .before .before .before .before .before .before .before .before .before .before) .loop-test .taken) N (f .result .next) (f .ensures .done (not-false (f .result .drawn) ((c .before .before .before) .if1 .left))) (c .if2 .left) in
-    (omega (arith, l .inv .0), subst (λ (x : ℕ). Onward (a .s .now) (a .b .now) (a .options) (a .d) (a .count) (world (whole (a .rc) (a .sc .now)) (a .page .now) (a .texts .now) (a .indent .now) (a .ent .now)) (world (kept (whole (a .rc) (a .sc .now)) (f .result .writer) x) (f .last .1 .1 .1 .1 .0) (f .last .1 .1 .1 .1 .1 .0) (a .indent .now) (a .ent .now)) (a .i) (a .p) (l .k + 1) (f .result .next)) (c .if2 .left) O)
+    let l = (c .before .before .before .before .before .before .before .before .before .before .before .before) .loop in
+    let D = l .inv .1 none (z .pre .3 .0) (z .pre .3 .1) in
+    let P : PathIs (a .d) (bits (a .b .now)) (l .cur + 16 + 16) ((c .before .before .before .before .before .before .before .before) .e .given .0 .0) = subst (PlainIs (a .d) (bits (a .b .now)) (l .cur + 16 + 16)) ((c .before .before .before .before .before .before .before .before) .e .given .1) ((c .before .before .before .before .before .before .before .before .before .before) .plain-at .ensures) in
+    (z .pre .0, z .pre .1, expression-known (a .s .now) (a .b .now) (a .options) (world (kept (whole (a .rc) (a .sc .now)) (l .w) 0) (l .page) (l .texts) (a .indent .now) (a .ent .now)) (D .goes .ready) (call-at (a .d) (bits (a .b .now)) (l .cur + 16 + 16 + 4)) (P .before) ((c .before .before .before .before .before .before) .bare-path .result) (λ g st j ibw h. (c .before .before .before .before .before .before) .bare-path .ensures g st j (a .d) (l .cur + 16 + 16 + 4) ibw h (P .call) (P .named) (P .bare)) ((c .before .before .before .before) .v .given .0 .0) ((c .before .before .before .before) .v .given .1))
+
+enum-told-2 : tie.Need-enum-told-2 Inv-loop μ-loop
+enum-told-2 c = search needs
+
+add-next-3 : tie.Need-add-next-3 Inv-loop μ-loop
+add-next-3 c = let z = (c .before .before .before .before .before .before .before .before .before .before .before .before .before .before .before .before .before) in
+    let a = z .args in
+    let l = (c .before .before .before .before .before .before .before) .loop in
+    let D = l .inv .1 none (z .pre .3 .0) (z .pre .3 .1) in
+    let P : PathIs (a .d) (bits (a .b .now)) (l .cur + 16 + 16) ((c .before .before .before) .e .given .0 .0) = subst (PlainIs (a .d) (bits (a .b .now)) (l .cur + 16 + 16)) ((c .before .before .before) .e .given .1) ((c .before .before .before .before .before) .plain-at .ensures) in
+    let k = string-in (bits (a .b .now)) (l .cur + 16 + 16 + 6) (path-raw (bits (a .b .now)) (l .cur + 16 + 16 + 6) (P .leads)) in
+    omega (arith, z .pre .1, k, P .fits, bits-size (a .b .now))
+
+enum-told-3 : tie.Need-enum-told-3 Inv-loop μ-loop
+enum-told-3 c = search needs
 
 run-of-requires-3 : tie.Need-run-of-requires-3 Inv-loop μ-loop
 run-of-requires-3 c κs = search needs
 
 same-length-5 : tie.Need-same-length-5 Inv-loop μ-loop
-same-length-5 c = let z = (c .before .before .before .before .before .before .before .before .before .before .before .before) in let D = (c .before .before) .loop .inv .1 none (z .pre .3 .0) (z .pre .3 .1) in omega (arith, D .goes .sizes .page)
+same-length-5 c = let z = (c .before .before .before .before .before .before .before .before .before .before .before .before .before .before .before) in let D = (c .before .before .before .before .before) .loop .inv .1 none (z .pre .3 .0) (z .pre .3 .1) in omega (arith, D .goes .sizes .page)
 
 same-length-6 : tie.Need-same-length-6 Inv-loop μ-loop
-same-length-6 c = let z = (c .before .before .before .before .before .before .before .before .before .before .before .before) in let D = (c .before .before) .loop .inv .1 none (z .pre .3 .0) (z .pre .3 .1) in omega (arith, D .goes .sizes .texts)
+same-length-6 c = let z = (c .before .before .before .before .before .before .before .before .before .before .before .before .before .before .before) in let D = (c .before .before .before .before .before) .loop .inv .1 none (z .pre .3 .0) (z .pre .3 .1) in omega (arith, D .goes .sizes .texts)
 
 returns-3 : tie.Need-returns-3 Inv-loop μ-loop
-returns-3 c = let z = (c .before .before .before .before .before .before .before .before .before .before .before .before) in
+returns-3 c = let z = (c .before .before .before .before .before .before .before .before .before .before .before .before .before .before .before) in
+    let a = z .args in
+    let l = (c .before .before .before .before .before) .loop in
+    let D = l .inv .1 none (z .pre .3 .0) (z .pre .3 .1) in
+    subst (λ (j : code.Run). Run (a .s .now) (a .b .now) (a .options) (a .d) (a .count) (world (whole (a .rc) (a .sc .now)) (a .page .now) (a .texts .now) (a .indent .now) (a .ent .now)) (world (kept (whole (a .rc) (a .sc .now)) (j .writer) (j .bad)) (l .page) (l .texts) (a .indent .now) (a .ent .now)) (a .i) (a .p) (j .i) (j .cur)) (sym (c .run-of3 .ensures))
+    (run-left (a .s .now) (a .b .now) (a .options) (a .d) (a .count) (world (whole (a .rc) (a .sc .now)) (a .page .now) (a .texts .now) (a .indent .now) (a .ent .now)) (world (kept (whole (a .rc) (a .sc .now)) (l .w) 0) (l .page) (l .texts) (a .indent .now) (a .ent .now)) (a .i) (a .p) (l .k) (l .cur) (l .inv .1) (l .inv .0) refl)
+
+full-number-requires : tie.Need-full-number-requires Inv-loop μ-loop
+full-number-requires c κs = search needs
+
+run-of-requires-4 : tie.Need-run-of-requires-4 Inv-loop μ-loop
+run-of-requires-4 c κs = search needs
+
+same-length-7 : tie.Need-same-length-7 Inv-loop μ-loop
+same-length-7 c = let z = (c .before .before .before .before .before .before .before .before .before .before .before .before .before .before .before .before) in
+    let a = z .args in
+    let l = (c .before .before .before .before .before .before) .loop in
+    let D = l .inv .1 none (z .pre .3 .0) (z .pre .3 .1) in
+    let x = (c .before .before .before) .match in
+    let e : length (x .page) ≡ length (l .page) =
+    ⊎-elim (λ t. omega (arith, ap length (t .10), t .5 .kept .0))
+    (λ t. let q = t .4 in
+    let h : length (q .page) ≡ length (l .page) = ⊎-elim (λ v. omega (arith, ap length (v .11), v .6 .kept .0)) (λ v. omega (arith, ap length (v .2))) (q .came) in
+    omega (arith, ap length (t .5), h))
+    (x .came) in
+    omega (arith, e, D .goes .sizes .page)
+
+same-length-8 : tie.Need-same-length-8 Inv-loop μ-loop
+same-length-8 c = let z = (c .before .before .before .before .before .before .before .before .before .before .before .before .before .before .before .before) in
+    let a = z .args in
+    let l = (c .before .before .before .before .before .before) .loop in
+    let D = l .inv .1 none (z .pre .3 .0) (z .pre .3 .1) in
+    let x = (c .before .before .before) .match in
+    let e : length (x .texts) ≡ length (l .texts) =
+    ⊎-elim (λ t. omega (arith, ap length (t .11), t .5 .kept .1 .0))
+    (λ t. let q = t .4 in
+    let h : length (q .texts) ≡ length (l .texts) = ⊎-elim (λ v. omega (arith, ap length (v .12), v .6 .kept .1 .0)) (λ v. omega (arith, ap length (v .3))) (q .came) in
+    omega (arith, ap length (t .6), h))
+    (x .came) in
+    omega (arith, e, D .goes .sizes .texts)
+
+returns-4 : tie.Need-returns-4 Inv-loop μ-loop
+returns-4 c = let z = (c .before .before .before .before .before .before .before .before .before .before .before .before .before .before .before .before) in
+    let a = z .args in
+    let l = (c .before .before .before .before .before .before) .loop in
+    let D = l .inv .1 none (z .pre .3 .0) (z .pre .3 .1) in
+    let x = (c .before .before .before) .match in
+    let f = (c .before .before .before .before) .plain-at in
+    let O : OneDrawn (a .s .now) (a .b .now) (a .options) (a .d) (l .cur) (world (kept (whole (a .rc) (a .sc .now)) (l .w) 0) (l .page) (l .texts) (a .indent .now) (a .ent .now)) (world (kept (whole (a .rc) (a .sc .now)) (x .w) (full-number (x .w))) (x .page) (x .texts) (a .indent .now) (a .ent .now)) (x .next) =
+    ⊎-elim
+    (λ t.
+    let n = t .1 .given .0 .0 in
+    let T : TextIs (a .d) (bits (a .b .now)) (l .cur + 16 + 16) n = subst (PlainIs (a .d) (bits (a .b .now)) (l .cur + 16 + 16)) (t .1 .given .1) (f .ensures) in
+    let y = t .5 in
+    one-moved (a .s .now) (a .b .now) (a .options) (a .d) (l .cur) (world (kept (whole (a .rc) (a .sc .now)) (l .w) 0) (l .page) (l .texts) (a .indent .now) (a .ent .now)) (whole (a .rc) (a .sc .now)) (a .indent .now) (a .ent .now) (y .result) (x .w) (y .last .0) (x .page) (y .last .1 .0) (x .texts) (l .cur + 16 + 16 + 20 + 8 * n) (x .next) (t .10) (t .11) (t .12) (t .13)
+    (text-drawn (a .s .now) (a .b .now) (a .options) (a .d) (l .cur) (whole (a .rc) (a .sc .now)) (l .w) (l .page) (l .texts) (a .indent .now) (a .ent .now) (D .goes .ready) n T (y .result) (y .last .0) (y .last .1 .0) (y .ensures)))
+    (λ t.
+    let e = t .1 .given .0 .0 in
+    let P : PathIs (a .d) (bits (a .b .now)) (l .cur + 16 + 16) e = subst (PlainIs (a .d) (bits (a .b .now)) (l .cur + 16 + 16)) (t .1 .given .1) (f .ensures) in
+    let q = t .4 in
+    one-moved (a .s .now) (a .b .now) (a .options) (a .d) (l .cur) (world (kept (whole (a .rc) (a .sc .now)) (l .w) 0) (l .page) (l .texts) (a .indent .now) (a .ent .now)) (whole (a .rc) (a .sc .now)) (a .indent .now) (a .ent .now) (q .w) (x .w) (q .page) (x .page) (q .texts) (x .texts) (e + 9) (x .next) (t .5) (t .6) (t .7) (t .8)
+    (⊎-elim
+    (λ v.
+    let y = v .6 in
+    one-moved (a .s .now) (a .b .now) (a .options) (a .d) (l .cur) (world (kept (whole (a .rc) (a .sc .now)) (l .w) 0) (l .page) (l .texts) (a .indent .now) (a .ent .now)) (whole (a .rc) (a .sc .now)) (a .indent .now) (a .ent .now) (y .result) (q .w) (y .last .0) (q .page) (y .last .1 .0) (q .texts) (e + 9) (e + 9) (v .11) (v .12) (v .13) refl
+    (path-written (a .s .now) (a .b .now) (a .options) (a .d) (l .cur) (whole (a .rc) (a .sc .now)) (l .w) (l .page) (l .texts) (a .indent .now) (a .ent .now) (D .goes .ready) e P (t .3 .result) (λ g st j ibw h. t .3 .ensures g st j (a .d) (l .cur + 16 + 16 + 4) ibw h (P .call) (P .named) (P .bare)) (v .1 .given .0 .0) (v .1 .given .1) (y .result) (y .last .0) (y .last .1 .0) (y .ensures)))
+    (λ v. one-moved (a .s .now) (a .b .now) (a .options) (a .d) (l .cur) (world (kept (whole (a .rc) (a .sc .now)) (l .w) 0) (l .page) (l .texts) (a .indent .now) (a .ent .now)) (whole (a .rc) (a .sc .now)) (a .indent .now) (a .ent .now) (l .w) (q .w) (l .page) (q .page) (l .texts) (q .texts) (e + 9) (e + 9) (v .2) (v .3) (v .4) refl
+    (path-nothing (a .s .now) (a .b .now) (a .options) (a .d) (l .cur) (whole (a .rc) (a .sc .now)) (l .w) (l .page) (l .texts) (a .indent .now) (a .ent .now) (D .goes .ready) e P (t .3 .result) (λ g st j ibw h. t .3 .ensures g st j (a .d) (l .cur + 16 + 16 + 4) ibw h (P .call) (P .named) (P .bare)) (v .1 .given .1)))
+    (q .came)))
+    (x .came) in
+    subst (λ (j : code.Run). Run (a .s .now) (a .b .now) (a .options) (a .d) (a .count) (world (whole (a .rc) (a .sc .now)) (a .page .now) (a .texts .now) (a .indent .now) (a .ent .now)) (world (kept (whole (a .rc) (a .sc .now)) (j .writer) (j .bad)) (x .page) (x .texts) (a .indent .now) (a .ent .now)) (a .i) (a .p) (j .i) (j .cur)) (sym (c .run-of4 .ensures))
+    (subst (λ (n : ℕ). Run (a .s .now) (a .b .now) (a .options) (a .d) (a .count) (world (whole (a .rc) (a .sc .now)) (a .page .now) (a .texts .now) (a .indent .now) (a .ent .now)) (world (kept (whole (a .rc) (a .sc .now)) (x .w) n) (x .page) (x .texts) (a .indent .now) (a .ent .now)) (a .i) (a .p) (l .k) (l .cur)) (sym ((c .before) .full-number .ensures))
+    (run-stop (a .s .now) (a .b .now) (a .options) (a .d) (a .count) (world (whole (a .rc) (a .sc .now)) (a .page .now) (a .texts .now) (a .indent .now) (a .ent .now)) (world (kept (whole (a .rc) (a .sc .now)) (l .w) 0) (l .page) (l .texts) (a .indent .now) (a .ent .now)) (a .i) (a .p) (l .k) (l .cur) (l .inv .1) ((c .before .before .before .before .before) .loop-test .taken) (world (kept (whole (a .rc) (a .sc .now)) (x .w) (full-number (x .w))) (x .page) (x .texts) (a .indent .now) (a .ent .now)) (x .next) O (l .inv .0) (full-bad (x .w) ((c .before .before) .if1 .taken))))
+
+add-k : tie.Need-add-k Inv-loop μ-loop
+add-k c = omega (arith, (c .before .before .before) .loop-test .taken, (c .before .before .before .before .before .before .before .before .before .before .before .before .before .before) .good .1 .1 .1 .1 .1 .1 .1 .1 .1 .0)
+
+loop-less : tie.Need-loop-less Inv-loop μ-loop
+loop-less c = search needs
+
+loop-again : tie.Need-loop-again Inv-loop μ-loop
+loop-again c = let z = (c .before .before .before .before .before .before .before .before .before .before .before .before .before .before) in
+    let a = z .args in
+    let l = (c .before .before .before .before) .loop in
+    let D = l .inv .1 none (z .pre .3 .0) (z .pre .3 .1) in
+    let x = (c .before) .match in
+    let f = (c .before .before) .plain-at in
+    let O : OneDrawn (a .s .now) (a .b .now) (a .options) (a .d) (l .cur) (world (kept (whole (a .rc) (a .sc .now)) (l .w) 0) (l .page) (l .texts) (a .indent .now) (a .ent .now)) (world (kept (whole (a .rc) (a .sc .now)) (x .w) (full-number (x .w))) (x .page) (x .texts) (a .indent .now) (a .ent .now)) (x .next) =
+    ⊎-elim
+    (λ t.
+    let n = t .1 .given .0 .0 in
+    let T : TextIs (a .d) (bits (a .b .now)) (l .cur + 16 + 16) n = subst (PlainIs (a .d) (bits (a .b .now)) (l .cur + 16 + 16)) (t .1 .given .1) (f .ensures) in
+    let y = t .5 in
+    one-moved (a .s .now) (a .b .now) (a .options) (a .d) (l .cur) (world (kept (whole (a .rc) (a .sc .now)) (l .w) 0) (l .page) (l .texts) (a .indent .now) (a .ent .now)) (whole (a .rc) (a .sc .now)) (a .indent .now) (a .ent .now) (y .result) (x .w) (y .last .0) (x .page) (y .last .1 .0) (x .texts) (l .cur + 16 + 16 + 20 + 8 * n) (x .next) (t .10) (t .11) (t .12) (t .13)
+    (text-drawn (a .s .now) (a .b .now) (a .options) (a .d) (l .cur) (whole (a .rc) (a .sc .now)) (l .w) (l .page) (l .texts) (a .indent .now) (a .ent .now) (D .goes .ready) n T (y .result) (y .last .0) (y .last .1 .0) (y .ensures)))
+    (λ t.
+    let e = t .1 .given .0 .0 in
+    let P : PathIs (a .d) (bits (a .b .now)) (l .cur + 16 + 16) e = subst (PlainIs (a .d) (bits (a .b .now)) (l .cur + 16 + 16)) (t .1 .given .1) (f .ensures) in
+    let q = t .4 in
+    one-moved (a .s .now) (a .b .now) (a .options) (a .d) (l .cur) (world (kept (whole (a .rc) (a .sc .now)) (l .w) 0) (l .page) (l .texts) (a .indent .now) (a .ent .now)) (whole (a .rc) (a .sc .now)) (a .indent .now) (a .ent .now) (q .w) (x .w) (q .page) (x .page) (q .texts) (x .texts) (e + 9) (x .next) (t .5) (t .6) (t .7) (t .8)
+    (⊎-elim
+    (λ v.
+    let y = v .6 in
+    one-moved (a .s .now) (a .b .now) (a .options) (a .d) (l .cur) (world (kept (whole (a .rc) (a .sc .now)) (l .w) 0) (l .page) (l .texts) (a .indent .now) (a .ent .now)) (whole (a .rc) (a .sc .now)) (a .indent .now) (a .ent .now) (y .result) (q .w) (y .last .0) (q .page) (y .last .1 .0) (q .texts) (e + 9) (e + 9) (v .11) (v .12) (v .13) refl
+    (path-written (a .s .now) (a .b .now) (a .options) (a .d) (l .cur) (whole (a .rc) (a .sc .now)) (l .w) (l .page) (l .texts) (a .indent .now) (a .ent .now) (D .goes .ready) e P (t .3 .result) (λ g st j ibw h. t .3 .ensures g st j (a .d) (l .cur + 16 + 16 + 4) ibw h (P .call) (P .named) (P .bare)) (v .1 .given .0 .0) (v .1 .given .1) (y .result) (y .last .0) (y .last .1 .0) (y .ensures)))
+    (λ v. one-moved (a .s .now) (a .b .now) (a .options) (a .d) (l .cur) (world (kept (whole (a .rc) (a .sc .now)) (l .w) 0) (l .page) (l .texts) (a .indent .now) (a .ent .now)) (whole (a .rc) (a .sc .now)) (a .indent .now) (a .ent .now) (l .w) (q .w) (l .page) (q .page) (l .texts) (q .texts) (e + 9) (e + 9) (v .2) (v .3) (v .4) refl
+    (path-nothing (a .s .now) (a .b .now) (a .options) (a .d) (l .cur) (whole (a .rc) (a .sc .now)) (l .w) (l .page) (l .texts) (a .indent .now) (a .ent .now) (D .goes .ready) e P (t .3 .result) (λ g st j ibw h. t .3 .ensures g st j (a .d) (l .cur + 16 + 16 + 4) ibw h (P .call) (P .named) (P .bare)) (v .1 .given .1)))
+    (q .came)))
+    (x .came) in
+    let e = full-none (x .w) (c .if1 .left) in (
+      omega (arith, l .inv .0),
+      subst (λ (n : ℕ). Onward (a .s .now) (a .b .now) (a .options) (a .d) (a .count) (world (whole (a .rc) (a .sc .now)) (a .page .now) (a .texts .now) (a .indent .now) (a .ent .now)) (world (kept (whole (a .rc) (a .sc .now)) (x .w) n) (x .page) (x .texts) (a .indent .now) (a .ent .now)) (a .i) (a .p) (l .k + 1) (x .next)) e
+          (run-more (a .s .now) (a .b .now) (a .options) (a .d) (a .count) (world (whole (a .rc) (a .sc .now)) (a .page .now) (a .texts .now) (a .indent .now) (a .ent .now)) (world (kept (whole (a .rc) (a .sc .now)) (l .w) 0) (l .page) (l .texts) (a .indent .now) (a .ent .now)) (a .i) (a .p) (l .k) (l .cur) (l .inv .1) ((c .before .before .before) .loop-test .taken) (world (kept (whole (a .rc) (a .sc .now)) (x .w) (full-number (x .w))) (x .page) (x .texts) (a .indent .now) (a .ent .now)) (x .next) O e),
+    )
+
+run-of-requires-5 : tie.Need-run-of-requires-5 Inv-loop μ-loop
+run-of-requires-5 c κs = search needs
+
+same-length-9 : tie.Need-same-length-9 Inv-loop μ-loop
+same-length-9 c = let z = (c .before .before .before .before .before .before .before .before .before .before .before .before) in let D = (c .before .before) .loop .inv .1 none (z .pre .3 .0) (z .pre .3 .1) in omega (arith, D .goes .sizes .page)
+
+same-length-10 : tie.Need-same-length-10 Inv-loop μ-loop
+same-length-10 c = let z = (c .before .before .before .before .before .before .before .before .before .before .before .before) in let D = (c .before .before) .loop .inv .1 none (z .pre .3 .0) (z .pre .3 .1) in omega (arith, D .goes .sizes .texts)
+
+returns-5 : tie.Need-returns-5 Inv-loop μ-loop
+returns-5 c = let z = (c .before .before .before .before .before .before .before .before .before .before .before .before) in
     let a = z .args in
     let l = (c .before .before) .loop in
-    subst (λ (x : code.Run). Run (a .s .now) (a .b .now) (a .options) (a .d) (a .count) (world (whole (a .rc) (a .sc .now)) (a .page .now) (a .texts .now) (a .indent .now) (a .ent .now)) (world (kept (whole (a .rc) (a .sc .now)) (x .writer) (x .bad)) (l .page) (l .texts) (a .indent .now) (a .ent .now)) (a .i) (a .p) (x .i) (x .cur)) (sym (c .run-of3 .ensures))
+    let D = l .inv .1 none (z .pre .3 .0) (z .pre .3 .1) in
+    subst (λ (j : code.Run). Run (a .s .now) (a .b .now) (a .options) (a .d) (a .count) (world (whole (a .rc) (a .sc .now)) (a .page .now) (a .texts .now) (a .indent .now) (a .ent .now)) (world (kept (whole (a .rc) (a .sc .now)) (j .writer) (j .bad)) (l .page) (l .texts) (a .indent .now) (a .ent .now)) (a .i) (a .p) (j .i) (j .cur)) (sym (c .run-of5 .ensures))
     (run-left (a .s .now) (a .b .now) (a .options) (a .d) (a .count) (world (whole (a .rc) (a .sc .now)) (a .page .now) (a .texts .now) (a .indent .now) (a .ent .now)) (world (kept (whole (a .rc) (a .sc .now)) (l .w) 0) (l .page) (l .texts) (a .indent .now) (a .ent .now)) (a .i) (a .p) (l .k) (l .cur) (l .inv .1) (l .inv .0) refl)
 
 pub draw-run-spec : {M : Type 1} → statement M
@@ -116,19 +354,46 @@ draw-run-spec =
     Inv-loop
     μ-loop
     loop-holds
-    draw-one-requires
+    add-q
+    add-q-2
+    plain-at-requires
+    enum-known-n
+    add-write-packed
+    write-packed-requires
+    add-next
+    mul-next
+    add-next-2
+    enum-known-e
+    add-bare-path
+    bare-path-requires
+    enum-known-n-2
     run-of-requires
     same-length
     same-length-2
     returns
+    enum-told
     run-of-requires-2
     same-length-3
     same-length-4
     returns-2
-    add-k
-    loop-less
-    loop-again
+    enum-known-v
+    write-value-requires
+    enum-told-2
+    add-next-3
+    enum-told-3
     run-of-requires-3
     same-length-5
     same-length-6
-    returns-3)
+    returns-3
+    full-number-requires
+    run-of-requires-4
+    same-length-7
+    same-length-8
+    returns-4
+    add-k
+    loop-less
+    loop-again
+    run-of-requires-5
+    same-length-9
+    same-length-10
+    returns-5)
