@@ -1,6 +1,6 @@
 -- Laws of the elements that are drawn with the writer alone.
-use Prim.Native.Nat.{ℕ, _+_, _*_, _-_, _≤_, _<_}
-use mathlib.Core.Bool.{Bool, true, false, not}
+use Prim.Native.Nat.{ℕ, zero, suc, _+_, _*_, _-_, _≤_, _<_}
+use mathlib.Core.Bool.{Bool, true, false, not, _||_}
 use mathlib.Core.List.{List, [], _++_}
 use mathlib.Core.Option.{Option, none}
 use mathlib.Core.Path.{_≡_, refl, sym, ap, ap₂, _∙_, subst}
@@ -13,7 +13,8 @@ use Rattle.rules.specs.State as rules
 use Rattle.rules.specs.Output.{do-escape, indent-aware-write}
 use Rattle.rules.specs.Value.{render}
 use Rattle.rules.specs.Registry.{Registry}
-use Rattle.rules.specs.Render.{render-element, render-elements, render-expression}
+use Rattle.rules.specs.Template as template
+use Rattle.rules.specs.Render.{render-element, render-elements, render-html-expression, render-expression}
 use Rattle.bits.specs.Packed.{bytes-at}
 use Rattle.output.specs.declared.Writer.{Writer}
 use Rattle.output.specs.Outputs.{Outputs, outputs}
@@ -21,7 +22,7 @@ use Rattle.support.specs.Feed.{escaped, fed}
 use Rattle.layout.specs.Text.{text-at}
 use Rattle.calls.specs.Calls.{call-at}
 use Rattle.template.specs.declared.Element.{Element}
-use Rattle.template.specs.declared.Element.the-variants.{RawString, Expression}
+use Rattle.template.specs.declared.Element.the-variants.{RawString}
 use Rattle.template.specs.declared.Content.{Content}
 use Rattle.template.specs.Views.{content-view, element-says, element-view}
 use Rattle.value.specs.declared.Value.{Value}
@@ -34,13 +35,13 @@ use Rattle.helpers.specs.declared.Shows.{Shows}
 use Rattle.helpers.specs.declared.Shows.the-variants as shows
 use Rattle.helpers.specs.Does.{Expresses}
 use Rattle.state.specs.Context.{RenderContext}
-use Rattle.state.specs.Setters.{wrote}
+use Rattle.state.specs.Setters.{wrote, failed, with-writer, with-escape}
 use Rattle.state.specs.World.{World, world, over, abs, Ready, Draws}
 use Rattle.writing.specs.Writes.{Wrote}
 use Rattle.writing.specs.Laws.{draws-fed, escape-is, wrote-by}
 use Rattle.drawing.specs.Renders.{Renders}
-use Rattle.drawing.specs.Elements.{element-raw, element-expression}
-use Rattle.expressions.specs.Laws.{expression-refused, expression-written, expression-nothing}
+use Rattle.drawing.specs.Elements.{element-raw, element-html, element-expression}
+use Rattle.expressions.specs.Laws.{expression-refused, expression-written, expression-nothing, html-ready, html-refused, html-drawn}
 use Rattle.parts.specs.HoldsLaws.{Passed}
 use Rattle.template.specs.Views.{in-body}
 use Rattle.template.specs.Bodies.{elements-at, element-here, placed-fits}
@@ -50,12 +51,12 @@ use Rattle.rules.specs.State.{prefixed}
 use Rattle.state.specs.Setters.{located}
 use Rattle.state.specs.World.{name-at}
 use Rattle.state.specs.Laws.{goes-self, goes-trans, reason-some}
-use Rattle.state.specs.World.{top}
+use Rattle.state.specs.World.{top, error-of}
 use Rattle.drawing.specs.Members.{setting}
 use Rattle.drawing.specs.Renders.{registry-of}
 use Rattle.rules.specs.Render.{render-template}
 use Rattle.drawing.specs.Loop.{prefixed-nothing, prefixed-both, draws-prefixed, renders-at, Drawing, drawing-stop, drawing-more}
-use Rattle.plain.specs.Plain.{kept, full-number, TextIs, PathIs, OneDrawn, Run}
+use Rattle.plain.specs.Plain.{kept, full-number, expression-of, TextIs, PathIs, OneDrawn, Run}
 
 -- a writer that has written
 pub kept-wrote : (c : RenderContext) (w u : Writer) → kept c u (full-number u) ≡ wrote (kept c w 0) u
@@ -106,43 +107,103 @@ module _ (s b : Bytes) (o : Options) (d p : ℕ) (c : RenderContext) (w : Writer
             (ap (λ (x : Content). x .element) (T .seen)) (draws-fed s b before (kept c u (full-number u)) page′ texts′ r (text-at (bits b) (q + 4)) z);
       }
 
-  -- a is what an expression with a path alone does
-  module _ (e : ℕ) (P : PathIs d (bits b) (p + 16 + 16) e) (a : Shows)
+  -- a is what an expression with a path alone does. One without escaping is drawn only where escaping is not disabled already: behind it, it is not.
+  module _ (html : Bool) (e : ℕ) (P : PathIs d (bits b) (p + 16 + 16) html e) (a : Shows)
       (E : (g : Registry) (st : rules.RenderContext) (t : ℕ) (ibw : Bool) → Setting s b ent (c .scopes) (c .used) o g st t → Expresses s b ent t g (call-at d (bits b) (p + 16 + 16 + 4)) ibw st (render-expression g (call-at d (bits b) (p + 16 + 16 + 4)) ibw st) a) where
-    drawn : (l : World) → Renders s b o before l (λ g R. render-expression g (call-at d (bits b) (p + 16 + 16 + 4)) (P .before)) → OneDrawn s b o d p before l (e + 9)
-    drawn l R = record {
+    abbrev call : template.Call
+    call = call-at d (bits b) (p + 16 + 16 + 4)
+
+    abbrev inside : RenderContext
+    inside = with-escape (kept c w 0) true
+
+    drawn : (l : World) → Renders s b o before l (λ g R. render-expression g call (P .before)) → html ≡ false → OneDrawn s b o d p before l (e + 9)
+    drawn l R h = record {
       next = sym (ap (λ (x : Content). x .next) (P .seen));
-      renders = element-expression s b o before l d (element-view 16 d (bits b) p .element) (p + 16 + 16 + 4) (P .before) (ap (λ (x : Content). x .element) (P .seen)) R;
+      renders = element-expression s b o before l d (element-view 16 d (bits b) p .element) (p + 16 + 16 + 4) (P .before)
+          (ap (λ (x : Content). x .element) (P .seen) ∙ ap (λ (t : Bool). expression-of t (p + 16 + 16 + 4) (P .before)) h) R;
     }
 
-    pub path-refused : (n : ℕ) → a ≡ shows.Bad n → OneDrawn s b o d p before (world (kept c w n) page texts indent ent) (e + 9)
-    path-refused n h = drawn (world (kept c w n) page texts indent ent) (expression-refused s b o before r (call-at d (bits b) (p + 16 + 16 + 4)) (P .before) a E n h (kept c w n) refl)
+    drawn-html : (l : World) → Renders s b o before l (λ g R. render-html-expression g call (P .before)) → html ≡ true → OneDrawn s b o d p before l (e + 9)
+    drawn-html l R h = record {
+      next = sym (ap (λ (x : Content). x .next) (P .seen));
+      renders = element-html s b o before l d (element-view 16 d (bits b) p .element) (p + 16 + 16 + 4) (P .before)
+          (ap (λ (x : Content). x .element) (P .seen) ∙ ap (λ (t : Bool). expression-of t (p + 16 + 16 + 4) (P .before)) h) R;
+    }
+
+    ready : Ready s b (over inside before)
+    ready = html-ready s b o before r call (P .before) inside refl
+
+    -- behind what was drawn without escaping: u is the writer there, n the number of a refusal
+    outside : c .«disable_escape» ≡ false → html ≡ true → (u : Writer) (n : ℕ) (page′ texts′ : Bytes) → Renders s b o (over inside before) (world (with-escape (kept c u n) true) page′ texts′ indent ent) (λ g R. render-expression g call (P .before))
+        → OneDrawn s b o d p before (world (kept c u n) page′ texts′ indent ent) (e + 9)
+    unfolding error-of
+    outside off h u n page′ texts′ D = drawn-html (world (kept c u n) page′ texts′ indent ent) (by n D refl) h
+      where
+        same : (n : ℕ) → kept c u n ≡ with-escape (kept c u n) false
+        same n = ap (with-escape (kept c u n)) off
+
+        by : (m : ℕ) → Renders s b o (over inside before) (world (with-escape (kept c u m) true) page′ texts′ indent ent) (λ g R. render-expression g call (P .before)) → n ≡ m
+            → Renders s b o before (world (kept c u m) page′ texts′ indent ent) (λ g R. render-html-expression g call (P .before))
+        by zero D k = html-drawn s b o before r call (P .before) inside refl (world (with-escape (kept c u 0) true) page′ texts′ indent ent) D refl (kept c u 0) (same 0)
+        by (suc m) D k = record {
+          at = λ f le.
+              let z = html-refused s b o before r call (P .before) inside refl (world (with-escape (kept c u (suc m)) true) page′ texts′ indent ent) D (λ q. omega (arith, q)) .at f le in
+              record { fine = λ q. absurd (omega (arith, q)); refused = λ q. z .refused q };
+        }
+
+    pub path-refused : (html ≡ true → c .«disable_escape» ≡ false) → (n : ℕ) → a ≡ shows.Bad n → OneDrawn s b o d p before (world (kept c w n) page texts indent ent) (e + 9)
+    path-refused off n h = by html refl
+      where
+        by : (t : Bool) → html ≡ t → OneDrawn s b o d p before (world (kept c w n) page texts indent ent) (e + 9)
+        by true k = outside (off k) k w n page texts (expression-refused s b o (over inside before) ready call (P .before) a E n h (with-escape (kept c w n) true) refl)
+        by false k = drawn (world (kept c w n) page texts indent ent) (expression-refused s b o before r call (P .before) a E n h (kept c w n) refl) k
 
     pub path-number : (n : ℕ) → a ≡ shows.Bad n → n ≡ 0 → ⊥
     path-number n h z =
         let g = registry-of s b o (length page) in
-        let c = call-at d (bits b) (p + 16 + 16 + 4) in
-        let f : Expresses s b ent (top before) g c (P .before) (abs s b before) (render-expression g c (P .before) (abs s b before)) (shows.Bad n) =
-        subst (Expresses s b ent (top before) g c (P .before) (abs s b before) (render-expression g c (P .before) (abs s b before))) h (E g (abs s b before) (top before) (P .before) (setting s b o before r (length page))) in
+        let f : Expresses s b ent (top before) g call (P .before) (abs s b before) (render-expression g call (P .before) (abs s b before)) (shows.Bad n) =
+        subst (Expresses s b ent (top before) g call (P .before) (abs s b before) (render-expression g call (P .before) (abs s b before))) h (E g (abs s b before) (top before) (P .before) (setting s b o before r (length page))) in
         reason-some (f .reason) (f .by-number ∙ z)
 
-    pub path-nothing : a ≡ shows.Nothing → OneDrawn s b o d p before (world (kept c w (full-number w)) page texts indent ent) (e + 9)
-    path-nothing h =
-        subst (λ (n : ℕ). OneDrawn s b o d p before (world (kept c w n) page texts indent ent) (e + 9)) (sym (full-none w (r .sound .goes)))
-        (drawn before (expression-nothing s b o before r (call-at d (bits b) (p + 16 + 16 + 4)) (P .before) a E h))
+    pub path-nothing : (html ≡ true → c .«disable_escape» ≡ false) → a ≡ shows.Nothing → OneDrawn s b o d p before (world (kept c w (full-number w)) page texts indent ent) (e + 9)
+    path-nothing off h = subst (λ (n : ℕ). OneDrawn s b o d p before (world (kept c w n) page texts indent ent) (e + 9)) (sym (full-none w (r .sound .goes))) (by html refl)
+      where
+        by : (t : Bool) → html ≡ t → OneDrawn s b o d p before before (e + 9)
+        by true k = outside (off k) k w 0 page texts (expression-nothing s b o (over inside before) ready call (P .before) a E h)
+        by false k = drawn before (expression-nothing s b o before r call (P .before) a E h) k
 
-    pub path-written : (v : Value) → a ≡ shows.Value v → (u : Writer) (page′ texts′ : Bytes)
-        → Means s b v (λ j. outputs u page′ texts′ ≡ fed indent (escaped (not (c .«disable_escape»)) (render j)) (outputs w page texts))
-        → OneDrawn s b o d p before (world (kept c u (full-number u)) page′ texts′ indent ent) (e + 9)
-    path-written v h u page′ texts′ M =
-        drawn (world (kept c u (full-number u)) page′ texts′ indent ent)
-        (expression-written s b o before r (call-at d (bits b) (p + 16 + 16 + 4)) (P .before) a E v h (kept c u (full-number u)) page′ texts′
-        (λ ent′ t st ready.
-        let x = world (kept c w 0) page texts indent ent′ in
+    -- v is printed in the context x, which has the writer w
+    prints : (x y : RenderContext) (v : Value) (u : Writer) (page′ texts′ : Bytes) → x .writer ≡ w → y ≡ wrote x u
+        → Means s b v (λ j. outputs u page′ texts′ ≡ fed indent (escaped (not (x .«disable_escape»)) (render j)) (outputs w page texts))
+        → (ent′ : List ℕ) (t : ℕ) → Stands s b ent′ t v → Ready s b (world x page texts indent ent′)
+        → Draws s b (world x page texts indent ent′) (world y page′ texts′ indent ent′) (indent-aware-write (do-escape (abs s b (world x page texts indent ent′)) (render (json-of s b ent′ v))) (abs s b (world x page texts indent ent′)))
+    prints x y v u page′ texts′ hw hy M ent′ t st ready′ =
+        let l = world x page texts indent ent′ in
         let j = render (json-of s b ent′ v) in
-        subst (λ (y : Bytes). Draws s b x (world (kept c u (full-number u)) page′ texts′ indent ent′) (indent-aware-write y (abs s b x))) (escape-is s b x j)
-        (draws-fed s b x (kept c u (full-number u)) page′ texts′ ready (escaped (not (c .«disable_escape»)) j)
-        (wrote-by (kept c w 0) (kept c u (full-number u)) u page′ texts′ (fed indent (escaped (not (c .«disable_escape»)) j) (outputs w page texts)) (M .at ent′ t st) (kept-wrote c w u)))))
+        let z = M .at ent′ t st ∙ ap (λ (k : Writer). fed indent (escaped (not (x .«disable_escape»)) j) (outputs k page texts)) (sym hw) in
+        subst (λ (k : Bytes). Draws s b l (world y page′ texts′ indent ent′) (indent-aware-write k (abs s b l))) (escape-is s b l j)
+        (draws-fed s b l y page′ texts′ ready′ (escaped (not (x .«disable_escape»)) j) (wrote-by x y u page′ texts′ (fed indent (escaped (not (x .«disable_escape»)) j) (outputs (x .writer) page texts)) z hy))
+
+    inside-wrote : (u : Writer) → with-escape (kept c u (full-number u)) true ≡ wrote inside u
+    inside-wrote u = ap (λ (k : RenderContext). with-escape k true) (kept-wrote c w u) ∙ by (u .full)
+      where
+        by : (t : Bool) → with-escape (pick t (failed (with-writer (kept c w 0) u) (pick (u .«block_text») 24 25)) (with-writer (kept c w 0) u)) true ≡ pick t (failed (with-writer inside u) (pick (u .«block_text») 24 25)) (with-writer inside u)
+        by true = refl
+        by false = refl
+
+    pub path-written : (html ≡ true → c .«disable_escape» ≡ false) → (v : Value) → a ≡ shows.Value v → (u : Writer) (page′ texts′ : Bytes)
+        → Means s b v (λ j. outputs u page′ texts′ ≡ fed indent (escaped (not (html || c .«disable_escape»)) (render j)) (outputs w page texts))
+        → OneDrawn s b o d p before (world (kept c u (full-number u)) page′ texts′ indent ent) (e + 9)
+    path-written off v h u page′ texts′ = by html refl
+      where
+        by : (t : Bool) → html ≡ t → Means s b v (λ j. outputs u page′ texts′ ≡ fed indent (escaped (not (t || c .«disable_escape»)) (render j)) (outputs w page texts))
+            → OneDrawn s b o d p before (world (kept c u (full-number u)) page′ texts′ indent ent) (e + 9)
+        by true k M =
+            outside (off k) k u (full-number u) page′ texts′
+            (expression-written s b o (over inside before) ready call (P .before) a E v h (with-escape (kept c u (full-number u)) true) page′ texts′ (prints inside (with-escape (kept c u (full-number u)) true) v u page′ texts′ refl (inside-wrote u) M))
+        by false k M =
+            drawn (world (kept c u (full-number u)) page′ texts′ indent ent)
+            (expression-written s b o before r call (P .before) a E v h (kept c u (full-number u)) page′ texts′ (prints (kept c w 0) (kept c u (full-number u)) v u page′ texts′ refl (kept-wrote c w u) M)) k
 
 -- Elements one after the other
 

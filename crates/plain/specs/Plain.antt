@@ -14,7 +14,8 @@ use Rattle.parts.specs.Holds.{Holds, end}
 use Rattle.parts.specs.HoldsLaws.{Passed}
 use Rattle.calls.specs.declared.Parameter.the-variants as parameter
 use Rattle.calls.specs.Calls.{param-view}
-use Rattle.template.specs.declared.Element.the-variants.{RawString, Expression}
+use Rattle.template.specs.declared.Element.{Element}
+use Rattle.template.specs.declared.Element.the-variants.{RawString, HtmlExpression, Expression}
 use Rattle.template.specs.Views.{content-of, content-view, in-body, element-says, element-view}
 use Rattle.template.specs.Bodies.{elements-at}
 use Rattle.expand.specs.declared.Options.{Options}
@@ -43,10 +44,15 @@ pub record TextIs (d : ℕ) (b : Bits) (p n : ℕ) : Type 0 where
   pub count : n ≡ field b 16 (p + 4)
   pub text : Holds string b (p + 4)
 
--- an expression that is a path alone, which ends at e
-pub record PathIs (d : ℕ) (b : Bits) (p e : ℕ) : Type 0 where
+-- an expression, with escaping or without
+abbrev pub expression-of : Bool → ℕ → Bool → Element
+expression-of true q f = HtmlExpression q f
+expression-of false q f = Expression q f
+
+-- one that is a path alone, which ends at e
+pub record PathIs (d : ℕ) (b : Bits) (p : ℕ) (html : Bool) (e : ℕ) : Type 0 where
   pub before : Bool
-  pub seen : content-view 16 d b p ≡ content-of (Expression (p + 4) before) (e + 9)
+  pub seen : content-view 16 d b p ≡ content-of (expression-of html (p + 4) before) (e + 9)
   pub call : Holds (call-of (param d)) b (p + 4)
   pub named : param-view b (p + 4) ≡ parameter.Path (p + 6)
   pub leads : Holds path b (p + 6)
@@ -55,7 +61,7 @@ pub record PathIs (d : ℕ) (b : Bits) (p e : ℕ) : Type 0 where
 
 abbrev pub PlainIs : ℕ → Bits → ℕ → Plain → Type 0
 PlainIs d b p (Text n) = TextIs d b p n
-PlainIs d b p (Path e) = PathIs d b p e
+PlainIs d b p (Path html e) = PathIs d b p html e
 PlainIs d b p Other = Unit {0}
 
 -- the element at p is drawn, and z is the place behind it

@@ -1,10 +1,14 @@
 -- What few reads tell of an element.
 use Prim.Native.Nat.{ℕ, _+_, _*_, _/_, _≤_, _<_}
-use mathlib.Core.Bool.{Bool}
-use mathlib.Core.Path.{_≡_, refl, sym, ap, _∙_}
+use mathlib.Core.Bool.{Bool, true, false}
+use mathlib.Core.Logic.{_⊎_, inl, inr}
+use mathlib.Core.Path.{_≡_, refl, sym, ap, _∙_, subst}
 use native.Mathlib.Omega.{arith}
+use lib.Dec.{eqb}
+use borrow.Author.Tests.{eq-eqb, ne-eqb}
 use Rattle.rules.specs.Bits.{Bits}
-use Rattle.rules.specs.Layout.{field}
+use Rattle.rules.specs.Layout.{Layout, field}
+use Rattle.rules.specs.Template as rule
 use Rattle.rules.specs.LayoutLaws.{Binary, field-lt}
 use Rattle.rules.specs.Bundle.{string, path, param, call-of, element-of, body}
 use Rattle.layout.specs.Arms.{written}
@@ -14,10 +18,10 @@ use Rattle.parts.specs.HoldsLaws.{Same, moved, string-end}
 use Rattle.calls.specs.declared.Parameter.the-variants as parameter
 use Rattle.calls.specs.Calls.{param-of, param-view, param-path, name-end, call-name, bare-end}
 use Rattle.template.specs.declared.Element.{Element}
-use Rattle.template.specs.declared.Element.the-variants.{RawString, Expression}
+use Rattle.template.specs.declared.Element.the-variants.{RawString}
 use Rattle.template.specs.Views.{call-end, flagged-view, kind-view, content-of, content-view}
-use Rattle.template.specs.Content.{raw-string-holds, expression-holds, FlaggedHolds, written-holds}
-use Rattle.plain.specs.Plain.{TextIs, PathIs}
+use Rattle.template.specs.Content.{raw-string-holds, html-holds, expression-holds, FlaggedHolds, written-holds}
+use Rattle.plain.specs.Plain.{expression-of, TextIs, PathIs}
 
 -- x is the kind, and what comes behind it
 module _ (d : ℕ) (b : Bits) (bin : Binary b) (p : ℕ) (H : Holds (element-of (call-of (param d)) (body 16 d)) b p) (x : ℕ) (hx : x ≡ field b 22 p) where
@@ -42,29 +46,62 @@ module _ (d : ℕ) (b : Bits) (bin : Binary b) (p : ℕ) (H : Holds (element-of 
         text = m .inner;
       }
 
-  module _ (is : x / 65536 ≡ 9) where
-    is-expression : field b 4 p ≡ 2
-    is-expression = omega (arith, is, kind-first, name-first, field-lt b bin 16 (p + 4 + 2), field-lt b bin 2 (p + 4))
+  abbrev E : Layout rule.TemplateElement
+  E = element-of (call-of (param d)) (body 16 d)
 
-    is-path : field b 2 (p + 4) ≡ 1
-    is-path = omega (arith, is, kind-first, name-first, field-lt b bin 16 (p + 4 + 2), field-lt b bin 2 (p + 4))
+  abbrev W : Layout (rule.Call × Bool)
+  W = written (call-of (param d)) (body 16 d)
 
-    behind-kind : Holds (written (call-of (param d)) (body 16 d)) b (p + 4)
-    behind-kind = expression-holds 16 d b p H is-expression .inner
+  -- the kind is that of an expression, and its name is a path
+  pub record Path (html : Bool) : Type 0 where
+    pub behind-kind : Holds W b (p + 4)
+    pub ends : end W b (p + 4) ≡ end E b p
+    pub kind : kind-view 16 d b (p + 4) (field b 4 p) ≡ expression-of html (p + 4) (flagged-view d b (p + 4) .before)
+    pub is-path : field b 2 (p + 4) ≡ 1
 
-    flagged : FlaggedHolds 16 d b (p + 4) (behind-kind .found) (end (written (call-of (param d)) (body 16 d)) b (p + 4))
-    flagged = written-holds 16 d b (p + 4) behind-kind
+  is-expression : x / 65536 ≡ 9 → (field b 4 p ≡ 2) × (field b 2 (p + 4) ≡ 1)
+  is-expression is = (
+    omega (arith, is, kind-first, name-first, field-lt b bin 16 (p + 4 + 2), field-lt b bin 2 (p + 4)),
+    omega (arith, is, kind-first, name-first, field-lt b bin 16 (p + 4 + 2), field-lt b bin 2 (p + 4)),
+  )
+
+  is-html : x / 65536 ≡ 5 → (field b 4 p ≡ 1) × (field b 2 (p + 4) ≡ 1)
+  is-html is = (
+    omega (arith, is, kind-first, name-first, field-lt b bin 16 (p + 4 + 2), field-lt b bin 2 (p + 4)),
+    omega (arith, is, kind-first, name-first, field-lt b bin 16 (p + 4 + 2), field-lt b bin 2 (p + 4)),
+  )
+
+  pub expression-path : x / 65536 ≡ 9 → Path false
+  expression-path is =
+      let k = is-expression is in
+      let m = expression-holds 16 d b p H (k .0) in
+      record { behind-kind = m .inner; ends = m .ends; kind = ap (kind-view 16 d b (p + 4)) (k .0); is-path = k .1 }
+
+  pub html-path : x / 65536 ≡ 5 → Path true
+  html-path is =
+      let k = is-html is in
+      let m = html-holds 16 d b p H (k .0) in
+      record { behind-kind = m .inner; ends = m .ends; kind = ap (kind-view 16 d b (p + 4)) (k .0); is-path = k .1 }
+
+  -- y says whether it is not escaped
+  pub path-kind : (y : Bool) → y ≡ eqb (x / 65536) 5 → (x / 65536 ≡ 9) ⊎ (x / 65536 ≡ 5) → Path y
+  path-kind y e (inl h) = subst Path (sym (e ∙ ne-eqb (x / 65536) 5 (λ z. omega (arith, h, z)))) (expression-path h)
+  path-kind y e (inr h) = subst Path (sym (e ∙ eq-eqb (x / 65536) 5 h)) (html-path h)
+
+  module _ (html : Bool) (K : Path html) where
+    flagged : FlaggedHolds 16 d b (p + 4) (K .behind-kind .found) (end W b (p + 4))
+    flagged = written-holds 16 d b (p + 4) (K .behind-kind)
 
     six : p + 4 + 2 ≡ p + 6
     six = omega arith
 
     pub path-there : Holds path b (p + 6)
-    path-there = moved path b _ _ six (param-path d b (p + 4) (call-name d b (p + 4) (flagged .call)) is-path .inner)
+    path-there = moved path b _ _ six (param-path d b (p + 4) (call-name d b (p + 4) (flagged .call)) (K .is-path) .inner)
 
     -- e is the place behind the path, and y what stands there
     module _ (e y : ℕ) (he : e ≡ end path b (p + 6)) (hy : y ≡ field b 9 e) (lo : y ≤ 1) where
       at-name-end : e ≡ name-end d b (p + 4)
-      at-name-end = he ∙ sym (ap (end path b) six) ∙ param-path d b (p + 4) (call-name d b (p + 4) (flagged .call)) is-path .ends
+      at-name-end = he ∙ sym (ap (end path b) six) ∙ param-path d b (p + 4) (call-name d b (p + 4) (flagged .call)) (K .is-path) .ends
 
       no-counts : field b 8 e ≡ 0
       no-counts = let z : field b 9 e ≡ field b 8 e * 2 + field b 1 (e + 8) = field-append b 8 1 e in omega (arith, hy, z, lo)
@@ -72,15 +109,14 @@ module _ (d : ℕ) (b : Bits) (bin : Binary b) (p : ℕ) (H : Holds (element-of 
       call-ends : (name-end d b (p + 4) + 8 ≡ call-end d b (p + 4)) × (name-end d b (p + 4) + 8 ≤ b .size)
       call-ends = bare-end d b (p + 4) (flagged .call) (sym (ap (field b 8) at-name-end) ∙ no-counts)
 
-      pub path-read : PathIs d b p e
+      pub path-read : PathIs d b p html e
       path-read =
-          let z : end (element-of (call-of (param d)) (body 16 d)) b p ≡ e + 9 =
-          sym (expression-holds 16 d b p H is-expression .ends) ∙ sym (flagged .ends) ∙ omega (arith, at-name-end, call-ends .0) in
+          let z : end E b p ≡ e + 9 = sym (K .ends) ∙ sym (flagged .ends) ∙ omega (arith, at-name-end, call-ends .0) in
           record {
             before = flagged-view d b (p + 4) .before;
-            seen = ap (λ (k : ℕ). content-of (kind-view 16 d b (p + 4) k) (end (element-of (call-of (param d)) (body 16 d)) b p)) is-expression ∙ ap (content-of (Expression (p + 4) (flagged-view d b (p + 4) .before))) z;
+            seen = ap (λ (k : Element). content-of k (end E b p)) (K .kind) ∙ ap (content-of (expression-of html (p + 4) (flagged-view d b (p + 4) .before))) z;
             call = flagged .call;
-            named = ap (param-of (p + 4 + 2)) is-path ∙ ap parameter.Path six;
+            named = ap (param-of (p + 4 + 2)) (K .is-path) ∙ ap parameter.Path six;
             leads = path-there;
             bare = sym (ap (field b 8) he) ∙ no-counts;
             fits = omega (arith, at-name-end, call-ends .0, flagged .fits);

@@ -25,8 +25,8 @@ use state::RenderContext;
 enum Plain {
     // a raw text of so many bytes
     Text(usize),
-    // an expression that is a path alone: the place behind the path
-    Path(usize),
+    // an expression that is a path alone: whether it is not escaped, and the place behind the path
+    Path(bool, usize),
     Other,
 }
 
@@ -40,16 +40,19 @@ fn plain_at(b: &[u8], p: usize, d: usize) -> Plain
     if x < 262144 {
         return Plain::Text((x / 4) as usize);
     }
-    // 2 and 1: an expression, and a path
-    if x / 65536 != 9 {
-        return Plain::Other;
+    // 2 or 1, and 1: an expression with escaping or without, and a path
+    let f = x / 65536;
+    if f != 9 {
+        if f != 5 {
+            return Plain::Other;
+        }
     }
     let e = parts::skip_path(b, p + 6);
     // the counts of parameters and pairs, and the bit behind the call
     if 1 < bits::field(b, e, 9) {
         return Plain::Other;
     }
-    Plain::Path(e)
+    Plain::Path(f == 5, e)
 }
 
 fn full_number(w: Writer) -> u8
@@ -114,7 +117,10 @@ pub fn draw_run(
                 w = writing::write_packed(page, texts, indent, w, b, q + 20, n);
                 next = q + 20 + 8 * n;
             }
-            Plain::Path(e) => {
+            Plain::Path(html, e) => {
+                if html & rc.disable_escape {
+                    return run_of(w, k, cur, 0);
+                }
                 match helpers::bare_path(s, tab, b, ent, sc, rc.used, options, q + 6) {
                     Shows::Bad(n) => {
                         return run_of(w, k, cur, n);
@@ -123,7 +129,7 @@ pub fn draw_run(
                         return run_of(w, k, cur, 0);
                     }
                     Shows::Value(v) => {
-                        let escape = !rc.disable_escape;
+                        let escape = !(html | rc.disable_escape);
                         w = writing::write_value(page, texts, indent, w, s, tab, b, v, escape);
                     }
                     Shows::Nothing => {}

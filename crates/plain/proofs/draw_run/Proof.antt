@@ -1,9 +1,10 @@
 -- `plain::draw_run` meets its contract.
 use native.Mathlib.Omega.{arith}
 use Prim.Native.Nat.{ℕ, _+_, _-_, _*_, _≤_}
+use mathlib.Core.Bool.{Bool, _&&_}
 use mathlib.Core.Logic.{⊎-elim}
 use mathlib.Core.Option.{none}
-use mathlib.Core.Path.{_≡_, refl, sym, ap, subst}
+use mathlib.Core.Path.{_≡_, refl, sym, ap, _∙_, subst}
 use lib.ListN.{length}
 use Rattle.rules.specs.Bits.{bits}
 use Rattle.rules.specs.Bundle.{param, call-of, body}
@@ -116,148 +117,175 @@ add-next-2 c = let z = (c .before .before .before .before .before .before .befor
     let k = string-in (bits (a .b .now)) (l .cur + 16 + 16 + 4) (T .text) in
     omega (arith, k, T .count, z .pre .1, bits-size (a .b .now))
 
-enum-known-e : tie.Need-enum-known-e Inv-loop μ-loop
-enum-known-e c = search needs
-
-add-bare-path : tie.Need-add-bare-path Inv-loop μ-loop
-add-bare-path c = let z = (c .before .before .before .before .before .before .before .before .before .before .before .before .before .before .before) in
-    let a = z .args in
-    let l = (c .before .before .before .before .before) .loop in
-    let D = l .inv .1 none (z .pre .3 .0) (z .pre .3 .1) in
-    let P : PathIs (a .d) (bits (a .b .now)) (l .cur + 16 + 16) ((c .before) .e .given .0 .0) = subst (PlainIs (a .d) (bits (a .b .now)) (l .cur + 16 + 16)) ((c .before) .e .given .1) ((c .before .before .before) .plain-at .ensures) in
-    let k = string-in (bits (a .b .now)) (l .cur + 16 + 16 + 6) (path-raw (bits (a .b .now)) (l .cur + 16 + 16 + 6) (P .leads)) in
-    omega (arith, z .pre .1, k, P .fits, bits-size (a .b .now))
-
-bare-path-requires : tie.Need-bare-path-requires Inv-loop μ-loop
-bare-path-requires c κs = let z = (c .before .before .before .before .before .before .before .before .before .before .before .before .before .before .before) in
-    let a = z .args in
-    let l = (c .before .before .before .before .before) .loop in
-    let D = l .inv .1 none (z .pre .3 .0) (z .pre .3 .1) in
-    let P : PathIs (a .d) (bits (a .b .now)) (l .cur + 16 + 16) ((c .before) .e .given .0 .0) = subst (PlainIs (a .d) (bits (a .b .now)) (l .cur + 16 + 16)) ((c .before) .e .given .1) ((c .before .before .before) .plain-at .ensures) in
-    (z .pre .0, z .pre .1, D .goes .ready .one, D .goes .ready .most, (top (world (kept (whole (a .rc) (a .sc .now)) (l .w) 0) (l .page) (l .texts) (a .indent .now) (a .ent .now)), D .goes .ready .scopes), P .leads, z .pre .4)
-
-enum-known-n-2 : tie.Need-enum-known-n-2 Inv-loop μ-loop
-enum-known-n-2 c = search needs
+enum-known-html : tie.Need-enum-known-html Inv-loop μ-loop
+enum-known-html c = search needs
 
 run-of-requires : tie.Need-run-of-requires Inv-loop μ-loop
 run-of-requires c κs = search needs
 
 same-length : tie.Need-same-length Inv-loop μ-loop
-same-length c = let z = (c .before .before .before .before .before .before .before .before .before .before .before .before .before .before .before .before .before .before .before .before) in let D = (c .before .before .before .before .before .before .before .before .before .before) .loop .inv .1 none (z .pre .3 .0) (z .pre .3 .1) in omega (arith, D .goes .sizes .page)
+same-length c = let z = (c .before .before .before .before .before .before .before .before .before .before .before .before .before .before .before .before .before .before) in let D = (c .before .before .before .before .before .before .before .before) .loop .inv .1 none (z .pre .3 .0) (z .pre .3 .1) in omega (arith, D .goes .sizes .page)
 
 same-length-2 : tie.Need-same-length-2 Inv-loop μ-loop
-same-length-2 c = let z = (c .before .before .before .before .before .before .before .before .before .before .before .before .before .before .before .before .before .before .before .before) in let D = (c .before .before .before .before .before .before .before .before .before .before) .loop .inv .1 none (z .pre .3 .0) (z .pre .3 .1) in omega (arith, D .goes .sizes .texts)
+same-length-2 c = let z = (c .before .before .before .before .before .before .before .before .before .before .before .before .before .before .before .before .before .before) in let D = (c .before .before .before .before .before .before .before .before) .loop .inv .1 none (z .pre .3 .0) (z .pre .3 .1) in omega (arith, D .goes .sizes .texts)
 
 returns : tie.Need-returns Inv-loop μ-loop
-returns c = let z = (c .before .before .before .before .before .before .before .before .before .before .before .before .before .before .before .before .before .before .before .before) in
+returns c = let z = (c .before .before .before .before .before .before .before .before .before .before .before .before .before .before .before .before .before .before) in
     let a = z .args in
-    let l = (c .before .before .before .before .before .before .before .before .before .before) .loop in
+    let l = (c .before .before .before .before .before .before .before .before) .loop in
     let D = l .inv .1 none (z .pre .3 .0) (z .pre .3 .1) in
-    let P : PathIs (a .d) (bits (a .b .now)) (l .cur + 16 + 16) ((c .before .before .before .before .before .before) .e .given .0 .0) = subst (PlainIs (a .d) (bits (a .b .now)) (l .cur + 16 + 16)) ((c .before .before .before .before .before .before) .e .given .1) ((c .before .before .before .before .before .before .before .before) .plain-at .ensures) in
     subst (λ (j : code.Run). Run (a .s .now) (a .b .now) (a .options) (a .d) (a .count) (world (whole (a .rc) (a .sc .now)) (a .page .now) (a .texts .now) (a .indent .now) (a .ent .now)) (world (kept (whole (a .rc) (a .sc .now)) (j .writer) (j .bad)) (l .page) (l .texts) (a .indent .now) (a .ent .now)) (a .i) (a .p) (j .i) (j .cur)) (sym (c .run-of .ensures))
-    (run-stop (a .s .now) (a .b .now) (a .options) (a .d) (a .count) (world (whole (a .rc) (a .sc .now)) (a .page .now) (a .texts .now) (a .indent .now) (a .ent .now)) (world (kept (whole (a .rc) (a .sc .now)) (l .w) 0) (l .page) (l .texts) (a .indent .now) (a .ent .now)) (a .i) (a .p) (l .k) (l .cur) (l .inv .1) ((c .before .before .before .before .before .before .before .before .before) .loop-test .taken) (world (kept (whole (a .rc) (a .sc .now)) (l .w) ((c .before .before) .n2 .given .0 .0)) (l .page) (l .texts) (a .indent .now) (a .ent .now)) ((c .before .before .before .before .before .before) .e .given .0 .0 + 9)
-    (path-refused (a .s .now) (a .b .now) (a .options) (a .d) (l .cur) (whole (a .rc) (a .sc .now)) (l .w) (l .page) (l .texts) (a .indent .now) (a .ent .now) (D .goes .ready) ((c .before .before .before .before .before .before) .e .given .0 .0) P ((c .before .before .before .before) .bare-path .result) (λ g st j ibw h. (c .before .before .before .before) .bare-path .ensures g st j (a .d) (l .cur + 16 + 16 + 4) ibw h (P .call) (P .named) (P .bare)) ((c .before .before) .n2 .given .0 .0) ((c .before .before) .n2 .given .1)) (l .inv .0)
-    (path-number (a .s .now) (a .b .now) (a .options) (a .d) (l .cur) (whole (a .rc) (a .sc .now)) (l .w) (l .page) (l .texts) (a .indent .now) (a .ent .now) (D .goes .ready) ((c .before .before .before .before .before .before) .e .given .0 .0) P ((c .before .before .before .before) .bare-path .result) (λ g st j ibw h. (c .before .before .before .before) .bare-path .ensures g st j (a .d) (l .cur + 16 + 16 + 4) ibw h (P .call) (P .named) (P .bare)) ((c .before .before) .n2 .given .0 .0) ((c .before .before) .n2 .given .1)))
+    (run-left (a .s .now) (a .b .now) (a .options) (a .d) (a .count) (world (whole (a .rc) (a .sc .now)) (a .page .now) (a .texts .now) (a .indent .now) (a .ent .now)) (world (kept (whole (a .rc) (a .sc .now)) (l .w) 0) (l .page) (l .texts) (a .indent .now) (a .ent .now)) (a .i) (a .p) (l .k) (l .cur) (l .inv .1) (l .inv .0) refl)
 
-enum-told : tie.Need-enum-told Inv-loop μ-loop
-enum-told c = search needs
+add-bare-path : tie.Need-add-bare-path Inv-loop μ-loop
+add-bare-path c = let z = (c .before .before .before .before .before .before .before .before .before .before .before .before .before .before .before .before .before) in
+    let a = z .args in
+    let l = (c .before .before .before .before .before .before .before) .loop in
+    let D = l .inv .1 none (z .pre .3 .0) (z .pre .3 .1) in
+    let y = (c .before .before .before) .html .given .0 .0 in
+    let e = (c .before .before .before) .html .given .0 .1 .0 in
+    let P : PathIs (a .d) (bits (a .b .now)) (l .cur + 16 + 16) y e = subst (PlainIs (a .d) (bits (a .b .now)) (l .cur + 16 + 16)) ((c .before .before .before) .html .given .1) ((c .before .before .before .before .before) .plain-at .ensures) in
+    let k = string-in (bits (a .b .now)) (l .cur + 16 + 16 + 6) (path-raw (bits (a .b .now)) (l .cur + 16 + 16 + 6) (P .leads)) in
+    omega (arith, z .pre .1, k, P .fits, bits-size (a .b .now))
+
+bare-path-requires : tie.Need-bare-path-requires Inv-loop μ-loop
+bare-path-requires c κs = let z = (c .before .before .before .before .before .before .before .before .before .before .before .before .before .before .before .before .before) in
+    let a = z .args in
+    let l = (c .before .before .before .before .before .before .before) .loop in
+    let D = l .inv .1 none (z .pre .3 .0) (z .pre .3 .1) in
+    let y = (c .before .before .before) .html .given .0 .0 in
+    let e = (c .before .before .before) .html .given .0 .1 .0 in
+    let P : PathIs (a .d) (bits (a .b .now)) (l .cur + 16 + 16) y e = subst (PlainIs (a .d) (bits (a .b .now)) (l .cur + 16 + 16)) ((c .before .before .before) .html .given .1) ((c .before .before .before .before .before) .plain-at .ensures) in
+    (z .pre .0, z .pre .1, D .goes .ready .one, D .goes .ready .most, (top (world (kept (whole (a .rc) (a .sc .now)) (l .w) 0) (l .page) (l .texts) (a .indent .now) (a .ent .now)), D .goes .ready .scopes), P .leads, z .pre .4)
+
+enum-known-n-2 : tie.Need-enum-known-n-2 Inv-loop μ-loop
+enum-known-n-2 c = search needs
 
 run-of-requires-2 : tie.Need-run-of-requires-2 Inv-loop μ-loop
 run-of-requires-2 c κs = search needs
 
 same-length-3 : tie.Need-same-length-3 Inv-loop μ-loop
-same-length-3 c = let z = (c .before .before .before .before .before .before .before .before .before .before .before .before .before .before .before .before .before .before .before) in let D = (c .before .before .before .before .before .before .before .before .before) .loop .inv .1 none (z .pre .3 .0) (z .pre .3 .1) in omega (arith, D .goes .sizes .page)
+same-length-3 c = let z = (c .before .before .before .before .before .before .before .before .before .before .before .before .before .before .before .before .before .before .before .before .before .before) in let D = (c .before .before .before .before .before .before .before .before .before .before .before .before) .loop .inv .1 none (z .pre .3 .0) (z .pre .3 .1) in omega (arith, D .goes .sizes .page)
 
 same-length-4 : tie.Need-same-length-4 Inv-loop μ-loop
-same-length-4 c = let z = (c .before .before .before .before .before .before .before .before .before .before .before .before .before .before .before .before .before .before .before) in let D = (c .before .before .before .before .before .before .before .before .before) .loop .inv .1 none (z .pre .3 .0) (z .pre .3 .1) in omega (arith, D .goes .sizes .texts)
+same-length-4 c = let z = (c .before .before .before .before .before .before .before .before .before .before .before .before .before .before .before .before .before .before .before .before .before .before) in let D = (c .before .before .before .before .before .before .before .before .before .before .before .before) .loop .inv .1 none (z .pre .3 .0) (z .pre .3 .1) in omega (arith, D .goes .sizes .texts)
 
 returns-2 : tie.Need-returns-2 Inv-loop μ-loop
-returns-2 c = let z = (c .before .before .before .before .before .before .before .before .before .before .before .before .before .before .before .before .before .before .before) in
+returns-2 c = let z = (c .before .before .before .before .before .before .before .before .before .before .before .before .before .before .before .before .before .before .before .before .before .before) in
     let a = z .args in
-    let l = (c .before .before .before .before .before .before .before .before .before) .loop in
+    let l = (c .before .before .before .before .before .before .before .before .before .before .before .before) .loop in
     let D = l .inv .1 none (z .pre .3 .0) (z .pre .3 .1) in
+    let y = (c .before .before .before .before .before .before .before .before) .html .given .0 .0 in
+    let e = (c .before .before .before .before .before .before .before .before) .html .given .0 .1 .0 in
+    let P : PathIs (a .d) (bits (a .b .now)) (l .cur + 16 + 16) y e = subst (PlainIs (a .d) (bits (a .b .now)) (l .cur + 16 + 16)) ((c .before .before .before .before .before .before .before .before) .html .given .1) ((c .before .before .before .before .before .before .before .before .before .before) .plain-at .ensures) in
     subst (λ (j : code.Run). Run (a .s .now) (a .b .now) (a .options) (a .d) (a .count) (world (whole (a .rc) (a .sc .now)) (a .page .now) (a .texts .now) (a .indent .now) (a .ent .now)) (world (kept (whole (a .rc) (a .sc .now)) (j .writer) (j .bad)) (l .page) (l .texts) (a .indent .now) (a .ent .now)) (a .i) (a .p) (j .i) (j .cur)) (sym (c .run-of2 .ensures))
+    (run-stop (a .s .now) (a .b .now) (a .options) (a .d) (a .count) (world (whole (a .rc) (a .sc .now)) (a .page .now) (a .texts .now) (a .indent .now) (a .ent .now)) (world (kept (whole (a .rc) (a .sc .now)) (l .w) 0) (l .page) (l .texts) (a .indent .now) (a .ent .now)) (a .i) (a .p) (l .k) (l .cur) (l .inv .1) ((c .before .before .before .before .before .before .before .before .before .before .before) .loop-test .taken) (world (kept (whole (a .rc) (a .sc .now)) (l .w) ((c .before .before) .n2 .given .0 .0)) (l .page) (l .texts) (a .indent .now) (a .ent .now)) (e + 9)
+    (path-refused (a .s .now) (a .b .now) (a .options) (a .d) (l .cur) (whole (a .rc) (a .sc .now)) (l .w) (l .page) (l .texts) (a .indent .now) (a .ent .now) (D .goes .ready) y e P ((c .before .before .before .before) .bare-path .result) (λ g st j ibw h. (c .before .before .before .before) .bare-path .ensures g st j (a .d) (l .cur + 16 + 16 + 4) ibw h (P .call) (P .named) (P .bare)) (λ k. sym (ap (λ (x : Bool). x && a .rc .«disable_escape») k) ∙ (c .before .before .before .before .before) .if1 .left) ((c .before .before) .n2 .given .0 .0) ((c .before .before) .n2 .given .1)) (l .inv .0)
+    (path-number (a .s .now) (a .b .now) (a .options) (a .d) (l .cur) (whole (a .rc) (a .sc .now)) (l .w) (l .page) (l .texts) (a .indent .now) (a .ent .now) (D .goes .ready) y e P ((c .before .before .before .before) .bare-path .result) (λ g st j ibw h. (c .before .before .before .before) .bare-path .ensures g st j (a .d) (l .cur + 16 + 16 + 4) ibw h (P .call) (P .named) (P .bare)) ((c .before .before) .n2 .given .0 .0) ((c .before .before) .n2 .given .1)))
+
+enum-told : tie.Need-enum-told Inv-loop μ-loop
+enum-told c = search needs
+
+run-of-requires-3 : tie.Need-run-of-requires-3 Inv-loop μ-loop
+run-of-requires-3 c κs = search needs
+
+same-length-5 : tie.Need-same-length-5 Inv-loop μ-loop
+same-length-5 c = let z = (c .before .before .before .before .before .before .before .before .before .before .before .before .before .before .before .before .before .before .before .before .before) in let D = (c .before .before .before .before .before .before .before .before .before .before .before) .loop .inv .1 none (z .pre .3 .0) (z .pre .3 .1) in omega (arith, D .goes .sizes .page)
+
+same-length-6 : tie.Need-same-length-6 Inv-loop μ-loop
+same-length-6 c = let z = (c .before .before .before .before .before .before .before .before .before .before .before .before .before .before .before .before .before .before .before .before .before) in let D = (c .before .before .before .before .before .before .before .before .before .before .before) .loop .inv .1 none (z .pre .3 .0) (z .pre .3 .1) in omega (arith, D .goes .sizes .texts)
+
+returns-3 : tie.Need-returns-3 Inv-loop μ-loop
+returns-3 c = let z = (c .before .before .before .before .before .before .before .before .before .before .before .before .before .before .before .before .before .before .before .before .before) in
+    let a = z .args in
+    let l = (c .before .before .before .before .before .before .before .before .before .before .before) .loop in
+    let D = l .inv .1 none (z .pre .3 .0) (z .pre .3 .1) in
+    subst (λ (j : code.Run). Run (a .s .now) (a .b .now) (a .options) (a .d) (a .count) (world (whole (a .rc) (a .sc .now)) (a .page .now) (a .texts .now) (a .indent .now) (a .ent .now)) (world (kept (whole (a .rc) (a .sc .now)) (j .writer) (j .bad)) (l .page) (l .texts) (a .indent .now) (a .ent .now)) (a .i) (a .p) (j .i) (j .cur)) (sym (c .run-of3 .ensures))
     (run-left (a .s .now) (a .b .now) (a .options) (a .d) (a .count) (world (whole (a .rc) (a .sc .now)) (a .page .now) (a .texts .now) (a .indent .now) (a .ent .now)) (world (kept (whole (a .rc) (a .sc .now)) (l .w) 0) (l .page) (l .texts) (a .indent .now) (a .ent .now)) (a .i) (a .p) (l .k) (l .cur) (l .inv .1) (l .inv .0) refl)
 
 enum-known-v : tie.Need-enum-known-v Inv-loop μ-loop
 enum-known-v c = search needs
 
 write-value-requires : tie.Need-write-value-requires Inv-loop μ-loop
-write-value-requires c κs = let z = (c .before .before .before .before .before .before .before .before .before .before .before .before .before .before .before .before .before .before .before .before .before .before) in
+write-value-requires c κs = let z = (c .before .before .before .before .before .before .before .before .before .before .before .before .before .before .before .before .before .before .before .before .before .before .before .before) in
     let a = z .args in
-    let l = (c .before .before .before .before .before .before .before .before .before .before .before .before) .loop in
+    let l = (c .before .before .before .before .before .before .before .before .before .before .before .before .before .before) .loop in
     let D = l .inv .1 none (z .pre .3 .0) (z .pre .3 .1) in
-    let P : PathIs (a .d) (bits (a .b .now)) (l .cur + 16 + 16) ((c .before .before .before .before .before .before .before .before) .e .given .0 .0) = subst (PlainIs (a .d) (bits (a .b .now)) (l .cur + 16 + 16)) ((c .before .before .before .before .before .before .before .before) .e .given .1) ((c .before .before .before .before .before .before .before .before .before .before) .plain-at .ensures) in
+    let y = (c .before .before .before .before .before .before .before .before .before .before) .html .given .0 .0 in
+    let e = (c .before .before .before .before .before .before .before .before .before .before) .html .given .0 .1 .0 in
+    let P : PathIs (a .d) (bits (a .b .now)) (l .cur + 16 + 16) y e = subst (PlainIs (a .d) (bits (a .b .now)) (l .cur + 16 + 16)) ((c .before .before .before .before .before .before .before .before .before .before) .html .given .1) ((c .before .before .before .before .before .before .before .before .before .before .before .before) .plain-at .ensures) in
     (z .pre .0, z .pre .1, expression-known (a .s .now) (a .b .now) (a .options) (world (kept (whole (a .rc) (a .sc .now)) (l .w) 0) (l .page) (l .texts) (a .indent .now) (a .ent .now)) (D .goes .ready) (call-at (a .d) (bits (a .b .now)) (l .cur + 16 + 16 + 4)) (P .before) ((c .before .before .before .before .before .before) .bare-path .result) (λ g st j ibw h. (c .before .before .before .before .before .before) .bare-path .ensures g st j (a .d) (l .cur + 16 + 16 + 4) ibw h (P .call) (P .named) (P .bare)) ((c .before .before .before .before) .v .given .0 .0) ((c .before .before .before .before) .v .given .1))
 
 enum-told-2 : tie.Need-enum-told-2 Inv-loop μ-loop
 enum-told-2 c = search needs
 
 add-next-3 : tie.Need-add-next-3 Inv-loop μ-loop
-add-next-3 c = let z = (c .before .before .before .before .before .before .before .before .before .before .before .before .before .before .before .before .before) in
+add-next-3 c = let z = (c .before .before .before .before .before .before .before .before .before .before .before .before .before .before .before .before .before .before .before) in
     let a = z .args in
-    let l = (c .before .before .before .before .before .before .before) .loop in
+    let l = (c .before .before .before .before .before .before .before .before .before) .loop in
     let D = l .inv .1 none (z .pre .3 .0) (z .pre .3 .1) in
-    let P : PathIs (a .d) (bits (a .b .now)) (l .cur + 16 + 16) ((c .before .before .before) .e .given .0 .0) = subst (PlainIs (a .d) (bits (a .b .now)) (l .cur + 16 + 16)) ((c .before .before .before) .e .given .1) ((c .before .before .before .before .before) .plain-at .ensures) in
+    let y = (c .before .before .before .before .before) .html .given .0 .0 in
+    let e = (c .before .before .before .before .before) .html .given .0 .1 .0 in
+    let P : PathIs (a .d) (bits (a .b .now)) (l .cur + 16 + 16) y e = subst (PlainIs (a .d) (bits (a .b .now)) (l .cur + 16 + 16)) ((c .before .before .before .before .before) .html .given .1) ((c .before .before .before .before .before .before .before) .plain-at .ensures) in
     let k = string-in (bits (a .b .now)) (l .cur + 16 + 16 + 6) (path-raw (bits (a .b .now)) (l .cur + 16 + 16 + 6) (P .leads)) in
     omega (arith, z .pre .1, k, P .fits, bits-size (a .b .now))
 
 enum-told-3 : tie.Need-enum-told-3 Inv-loop μ-loop
 enum-told-3 c = search needs
 
-run-of-requires-3 : tie.Need-run-of-requires-3 Inv-loop μ-loop
-run-of-requires-3 c κs = search needs
+run-of-requires-4 : tie.Need-run-of-requires-4 Inv-loop μ-loop
+run-of-requires-4 c κs = search needs
 
-same-length-5 : tie.Need-same-length-5 Inv-loop μ-loop
-same-length-5 c = let z = (c .before .before .before .before .before .before .before .before .before .before .before .before .before .before .before) in let D = (c .before .before .before .before .before) .loop .inv .1 none (z .pre .3 .0) (z .pre .3 .1) in omega (arith, D .goes .sizes .page)
+same-length-7 : tie.Need-same-length-7 Inv-loop μ-loop
+same-length-7 c = let z = (c .before .before .before .before .before .before .before .before .before .before .before .before .before .before .before) in let D = (c .before .before .before .before .before) .loop .inv .1 none (z .pre .3 .0) (z .pre .3 .1) in omega (arith, D .goes .sizes .page)
 
-same-length-6 : tie.Need-same-length-6 Inv-loop μ-loop
-same-length-6 c = let z = (c .before .before .before .before .before .before .before .before .before .before .before .before .before .before .before) in let D = (c .before .before .before .before .before) .loop .inv .1 none (z .pre .3 .0) (z .pre .3 .1) in omega (arith, D .goes .sizes .texts)
+same-length-8 : tie.Need-same-length-8 Inv-loop μ-loop
+same-length-8 c = let z = (c .before .before .before .before .before .before .before .before .before .before .before .before .before .before .before) in let D = (c .before .before .before .before .before) .loop .inv .1 none (z .pre .3 .0) (z .pre .3 .1) in omega (arith, D .goes .sizes .texts)
 
-returns-3 : tie.Need-returns-3 Inv-loop μ-loop
-returns-3 c = let z = (c .before .before .before .before .before .before .before .before .before .before .before .before .before .before .before) in
+returns-4 : tie.Need-returns-4 Inv-loop μ-loop
+returns-4 c = let z = (c .before .before .before .before .before .before .before .before .before .before .before .before .before .before .before) in
     let a = z .args in
     let l = (c .before .before .before .before .before) .loop in
     let D = l .inv .1 none (z .pre .3 .0) (z .pre .3 .1) in
-    subst (λ (j : code.Run). Run (a .s .now) (a .b .now) (a .options) (a .d) (a .count) (world (whole (a .rc) (a .sc .now)) (a .page .now) (a .texts .now) (a .indent .now) (a .ent .now)) (world (kept (whole (a .rc) (a .sc .now)) (j .writer) (j .bad)) (l .page) (l .texts) (a .indent .now) (a .ent .now)) (a .i) (a .p) (j .i) (j .cur)) (sym (c .run-of3 .ensures))
+    subst (λ (j : code.Run). Run (a .s .now) (a .b .now) (a .options) (a .d) (a .count) (world (whole (a .rc) (a .sc .now)) (a .page .now) (a .texts .now) (a .indent .now) (a .ent .now)) (world (kept (whole (a .rc) (a .sc .now)) (j .writer) (j .bad)) (l .page) (l .texts) (a .indent .now) (a .ent .now)) (a .i) (a .p) (j .i) (j .cur)) (sym (c .run-of4 .ensures))
     (run-left (a .s .now) (a .b .now) (a .options) (a .d) (a .count) (world (whole (a .rc) (a .sc .now)) (a .page .now) (a .texts .now) (a .indent .now) (a .ent .now)) (world (kept (whole (a .rc) (a .sc .now)) (l .w) 0) (l .page) (l .texts) (a .indent .now) (a .ent .now)) (a .i) (a .p) (l .k) (l .cur) (l .inv .1) (l .inv .0) refl)
 
 full-number-requires : tie.Need-full-number-requires Inv-loop μ-loop
 full-number-requires c κs = search needs
 
-run-of-requires-4 : tie.Need-run-of-requires-4 Inv-loop μ-loop
-run-of-requires-4 c κs = search needs
+run-of-requires-5 : tie.Need-run-of-requires-5 Inv-loop μ-loop
+run-of-requires-5 c κs = search needs
 
-same-length-7 : tie.Need-same-length-7 Inv-loop μ-loop
-same-length-7 c = let z = (c .before .before .before .before .before .before .before .before .before .before .before .before .before .before .before .before) in
+same-length-9 : tie.Need-same-length-9 Inv-loop μ-loop
+same-length-9 c = let z = (c .before .before .before .before .before .before .before .before .before .before .before .before .before .before .before .before) in
     let a = z .args in
     let l = (c .before .before .before .before .before .before) .loop in
     let D = l .inv .1 none (z .pre .3 .0) (z .pre .3 .1) in
     let x = (c .before .before .before) .match in
     let e : length (x .page) ≡ length (l .page) =
     ⊎-elim (λ t. omega (arith, ap length (t .10), t .5 .kept .0))
-    (λ t. let q = t .4 in
+    (λ t. let q = t .6 in
     let h : length (q .page) ≡ length (l .page) = ⊎-elim (λ v. omega (arith, ap length (v .11), v .6 .kept .0)) (λ v. omega (arith, ap length (v .2))) (q .came) in
-    omega (arith, ap length (t .5), h))
+    omega (arith, ap length (t .7), h))
     (x .came) in
     omega (arith, e, D .goes .sizes .page)
 
-same-length-8 : tie.Need-same-length-8 Inv-loop μ-loop
-same-length-8 c = let z = (c .before .before .before .before .before .before .before .before .before .before .before .before .before .before .before .before) in
+same-length-10 : tie.Need-same-length-10 Inv-loop μ-loop
+same-length-10 c = let z = (c .before .before .before .before .before .before .before .before .before .before .before .before .before .before .before .before) in
     let a = z .args in
     let l = (c .before .before .before .before .before .before) .loop in
     let D = l .inv .1 none (z .pre .3 .0) (z .pre .3 .1) in
     let x = (c .before .before .before) .match in
     let e : length (x .texts) ≡ length (l .texts) =
     ⊎-elim (λ t. omega (arith, ap length (t .11), t .5 .kept .1 .0))
-    (λ t. let q = t .4 in
+    (λ t. let q = t .6 in
     let h : length (q .texts) ≡ length (l .texts) = ⊎-elim (λ v. omega (arith, ap length (v .12), v .6 .kept .1 .0)) (λ v. omega (arith, ap length (v .3))) (q .came) in
-    omega (arith, ap length (t .6), h))
+    omega (arith, ap length (t .8), h))
     (x .came) in
     omega (arith, e, D .goes .sizes .texts)
 
-returns-4 : tie.Need-returns-4 Inv-loop μ-loop
-returns-4 c = let z = (c .before .before .before .before .before .before .before .before .before .before .before .before .before .before .before .before) in
+returns-5 : tie.Need-returns-5 Inv-loop μ-loop
+returns-5 c = let z = (c .before .before .before .before .before .before .before .before .before .before .before .before .before .before .before .before) in
     let a = z .args in
     let l = (c .before .before .before .before .before .before) .loop in
     let D = l .inv .1 none (z .pre .3 .0) (z .pre .3 .1) in
@@ -272,22 +300,23 @@ returns-4 c = let z = (c .before .before .before .before .before .before .before
     one-moved (a .s .now) (a .b .now) (a .options) (a .d) (l .cur) (world (kept (whole (a .rc) (a .sc .now)) (l .w) 0) (l .page) (l .texts) (a .indent .now) (a .ent .now)) (whole (a .rc) (a .sc .now)) (a .indent .now) (a .ent .now) (y .result) (x .w) (y .last .0) (x .page) (y .last .1 .0) (x .texts) (l .cur + 16 + 16 + 20 + 8 * n) (x .next) (t .10) (t .11) (t .12) (t .13)
     (text-drawn (a .s .now) (a .b .now) (a .options) (a .d) (l .cur) (whole (a .rc) (a .sc .now)) (l .w) (l .page) (l .texts) (a .indent .now) (a .ent .now) (D .goes .ready) n T (y .result) (y .last .0) (y .last .1 .0) (y .ensures)))
     (λ t.
-    let e = t .1 .given .0 .0 in
-    let P : PathIs (a .d) (bits (a .b .now)) (l .cur + 16 + 16) e = subst (PlainIs (a .d) (bits (a .b .now)) (l .cur + 16 + 16)) (t .1 .given .1) (f .ensures) in
-    let q = t .4 in
-    one-moved (a .s .now) (a .b .now) (a .options) (a .d) (l .cur) (world (kept (whole (a .rc) (a .sc .now)) (l .w) 0) (l .page) (l .texts) (a .indent .now) (a .ent .now)) (whole (a .rc) (a .sc .now)) (a .indent .now) (a .ent .now) (q .w) (x .w) (q .page) (x .page) (q .texts) (x .texts) (e + 9) (x .next) (t .5) (t .6) (t .7) (t .8)
+    let h = t .1 .given .0 .0 in
+    let e = t .1 .given .0 .1 .0 in
+    let P : PathIs (a .d) (bits (a .b .now)) (l .cur + 16 + 16) h e = subst (PlainIs (a .d) (bits (a .b .now)) (l .cur + 16 + 16)) (t .1 .given .1) (f .ensures) in
+    let q = t .6 in
+    one-moved (a .s .now) (a .b .now) (a .options) (a .d) (l .cur) (world (kept (whole (a .rc) (a .sc .now)) (l .w) 0) (l .page) (l .texts) (a .indent .now) (a .ent .now)) (whole (a .rc) (a .sc .now)) (a .indent .now) (a .ent .now) (q .w) (x .w) (q .page) (x .page) (q .texts) (x .texts) (e + 9) (x .next) (t .7) (t .8) (t .9) (t .10)
     (⊎-elim
     (λ v.
     let y = v .6 in
     one-moved (a .s .now) (a .b .now) (a .options) (a .d) (l .cur) (world (kept (whole (a .rc) (a .sc .now)) (l .w) 0) (l .page) (l .texts) (a .indent .now) (a .ent .now)) (whole (a .rc) (a .sc .now)) (a .indent .now) (a .ent .now) (y .result) (q .w) (y .last .0) (q .page) (y .last .1 .0) (q .texts) (e + 9) (e + 9) (v .11) (v .12) (v .13) refl
-    (path-written (a .s .now) (a .b .now) (a .options) (a .d) (l .cur) (whole (a .rc) (a .sc .now)) (l .w) (l .page) (l .texts) (a .indent .now) (a .ent .now) (D .goes .ready) e P (t .3 .result) (λ g st j ibw h. t .3 .ensures g st j (a .d) (l .cur + 16 + 16 + 4) ibw h (P .call) (P .named) (P .bare)) (v .1 .given .0 .0) (v .1 .given .1) (y .result) (y .last .0) (y .last .1 .0) (y .ensures)))
+    (path-written (a .s .now) (a .b .now) (a .options) (a .d) (l .cur) (whole (a .rc) (a .sc .now)) (l .w) (l .page) (l .texts) (a .indent .now) (a .ent .now) (D .goes .ready) h e P (t .5 .result) (λ g st j ibw h. t .5 .ensures g st j (a .d) (l .cur + 16 + 16 + 4) ibw h (P .call) (P .named) (P .bare)) (λ k. sym (ap (λ (x : Bool). x && a .rc .«disable_escape») k) ∙ t .4 .left) (v .1 .given .0 .0) (v .1 .given .1) (y .result) (y .last .0) (y .last .1 .0) (y .ensures)))
     (λ v. one-moved (a .s .now) (a .b .now) (a .options) (a .d) (l .cur) (world (kept (whole (a .rc) (a .sc .now)) (l .w) 0) (l .page) (l .texts) (a .indent .now) (a .ent .now)) (whole (a .rc) (a .sc .now)) (a .indent .now) (a .ent .now) (l .w) (q .w) (l .page) (q .page) (l .texts) (q .texts) (e + 9) (e + 9) (v .2) (v .3) (v .4) refl
-    (path-nothing (a .s .now) (a .b .now) (a .options) (a .d) (l .cur) (whole (a .rc) (a .sc .now)) (l .w) (l .page) (l .texts) (a .indent .now) (a .ent .now) (D .goes .ready) e P (t .3 .result) (λ g st j ibw h. t .3 .ensures g st j (a .d) (l .cur + 16 + 16 + 4) ibw h (P .call) (P .named) (P .bare)) (v .1 .given .1)))
+    (path-nothing (a .s .now) (a .b .now) (a .options) (a .d) (l .cur) (whole (a .rc) (a .sc .now)) (l .w) (l .page) (l .texts) (a .indent .now) (a .ent .now) (D .goes .ready) h e P (t .5 .result) (λ g st j ibw h. t .5 .ensures g st j (a .d) (l .cur + 16 + 16 + 4) ibw h (P .call) (P .named) (P .bare)) (λ k. sym (ap (λ (x : Bool). x && a .rc .«disable_escape») k) ∙ t .4 .left) (v .1 .given .1)))
     (q .came)))
     (x .came) in
-    subst (λ (j : code.Run). Run (a .s .now) (a .b .now) (a .options) (a .d) (a .count) (world (whole (a .rc) (a .sc .now)) (a .page .now) (a .texts .now) (a .indent .now) (a .ent .now)) (world (kept (whole (a .rc) (a .sc .now)) (j .writer) (j .bad)) (x .page) (x .texts) (a .indent .now) (a .ent .now)) (a .i) (a .p) (j .i) (j .cur)) (sym (c .run-of4 .ensures))
+    subst (λ (j : code.Run). Run (a .s .now) (a .b .now) (a .options) (a .d) (a .count) (world (whole (a .rc) (a .sc .now)) (a .page .now) (a .texts .now) (a .indent .now) (a .ent .now)) (world (kept (whole (a .rc) (a .sc .now)) (j .writer) (j .bad)) (x .page) (x .texts) (a .indent .now) (a .ent .now)) (a .i) (a .p) (j .i) (j .cur)) (sym (c .run-of5 .ensures))
     (subst (λ (n : ℕ). Run (a .s .now) (a .b .now) (a .options) (a .d) (a .count) (world (whole (a .rc) (a .sc .now)) (a .page .now) (a .texts .now) (a .indent .now) (a .ent .now)) (world (kept (whole (a .rc) (a .sc .now)) (x .w) n) (x .page) (x .texts) (a .indent .now) (a .ent .now)) (a .i) (a .p) (l .k) (l .cur)) (sym ((c .before) .full-number .ensures))
-    (run-stop (a .s .now) (a .b .now) (a .options) (a .d) (a .count) (world (whole (a .rc) (a .sc .now)) (a .page .now) (a .texts .now) (a .indent .now) (a .ent .now)) (world (kept (whole (a .rc) (a .sc .now)) (l .w) 0) (l .page) (l .texts) (a .indent .now) (a .ent .now)) (a .i) (a .p) (l .k) (l .cur) (l .inv .1) ((c .before .before .before .before .before) .loop-test .taken) (world (kept (whole (a .rc) (a .sc .now)) (x .w) (full-number (x .w))) (x .page) (x .texts) (a .indent .now) (a .ent .now)) (x .next) O (l .inv .0) (full-bad (x .w) ((c .before .before) .if1 .taken))))
+    (run-stop (a .s .now) (a .b .now) (a .options) (a .d) (a .count) (world (whole (a .rc) (a .sc .now)) (a .page .now) (a .texts .now) (a .indent .now) (a .ent .now)) (world (kept (whole (a .rc) (a .sc .now)) (l .w) 0) (l .page) (l .texts) (a .indent .now) (a .ent .now)) (a .i) (a .p) (l .k) (l .cur) (l .inv .1) ((c .before .before .before .before .before) .loop-test .taken) (world (kept (whole (a .rc) (a .sc .now)) (x .w) (full-number (x .w))) (x .page) (x .texts) (a .indent .now) (a .ent .now)) (x .next) O (l .inv .0) (full-bad (x .w) ((c .before .before) .if2 .taken))))
 
 add-k : tie.Need-add-k Inv-loop μ-loop
 add-k c = omega (arith, (c .before .before .before) .loop-test .taken, (c .before .before .before .before .before .before .before .before .before .before .before .before .before .before) .good .1 .1 .1 .1 .1 .1 .1 .1 .1 .0)
@@ -311,40 +340,41 @@ loop-again c = let z = (c .before .before .before .before .before .before .befor
     one-moved (a .s .now) (a .b .now) (a .options) (a .d) (l .cur) (world (kept (whole (a .rc) (a .sc .now)) (l .w) 0) (l .page) (l .texts) (a .indent .now) (a .ent .now)) (whole (a .rc) (a .sc .now)) (a .indent .now) (a .ent .now) (y .result) (x .w) (y .last .0) (x .page) (y .last .1 .0) (x .texts) (l .cur + 16 + 16 + 20 + 8 * n) (x .next) (t .10) (t .11) (t .12) (t .13)
     (text-drawn (a .s .now) (a .b .now) (a .options) (a .d) (l .cur) (whole (a .rc) (a .sc .now)) (l .w) (l .page) (l .texts) (a .indent .now) (a .ent .now) (D .goes .ready) n T (y .result) (y .last .0) (y .last .1 .0) (y .ensures)))
     (λ t.
-    let e = t .1 .given .0 .0 in
-    let P : PathIs (a .d) (bits (a .b .now)) (l .cur + 16 + 16) e = subst (PlainIs (a .d) (bits (a .b .now)) (l .cur + 16 + 16)) (t .1 .given .1) (f .ensures) in
-    let q = t .4 in
-    one-moved (a .s .now) (a .b .now) (a .options) (a .d) (l .cur) (world (kept (whole (a .rc) (a .sc .now)) (l .w) 0) (l .page) (l .texts) (a .indent .now) (a .ent .now)) (whole (a .rc) (a .sc .now)) (a .indent .now) (a .ent .now) (q .w) (x .w) (q .page) (x .page) (q .texts) (x .texts) (e + 9) (x .next) (t .5) (t .6) (t .7) (t .8)
+    let h = t .1 .given .0 .0 in
+    let e = t .1 .given .0 .1 .0 in
+    let P : PathIs (a .d) (bits (a .b .now)) (l .cur + 16 + 16) h e = subst (PlainIs (a .d) (bits (a .b .now)) (l .cur + 16 + 16)) (t .1 .given .1) (f .ensures) in
+    let q = t .6 in
+    one-moved (a .s .now) (a .b .now) (a .options) (a .d) (l .cur) (world (kept (whole (a .rc) (a .sc .now)) (l .w) 0) (l .page) (l .texts) (a .indent .now) (a .ent .now)) (whole (a .rc) (a .sc .now)) (a .indent .now) (a .ent .now) (q .w) (x .w) (q .page) (x .page) (q .texts) (x .texts) (e + 9) (x .next) (t .7) (t .8) (t .9) (t .10)
     (⊎-elim
     (λ v.
     let y = v .6 in
     one-moved (a .s .now) (a .b .now) (a .options) (a .d) (l .cur) (world (kept (whole (a .rc) (a .sc .now)) (l .w) 0) (l .page) (l .texts) (a .indent .now) (a .ent .now)) (whole (a .rc) (a .sc .now)) (a .indent .now) (a .ent .now) (y .result) (q .w) (y .last .0) (q .page) (y .last .1 .0) (q .texts) (e + 9) (e + 9) (v .11) (v .12) (v .13) refl
-    (path-written (a .s .now) (a .b .now) (a .options) (a .d) (l .cur) (whole (a .rc) (a .sc .now)) (l .w) (l .page) (l .texts) (a .indent .now) (a .ent .now) (D .goes .ready) e P (t .3 .result) (λ g st j ibw h. t .3 .ensures g st j (a .d) (l .cur + 16 + 16 + 4) ibw h (P .call) (P .named) (P .bare)) (v .1 .given .0 .0) (v .1 .given .1) (y .result) (y .last .0) (y .last .1 .0) (y .ensures)))
+    (path-written (a .s .now) (a .b .now) (a .options) (a .d) (l .cur) (whole (a .rc) (a .sc .now)) (l .w) (l .page) (l .texts) (a .indent .now) (a .ent .now) (D .goes .ready) h e P (t .5 .result) (λ g st j ibw h. t .5 .ensures g st j (a .d) (l .cur + 16 + 16 + 4) ibw h (P .call) (P .named) (P .bare)) (λ k. sym (ap (λ (x : Bool). x && a .rc .«disable_escape») k) ∙ t .4 .left) (v .1 .given .0 .0) (v .1 .given .1) (y .result) (y .last .0) (y .last .1 .0) (y .ensures)))
     (λ v. one-moved (a .s .now) (a .b .now) (a .options) (a .d) (l .cur) (world (kept (whole (a .rc) (a .sc .now)) (l .w) 0) (l .page) (l .texts) (a .indent .now) (a .ent .now)) (whole (a .rc) (a .sc .now)) (a .indent .now) (a .ent .now) (l .w) (q .w) (l .page) (q .page) (l .texts) (q .texts) (e + 9) (e + 9) (v .2) (v .3) (v .4) refl
-    (path-nothing (a .s .now) (a .b .now) (a .options) (a .d) (l .cur) (whole (a .rc) (a .sc .now)) (l .w) (l .page) (l .texts) (a .indent .now) (a .ent .now) (D .goes .ready) e P (t .3 .result) (λ g st j ibw h. t .3 .ensures g st j (a .d) (l .cur + 16 + 16 + 4) ibw h (P .call) (P .named) (P .bare)) (v .1 .given .1)))
+    (path-nothing (a .s .now) (a .b .now) (a .options) (a .d) (l .cur) (whole (a .rc) (a .sc .now)) (l .w) (l .page) (l .texts) (a .indent .now) (a .ent .now) (D .goes .ready) h e P (t .5 .result) (λ g st j ibw h. t .5 .ensures g st j (a .d) (l .cur + 16 + 16 + 4) ibw h (P .call) (P .named) (P .bare)) (λ k. sym (ap (λ (x : Bool). x && a .rc .«disable_escape») k) ∙ t .4 .left) (v .1 .given .1)))
     (q .came)))
     (x .came) in
-    let e = full-none (x .w) (c .if1 .left) in (
+    let e = full-none (x .w) (c .if2 .left) in (
       omega (arith, l .inv .0),
       subst (λ (n : ℕ). Onward (a .s .now) (a .b .now) (a .options) (a .d) (a .count) (world (whole (a .rc) (a .sc .now)) (a .page .now) (a .texts .now) (a .indent .now) (a .ent .now)) (world (kept (whole (a .rc) (a .sc .now)) (x .w) n) (x .page) (x .texts) (a .indent .now) (a .ent .now)) (a .i) (a .p) (l .k + 1) (x .next)) e
           (run-more (a .s .now) (a .b .now) (a .options) (a .d) (a .count) (world (whole (a .rc) (a .sc .now)) (a .page .now) (a .texts .now) (a .indent .now) (a .ent .now)) (world (kept (whole (a .rc) (a .sc .now)) (l .w) 0) (l .page) (l .texts) (a .indent .now) (a .ent .now)) (a .i) (a .p) (l .k) (l .cur) (l .inv .1) ((c .before .before .before) .loop-test .taken) (world (kept (whole (a .rc) (a .sc .now)) (x .w) (full-number (x .w))) (x .page) (x .texts) (a .indent .now) (a .ent .now)) (x .next) O e),
     )
 
-run-of-requires-5 : tie.Need-run-of-requires-5 Inv-loop μ-loop
-run-of-requires-5 c κs = search needs
+run-of-requires-6 : tie.Need-run-of-requires-6 Inv-loop μ-loop
+run-of-requires-6 c κs = search needs
 
-same-length-9 : tie.Need-same-length-9 Inv-loop μ-loop
-same-length-9 c = let z = (c .before .before .before .before .before .before .before .before .before .before .before .before) in let D = (c .before .before) .loop .inv .1 none (z .pre .3 .0) (z .pre .3 .1) in omega (arith, D .goes .sizes .page)
+same-length-11 : tie.Need-same-length-11 Inv-loop μ-loop
+same-length-11 c = let z = (c .before .before .before .before .before .before .before .before .before .before .before .before) in let D = (c .before .before) .loop .inv .1 none (z .pre .3 .0) (z .pre .3 .1) in omega (arith, D .goes .sizes .page)
 
-same-length-10 : tie.Need-same-length-10 Inv-loop μ-loop
-same-length-10 c = let z = (c .before .before .before .before .before .before .before .before .before .before .before .before) in let D = (c .before .before) .loop .inv .1 none (z .pre .3 .0) (z .pre .3 .1) in omega (arith, D .goes .sizes .texts)
+same-length-12 : tie.Need-same-length-12 Inv-loop μ-loop
+same-length-12 c = let z = (c .before .before .before .before .before .before .before .before .before .before .before .before) in let D = (c .before .before) .loop .inv .1 none (z .pre .3 .0) (z .pre .3 .1) in omega (arith, D .goes .sizes .texts)
 
-returns-5 : tie.Need-returns-5 Inv-loop μ-loop
-returns-5 c = let z = (c .before .before .before .before .before .before .before .before .before .before .before .before) in
+returns-6 : tie.Need-returns-6 Inv-loop μ-loop
+returns-6 c = let z = (c .before .before .before .before .before .before .before .before .before .before .before .before) in
     let a = z .args in
     let l = (c .before .before) .loop in
     let D = l .inv .1 none (z .pre .3 .0) (z .pre .3 .1) in
-    subst (λ (j : code.Run). Run (a .s .now) (a .b .now) (a .options) (a .d) (a .count) (world (whole (a .rc) (a .sc .now)) (a .page .now) (a .texts .now) (a .indent .now) (a .ent .now)) (world (kept (whole (a .rc) (a .sc .now)) (j .writer) (j .bad)) (l .page) (l .texts) (a .indent .now) (a .ent .now)) (a .i) (a .p) (j .i) (j .cur)) (sym (c .run-of5 .ensures))
+    subst (λ (j : code.Run). Run (a .s .now) (a .b .now) (a .options) (a .d) (a .count) (world (whole (a .rc) (a .sc .now)) (a .page .now) (a .texts .now) (a .indent .now) (a .ent .now)) (world (kept (whole (a .rc) (a .sc .now)) (j .writer) (j .bad)) (l .page) (l .texts) (a .indent .now) (a .ent .now)) (a .i) (a .p) (j .i) (j .cur)) (sym (c .run-of6 .ensures))
     (run-left (a .s .now) (a .b .now) (a .options) (a .d) (a .count) (world (whole (a .rc) (a .sc .now)) (a .page .now) (a .texts .now) (a .indent .now) (a .ent .now)) (world (kept (whole (a .rc) (a .sc .now)) (l .w) 0) (l .page) (l .texts) (a .indent .now) (a .ent .now)) (a .i) (a .p) (l .k) (l .cur) (l .inv .1) (l .inv .0) refl)
 
 pub draw-run-spec : {M : Type 1} → statement M
@@ -363,37 +393,41 @@ draw-run-spec =
     add-next
     mul-next
     add-next-2
-    enum-known-e
-    add-bare-path
-    bare-path-requires
-    enum-known-n-2
+    enum-known-html
     run-of-requires
     same-length
     same-length-2
     returns
-    enum-told
+    add-bare-path
+    bare-path-requires
+    enum-known-n-2
     run-of-requires-2
     same-length-3
     same-length-4
     returns-2
+    enum-told
+    run-of-requires-3
+    same-length-5
+    same-length-6
+    returns-3
     enum-known-v
     write-value-requires
     enum-told-2
     add-next-3
     enum-told-3
-    run-of-requires-3
-    same-length-5
-    same-length-6
-    returns-3
-    full-number-requires
     run-of-requires-4
     same-length-7
     same-length-8
     returns-4
-    add-k
-    loop-less
-    loop-again
+    full-number-requires
     run-of-requires-5
     same-length-9
     same-length-10
-    returns-5)
+    returns-5
+    add-k
+    loop-less
+    loop-again
+    run-of-requires-6
+    same-length-11
+    same-length-12
+    returns-6)

@@ -1,5 +1,7 @@
 -- `plain::plain_at` meets its contract.
 use native.Mathlib.Omega.{arith}
+use mathlib.Core.Logic.{⊎-elim, inl, inr}
+use mathlib.Core.Path.{refl}
 use Prim.Native.Nat.{ℕ, _+_}
 use Rattle.rules.specs.Bits.{bits}
 use Rattle.rules.specs.BundleLaws.{bits-size, bits-binary}
@@ -7,7 +9,7 @@ use Rattle.rules.specs.Bundle.{path}
 use Rattle.parts.specs.HoldsLaws.{string-in}
 use Rattle.parts.specs.Parts.{path-raw}
 use Rattle.template.specs.Content.{element-fits}
-use Rattle.plain.specs.Reading.{text-read, path-there, path-read}
+use Rattle.plain.specs.Reading.{text-read, path-kind, path-there, path-read}
 use borrow.Author.Needs.{needs}
 use Rattle.plain.proofs.plain_at.Statement.{statement}
 use Rattle.plain.proofs.plain_at.Tie as tie
@@ -29,7 +31,7 @@ add-skip-path : tie.Need-add-skip-path
 add-skip-path c = let z = (c .before .before .before .before) in omega (arith, z .pre .0, element-fits 16 (z .args .d) (bits (z .args .b .now)) (z .args .p) (z .pre .1), bits-size (z .args .b .now))
 
 skip-path-requires : tie.Need-skip-path-requires
-skip-path-requires c κs = let z = (c .before .before .before .before) in (z .pre .0, path-there (z .args .d) (bits (z .args .b .now)) (bits-binary (z .args .b .now)) (z .args .p) (z .pre .1) ((c .before .before) .field .result) ((c .before .before) .field .ensures) (c .if2 .left))
+skip-path-requires c κs = let z = (c .before .before .before .before) in (z .pre .0, path-there (z .args .d) (bits (z .args .b .now)) (bits-binary (z .args .b .now)) (z .args .p) (z .pre .1) ((c .before .before) .field .result) ((c .before .before) .field .ensures) _ (path-kind (z .args .d) (bits (z .args .b .now)) (bits-binary (z .args .b .now)) (z .args .p) (z .pre .1) ((c .before .before) .field .result) ((c .before .before) .field .ensures) _ refl (⊎-elim (λ w. inr (w .1 .left)) (λ w. inl (w .left)) (c .if2 .came))))
 
 field-requires-2 : tie.Need-field-requires-2
 field-requires-2 c κs = search needs
@@ -38,7 +40,10 @@ returns-3 : tie.Need-returns-3
 returns-3 c = tt
 
 returns-4 : tie.Need-returns-4
-returns-4 c = let z = (c .before .before .before .before .before .before .before) in path-read (z .args .d) (bits (z .args .b .now)) (bits-binary (z .args .b .now)) (z .args .p) (z .pre .1) ((c .before .before .before .before .before) .field .result) ((c .before .before .before .before .before) .field .ensures) ((c .before .before .before) .if2 .left) ((c .before .before) .skip-path .result) ((c .before) .field2 .result) ((c .before .before) .skip-path .ensures) ((c .before) .field2 .ensures) (omega (arith, c .if3 .left))
+returns-4 c =
+    let z = (c .before .before .before .before .before .before .before) in
+    let K = path-kind (z .args .d) (bits (z .args .b .now)) (bits-binary (z .args .b .now)) (z .args .p) (z .pre .1) ((c .before .before .before .before .before) .field .result) ((c .before .before .before .before .before) .field .ensures) _ refl (⊎-elim (λ w. inr (w .1 .left)) (λ w. inl (w .left)) ((c .before .before .before) .if2 .came)) in
+    path-read (z .args .d) (bits (z .args .b .now)) (bits-binary (z .args .b .now)) (z .args .p) (z .pre .1) ((c .before .before .before .before .before) .field .result) ((c .before .before .before .before .before) .field .ensures) _ K ((c .before .before) .skip-path .result) ((c .before) .field2 .result) ((c .before .before) .skip-path .ensures) ((c .before) .field2 .ensures) (omega (arith, c .if4 .left))
 
 pub plain-at-spec : {M : Type 1} → statement M
 plain-at-spec =
