@@ -17,7 +17,7 @@ use Rattle.places.specs.Nodes.{size-positive, some-places, root-node}
 use Rattle.places.specs.Children.{end-at, Walk, walk-start, walk-child, walk-on, walk-end, Child, child-walk}
 use Rattle.places.specs.declared.Found.{Found}
 use Rattle.places.specs.declared.Found.the-variants.{At, Nothing}
-use Rattle.places.specs.Kinds.{found, found-name, FoundIn}
+use Rattle.places.specs.Kinds.{found, numbered, found-name, FoundIn}
 
 pub none-at : {A : Type 0} (l : List A) (j k : ℕ) → drop j l ≡ [] → j ≤ k → none ≡ getElem? l k
 none-at [] j k h le = refl
@@ -114,6 +114,17 @@ module _ (s : Bytes) (i : ℕ) where
 
     pub choose-end : end-at s i ≤ c → best ≡ next-member s i after
     choose-end le = sym (q .is ∙ ap (least-onto s after best) (walk-end s i (q .number) c (q .walk) le))
+
+-- Numbers for places
+
+pub number-pick : (t : Bool) (c best r : ℕ) → 0 < c → r ≡ pick t c best → numbered r ≡ pick t (some c) (numbered best)
+number-pick true zero best r lt e = absurd (omega arith)
+number-pick true (suc c) best r lt e = ap numbered e
+number-pick false c best r lt e = ap numbered e
+
+pub number-is : (c : ℕ) → (c ≡ 0 → ⊥) → some c ≡ numbered c
+number-is zero h = absurd (h refl)
+number-is (suc c) h = refl
 
 -- what was found is a place
 pub in-pick : (s : Bytes) (r old : Found) (t : Bool) (c : ℕ) → found r ≡ pick t (some c) (found old) → c < places s → FoundIn s old → FoundIn s r

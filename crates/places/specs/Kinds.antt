@@ -1,5 +1,5 @@
 -- The kind of a value, and what code hands out, in terms of the rules' values.
-use Prim.Native.Nat.{ℕ, _<_}
+use Prim.Native.Nat.{ℕ, zero, suc, _<_}
 use mathlib.Core.Bool.{Bool, true, false, _&&_, _||_, not}
 use mathlib.Core.Option.{Option, none, some}
 use lib.Dec.{eqb, ltb}
@@ -15,6 +15,11 @@ use Rattle.places.specs.Places.{places, name-at}
 abbrev pub found : Found → Option ℕ
 found (At p) = some p
 found Nothing = none
+
+-- a member's place as a number: 0, the whole plan, is no member
+abbrev pub numbered : ℕ → Option ℕ
+numbered zero = none
+numbered (suc n) = some (suc n)
 
 -- what was found is a place of the plan
 abbrev pub FoundIn : Bytes → Found → Type 0

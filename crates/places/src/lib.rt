@@ -14,7 +14,7 @@ ghost use Rattle.bits.specs.Packed.{bytes-at};
 ghost use Rattle.rules.specs.Order.{cmp};
 ghost use Rattle.saying.specs.Compared.{ordering, name-bytes, NameFits};
 ghost use Rattle.places.specs.Places.{start-of, places, tree-at, json-at, name-at, children, member, above, better, one-if-new, next-member};
-ghost use Rattle.places.specs.Kinds.{found, found-name, FoundIn, kind-of, kind-by, is-other, is-plain, magnitude-of, members-of, is-empty};
+ghost use Rattle.places.specs.Kinds.{found, numbered, found-name, FoundIn, kind-of, kind-by, is-other, is-plain, magnitude-of, members-of, is-empty};
 ghost use Rattle.places.specs.Accepted.{Accepted};
 ghost use Rattle.places.specs.Children.{is-object, end-at, behind, around};
 use saying::Name;
@@ -195,21 +195,32 @@ pub fn member(s: &[u8], tab: &[u64], i: usize, w: &[u8], named: Name) -> Found
     best
 }
 
-// The same for the m bytes that are packed into w from the bit place p on.
-pub fn member_packed(s: &[u8], tab: &[u64], i: usize, w: &[u8], p: usize, m: usize) -> Found
+// The same for the m bytes that are packed into w from the bit place p on, as a number: 0 for none, since place 0 is the whole plan and no member.
+pub fn member_number(s: &[u8], tab: &[u64], i: usize, w: &[u8], p: usize, m: usize) -> usize
     requires { ⌜ Accepted (now s) (now tab) × (i < places (now s)) × (p + 8 * m < 18446744073709551616) ⌝ }
-    ensures { λ r. ⌜ found r ≡ member (now (s .entry)) i (bytes-at (bits (now (w .entry))) p m) ⌝ }
+    ensures { λ r. ⌜ numbered r ≡ member (now (s .entry)) i (bytes-at (bits (now (w .entry))) p m) ⌝ }
 {
     let x = bits::field(w, p, 56);
     let e = end(s, tab, i);
     let mut c = i + 1;
-    let mut best = Found::Nothing;
+    let mut best: usize = 0;
     while c < e {
         let n = name(s, tab, c);
-        best = or(saying::says_headed(s, n, w, p, m, x), c, best);
+        best = choose(saying::says_headed(s, n, w, p, m, x), c, best);
         c = end(s, tab, c);
     }
     best
+}
+
+pub fn member_packed(s: &[u8], tab: &[u64], i: usize, w: &[u8], p: usize, m: usize) -> Found
+    requires { ⌜ Accepted (now s) (now tab) × (i < places (now s)) × (p + 8 * m < 18446744073709551616) ⌝ }
+    ensures { λ r. ⌜ found r ≡ member (now (s .entry)) i (bytes-at (bits (now (w .entry))) p m) ⌝ }
+{
+    let c = member_number(s, tab, i, w, p, m);
+    if c == 0 {
+        return Found::Nothing;
+    }
+    Found::At(c)
 }
 
 // Whether a byte of a string is one of those that stand for themselves: most do.
