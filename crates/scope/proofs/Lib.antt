@@ -1,3 +1,4 @@
 mod Heads
+mod Numbers
 mod Searching
 mod Tags

@@ -7,13 +7,15 @@ use lib.ListN.{getD}
 use Rattle.rules.specs.Bytes.{Bytes}
 use Rattle.rules.specs.Context.{get-in-block-params}
 use Rattle.value.specs.declared.Value.{Value}
+use Rattle.value.specs.Numbers.{decoded}
 use Rattle.scope.specs.declared.Param.{Param}
 use Rattle.scope.specs.declared.Param.the-variants.{Is, Nothing}
 use Rattle.scope.specs.declared.Scope.{Scope}
-use Rattle.scope.specs.Names.{first-param, param-of, own-param, ParamIs}
+use Rattle.scope.specs.Names.{first-param, param-of, own-param, ParamIs, numbered, Settled, FirstNumber}
 use Rattle.scope.specs.NamesLaws.{turn-found, turn-outer, first-found, first-outer, own-settled}
 use Rattle.scope.specs.Scopes.{blank, blocks-of}
 use Rattle.scope.specs.Standing.{ScopeStands, ScopesStand}
+use Rattle.scope.proofs.Numbers.{number-some}
 
 -- of n scopes the first i are left, and the others have no such name
 pub record Searches (b : Bytes) (ent : List ℕ) (l : List Scope) (k : Bytes) (n i : ℕ) : Type 0 where
@@ -53,6 +55,17 @@ module _ (b : Bytes) (ent : List ℕ) (l : List Scope) (k : Bytes) (n : ℕ) whe
         let d = getD l (i - 1) blank in
         search-on d refl Nothing (own-settled b ent d k 0 (λ z. absurd (omega arith)) e Nothing refl) refl
 
+    -- the same for numbers
+    module _ (d : Scope) (here : d ≡ getD l (i - 1) blank) (r : ℕ) (own : Settled b ent d k r) where
+      pub number-found : (r ≡ 0 → ⊥) → FirstNumber b ent l k n r
+      number-found ne =
+          let e = number-some r ne in
+          let f = search-found d here (numbered r) (own .is, own .means) (decoded (r - 1)) e in
+          record { is = e ∙ f .0; small = own .small; means = λ s t st. subst (λ p. ParamIs s b ent t (get-in-block-params (blocks-of s b ent l n) k) p) (sym e) (f .1 s t st) }
+
+      pub number-on : r ≡ 0 → Searches b ent l k n (i - 1)
+      number-on e = search-on d here (numbered r) (own .is, own .means) (ap numbered e)
+
   -- none is left
   pub search-end : (i : ℕ) → i ≡ 0 → Searches b ent l k n i → Found b ent l k n Nothing
   unfolding first-param
@@ -60,3 +73,6 @@ module _ (b : Bytes) (ent : List ℕ) (l : List Scope) (k : Bytes) (n : ℕ) whe
     sym (ap (first-param b ent l k) e) ∙ S .first,
     λ s t st. subst (λ o. ParamIs s b ent t o Nothing) (S .same s t st) (rw e tt),
   )
+
+  pub number-end : (i : ℕ) → i ≡ 0 → Searches b ent l k n i → FirstNumber b ent l k n 0
+  number-end i e S = let f = search-end i e S in record { is = f .0; small = omega arith; means = f .1 }

@@ -12,11 +12,12 @@ use Rattle.rules.specs.Bits.{bits}
 use Rattle.rules.specs.Bundle.{string}
 use Rattle.rules.specs.LocalVars.{get}
 use Rattle.rules.specs.Block.{BlockParamHolder, Block, get-block-param}
-use Rattle.rules.specs.Context.{ResolvedPath, absolute-path, block-param-value, from-holder}
+use Rattle.rules.specs.Context.{ResolvedPath, absolute-path, block-param-value, from-holder, get-in-block-params}
 use Rattle.layout.specs.Text.{text-at}
 use Rattle.parts.specs.Holds.{Holds, end}
 use Rattle.places.specs.Places.{path-at}
 use Rattle.value.specs.declared.Value.{Value}
+use Rattle.value.specs.Numbers.{decoded}
 use Rattle.value.specs.declared.Value.the-variants.{Missing, Null, False, True, Empty, Context, Place, Literal, Index, IndexText, Name, Text, SaidChar, PackedChar, Merged}
 use Rattle.meaning.specs.Entries.{place, hash-value}
 use Rattle.meaning.specs.Meaning.{merged-of, context-place, is-missing, json-of}
@@ -25,7 +26,7 @@ use Rattle.scope.specs.declared.Scope.{Scope}
 use Rattle.scope.specs.declared.Param.{Param}
 use Rattle.scope.specs.declared.Param.the-variants.{Is, Nothing}
 use Rattle.scope.specs.Scopes.{base-of, key-of, is-first, is-last, context-of, blocks-of, blank}
-use Rattle.scope.specs.Standing.{NamesStand}
+use Rattle.scope.specs.Standing.{NamesStand, ScopeStands, ScopesStand}
 
 -- What the code needs for looking, whatever the plan is
 
@@ -132,6 +133,24 @@ or-param Nothing r = r
 unfoldable pub first-param : Bytes → List ℕ → List Scope → Bytes → ℕ → Param
 first-param b ent l k zero = Nothing
 first-param b ent l k (suc n) = let outer = first-param b ent l k n in or-param (param-of b ent (getD l n blank) k) outer
+
+-- A value as a number: 0 for nothing, else one more than the number that it is kept as
+
+abbrev pub numbered : ℕ → Param
+numbered zero = Nothing
+numbered (suc n) = Is (decoded n)
+
+-- r is what the name k stands for in the scope c
+pub record Settled (b : Bytes) (ent : List ℕ) (c : Scope) (k : Bytes) (r : ℕ) : Type 0 where
+  pub is : numbered r ≡ param-of b ent c k
+  pub small : r ≤ 4294967296
+  pub means : (s : Bytes) → ScopeStands s b ent c → ParamIs s b ent (c .inline) (own-param s b ent c k) (numbered r)
+
+-- r is what the name k stands for in the first n scopes
+pub record FirstNumber (b : Bytes) (ent : List ℕ) (l : List Scope) (k : Bytes) (n r : ℕ) : Type 0 where
+  pub is : numbered r ≡ first-param b ent l k n
+  pub small : r ≤ 4294967296
+  pub means : (s : Bytes) (t : ℕ) → ScopesStand s b ent l n t → ParamIs s b ent t (get-in-block-params (blocks-of s b ent l n) k) (numbered r)
 
 -- the place in the list of the k-th from the newest on, or of the newest
 abbrev pub level-place : ℕ → ℕ → ℕ

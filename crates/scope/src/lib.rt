@@ -5,13 +5,15 @@ ghost use Prim.Native.Nat.{ℕ, _≤_, _<_};
 ghost use lib.ListN.{length, getD, set, replicate};
 ghost use Rattle.rules.specs.Bytes.{Bytes, same, pick};
 ghost use Rattle.rules.specs.Bits.{bits};
+ghost use Rattle.rules.specs.Layout.{field};
 ghost use Rattle.rules.specs.Bundle.{string};
 ghost use Rattle.layout.specs.Text.{text-at};
 ghost use Rattle.parts.specs.Holds.{Holds};
 ghost use Rattle.rules.specs.Context.{get-in-block-params};
 ghost use Rattle.scope.specs.Scopes.{blank, blocks-of};
 ghost use Rattle.scope.specs.Standing.{NamesStand, ScopeStands, ScopesStand};
-ghost use Rattle.scope.specs.Names.{Readable, AllReadable, HashReadable, without-path, hash-param, second-value, one-param, two-params, own-param, param-of, first-param, ParamIs, level-place, flag, local-key, local-variable, local-param, local-at, LocalIs};
+ghost use Rattle.value.specs.Numbers.{decoded};
+ghost use Rattle.scope.specs.Names.{Readable, AllReadable, HashReadable, without-path, hash-param, second-value, one-param, two-params, own-param, param-of, first-param, ParamIs, numbered, Settled, FirstNumber, level-place, flag, local-key, local-variable, local-param, local-at, LocalIs};
 ghost use Rattle.scope.specs.Words.{scopes-of, first-word, second-word, small-part, third-word};
 ghost use Rattle.scope.specs.Made.{child, with-names, with-locals, with-count, turned};
 use value::Value;
@@ -125,68 +127,141 @@ pub fn without_path(v: Value) -> Value
     }
 }
 
-// Whether the strings at the bits p and q are the same bytes. Counts and first bytes are read at once: strings that differ there are the same only where both are empty.
-fn same_name(b: &[u8], p: usize, q: usize) -> bool
-    requires { ⌜ (p ≤ 524288) × (q ≤ 524288) ⌝ }
+// Whether the strings at the bits p and q are the same bytes, where x and y are their heads: count and first byte, 24 bits, which a caller reads once for many.
+// Strings whose heads differ are the same only where both are empty.
+fn same_headed(b: &[u8], p: usize, x: u64, q: usize, y: u64) -> bool
+    requires { ⌜ (p ≤ 524288) × (q ≤ 524288) × (x ≡ field (bits (now b)) 24 p) × (y ≡ field (bits (now b)) 24 q) ⌝ }
     ensures { λ r. ⌜ r ≡ same (text-at (bits (now (b .entry))) p) (text-at (bits (now (b .entry))) q) ⌝ }
 {
-    let x = bits::field(b, p, 24);
-    let y = bits::field(b, q, 24);
     if x != y {
         return (x < 256) & (y < 256);
     }
-    let n = (x / 256) as usize;
-    bits::same_at(b, p + 16, n, q + 16, n)
+    layout::same_text(b, p, q)
 }
 
-// Among the n hash pairs from h on.
-fn hash_param(b: &[u8], ent: &[u64], h: usize, n: usize, p: usize) -> Param
-    requires { ⌜ (length (now b) ≤ 65536) × (p ≤ 524288) × HashReadable (now b) (now ent) h n ⌝ }
-    ensures { λ r. ⌜ r ≡ hash-param (now (b .entry)) (now (ent .entry)) (text-at (bits (now (b .entry))) p) h n ⌝ }
+// What a name stands for is looked for as a number: 0 for nothing, else one more than `value::encode` makes of the value. An enum would go through memory.
+
+// The number of the value n without its path.
+fn bare(n: u32) -> u32
+    ensures { λ r. ⌜ decoded r ≡ without-path (decoded n) ⌝ }
+{
+    if n % 16 == 0 {
+        return 1;
+    }
+    if n % 16 == 5 {
+        return n + 1;
+    }
+    n
+}
+
+// Among the n hash pairs from h on. The name is the string at p, and x its head.
+fn hash_number(b: &[u8], ent: &[u64], h: usize, n: usize, p: usize, x: u64) -> u64
+    requires { ⌜ (length (now b) ≤ 65536) × (p ≤ 524288) × HashReadable (now b) (now ent) h n × (x ≡ field (bits (now b)) 24 p) ⌝ }
+    ensures { λ r. ⌜ (numbered r ≡ hash-param (now (b .entry)) (now (ent .entry)) (text-at (bits (now (b .entry))) p) h n) × (r ≤ 4294967296) ⌝ }
 {
     let mut i: usize = 0;
     while i < n {
         let e = h + i;
-        if same_name(b, entries::place(ent, e), p) {
-            return Param::Is(without_path(value::decode(entries::low(ent, e))));
+        let q = entries::place(ent, e);
+        if same_headed(b, q, bits::field(b, q, 24), p, x) {
+            let low = entries::low(ent, e);
+            return 1 + (bare(low) as u64);
         }
         i += 1;
     }
-    Param::Nothing
+    0
 }
 
 // What the second name of `each` stands for.
-fn second_value(c: Scope) -> Value
-    ensures { λ r. ⌜ (r ≡ second-value c) × (c .index < 65536) ⌝ }
+fn second_number(c: Scope) -> u32
+    ensures { λ r. ⌜ (decoded r ≡ second-value c) × (c .index < 65536) ⌝ }
 {
-    let index = c.index as usize;
+    let index = c.index as u32;
     if 5 <= c.locals {
-        return without_path(value::decode(c.key));
+        return bare(c.key);
     }
-    Value::Index(index)
+    8 + 16 * index
 }
 
-fn one_param(b: &[u8], c: Scope, p: usize) -> Param
-    requires { ⌜ (p ≤ 524288) × (c .names ≤ 524288) ⌝ }
-    ensures { λ r. ⌜ r ≡ one-param (now (b .entry)) c (text-at (bits (now (b .entry))) p) ⌝ }
+fn one_number(b: &[u8], c: Scope, p: usize, x: u64) -> u64
+    requires { ⌜ (p ≤ 524288) × (c .names ≤ 524288) × (x ≡ field (bits (now b)) 24 p) ⌝ }
+    ensures { λ r. ⌜ (numbered r ≡ one-param (now (b .entry)) c (text-at (bits (now (b .entry))) p)) × (r ≤ 4294967296) ⌝ }
 {
-    if same_name(b, c.names as usize, p) {
-        return Param::Is(value::decode(c.base));
+    let base = c.base as u64;
+    let q = c.names as usize;
+    if same_headed(b, q, bits::field(b, q, 24), p, x) {
+        return 1 + base;
     }
-    Param::Nothing
+    0
 }
 
-// The second name wins.
-fn two_params(b: &[u8], c: Scope, p: usize) -> Param
-    requires { ⌜ (length (now b) ≤ 65536) × (p ≤ 524288) × NamesStand (now b) c 2 ⌝ }
-    ensures { λ r. ⌜ (r ≡ two-params (now (b .entry)) c (text-at (bits (now (b .entry))) p)) × (c .index < 65536) ⌝ }
+// The second name wins. Its place follows from the head of the first.
+fn two_number(b: &[u8], c: Scope, p: usize, x: u64) -> u64
+    requires { ⌜ (length (now b) ≤ 65536) × (p ≤ 524288) × NamesStand (now b) c 2 × (x ≡ field (bits (now b)) 24 p) ⌝ }
+    ensures { λ r. ⌜ (numbered r ≡ two-params (now (b .entry)) c (text-at (bits (now (b .entry))) p)) × (r ≤ 4294967296) × (c .index < 65536) ⌝ }
 {
-    let second = second_value(c);
-    let names = parts::skip_string(b, c.names as usize);
-    if same_name(b, names, p) {
-        return Param::Is(second);
+    let base = c.base as u64;
+    let second = second_number(c);
+    let q = c.names as usize;
+    let y = bits::field(b, q, 24);
+    let next = q + 16 + 8 * ((y / 256) as usize);
+    if same_headed(b, next, bits::field(b, next, 24), p, x) {
+        return 1 + (second as u64);
     }
-    one_param(b, c, p)
+    if same_headed(b, q, y, p, x) {
+        return 1 + base;
+    }
+    0
+}
+
+// Among the scope's own block names.
+fn own_number(b: &[u8], ent: &[u64], c: Scope, p: usize, x: u64) -> u64
+    requires { ⌜ (length (now b) ≤ 65536) × (p ≤ 524288) × Readable (now b) (now ent) c × (x ≡ field (bits (now b)) 24 p) ⌝ }
+    ensures { λ r. ⌜ Settled (now (b .entry)) (now (ent .entry)) c (text-at (bits (now (b .entry))) p) r ⌝ }
+{
+    if c.kind == 0 {
+        return 0;
+    }
+    if c.kind == 1 {
+        return one_number(b, c, p, x);
+    }
+    if c.kind == 2 {
+        return two_number(b, c, p, x);
+    }
+    let base = value::decode(c.base);
+    let Value::Merged(h, n) = base else {
+        return 0;
+    };
+    hash_number(b, ent, h, n, p, x)
+}
+
+// From the newest scope on. The name is the string at p, and x its head.
+pub fn param_number(b: &[u8], ent: &[u64], sc: &[u64], used: usize, p: usize, x: u64) -> u64
+    requires { ⌜ (length (now b) ≤ 65536) × Holds string (bits (now b)) p × (used ≤ 32) × AllReadable (now b) (now ent) (scopes-of (now sc)) used × (length (now sc) ≡ 96) × (x ≡ field (bits (now b)) 24 p) ⌝ }
+    ensures { λ r. ⌜ FirstNumber (now (b .entry)) (now (ent .entry)) (scopes-of (now (sc .entry))) (text-at (bits (now (b .entry))) p) used r ⌝ }
+{
+    let mut i = used;
+    while 0 < i {
+        i -= 1;
+        if kind_at(sc, i) != 0 {
+            let c = scope_at(sc, i);
+            let n = own_number(b, ent, c, p, x);
+            if n != 0 {
+                return n;
+            }
+        }
+    }
+    0
+}
+
+fn param_of(n: u64) -> Param
+    requires { ⌜ n ≤ 4294967296 ⌝ }
+    ensures { λ r. ⌜ r ≡ numbered n ⌝ }
+{
+    if n == 0 {
+        return Param::Nothing;
+    }
+    Param::Is(value::decode((n - 1) as u32))
 }
 
 // The value that the string at p stands for among the scope's own block names.
@@ -194,20 +269,8 @@ pub fn block_param(b: &[u8], ent: &[u64], c: Scope, p: usize) -> Param
     requires { ⌜ (length (now b) ≤ 65536) × Holds string (bits (now b)) p × Readable (now b) (now ent) c ⌝ }
     ensures { λ r. ⌜ (r ≡ param-of (now (b .entry)) (now (ent .entry)) c (text-at (bits (now (b .entry))) p)) × ((s : Bytes) → ScopeStands s (now (b .entry)) (now (ent .entry)) c → ParamIs s (now (b .entry)) (now (ent .entry)) (c .inline) (own-param s (now (b .entry)) (now (ent .entry)) c (text-at (bits (now (b .entry))) p)) r) ⌝ }
 {
-    if c.kind == 0 {
-        return Param::Nothing;
-    }
-    if c.kind == 1 {
-        return one_param(b, c, p);
-    }
-    if c.kind == 2 {
-        return two_params(b, c, p);
-    }
-    let base = value::decode(c.base);
-    let Value::Merged(h, n) = base else {
-        return Param::Nothing;
-    };
-    hash_param(b, ent, h, n, p)
+    let n = own_number(b, ent, c, p, bits::field(b, p, 24));
+    param_of(n)
 }
 
 // From the newest scope on.
@@ -215,18 +278,8 @@ pub fn get_in_block_params(b: &[u8], ent: &[u64], sc: &[u64], used: usize, p: us
     requires { ⌜ (length (now b) ≤ 65536) × Holds string (bits (now b)) p × (used ≤ 32) × AllReadable (now b) (now ent) (scopes-of (now sc)) used × (length (now sc) ≡ 96) ⌝ }
     ensures { λ r. ⌜ (r ≡ first-param (now (b .entry)) (now (ent .entry)) (scopes-of (now (sc .entry))) (text-at (bits (now (b .entry))) p) used) × ((s : Bytes) (t : ℕ) → ScopesStand s (now (b .entry)) (now (ent .entry)) (scopes-of (now (sc .entry))) used t → ParamIs s (now (b .entry)) (now (ent .entry)) t (get-in-block-params (blocks-of s (now (b .entry)) (now (ent .entry)) (scopes-of (now (sc .entry))) used) (text-at (bits (now (b .entry))) p)) r) ⌝ }
 {
-    let mut i = used;
-    while 0 < i {
-        i -= 1;
-        if kind_at(sc, i) != 0 {
-            let c = scope_at(sc, i);
-            let found = block_param(b, ent, c, p);
-            if let Param::Is(w) = found {
-                return Param::Is(w);
-            }
-        }
-    }
-    Param::Nothing
+    let n = param_number(b, ent, sc, used, p, bits::field(b, p, 24));
+    param_of(n)
 }
 
 // The k-th scope from the newest on, or the newest where there are not so many.
