@@ -4,3 +4,4 @@ pub mod Told
 pub mod Finding
 pub mod Leading
 pub mod Spelling
+mod Numbers

@@ -6,6 +6,7 @@ ghost use lib.ListN.{length, getElem?};
 ghost use Rattle.rules.specs.Bytes.{pick, maybe, same};
 ghost use Rattle.rules.specs.Json.{jstr, as-str, as-u64, get-member};
 ghost use Rattle.rules.specs.Bits.{bits};
+ghost use Rattle.rules.specs.Layout.{field};
 ghost use Rattle.rules.specs.Bundle.{string, literal};
 ghost use Rattle.rules.specs.Template.{literal-json};
 ghost use Rattle.rules.specs.Context.{parse-usize, base-map};
@@ -20,12 +21,14 @@ ghost use Rattle.places.specs.Accepted.{Accepted};
 ghost use Rattle.places.specs.Places.{places, json-at, name-at, children, member};
 ghost use Rattle.places.specs.Kinds.{found};
 ghost use Rattle.text.specs.Rest.{rest, Stands};
+ghost use Rattle.value.specs.Numbers.{decoded};
 ghost use Rattle.meaning.specs.Entries.{place};
 ghost use Rattle.meaning.specs.Meaning.{plain-json, pairs, context-place, json-of};
 ghost use Rattle.meaning.specs.Standing.{KeysStand};
 ghost use Rattle.meaning.specs.Forms.{Known};
 ghost use Rattle.lookup.specs.Answers.{Held, PlainHeld, Spells, pathless, Finds, PlainFinds, DataGot};
 ghost use Rattle.lookup.specs.Keys.{KeyFound};
+ghost use Rattle.lookup.specs.Numbers.{MemberNumber, placed-number, NumberGot};
 ghost use Rattle.lookup.specs.Places.{placed, placed-at, reached-at, list-reached, Reaches, with-path, without-path, from-member};
 use chars::Nth;
 use decimal::Parsed;
@@ -402,6 +405,45 @@ pub fn get_data(s: &[u8], tab: &[u64], b: &[u8], ent: &[u64], v: Value, q: usize
         return without_path(at);
     };
     with_path(at)
+}
+
+// The same for a value and an answer that are numbers, as `value::encode` makes them: an enum would go through memory. 0 where it is not told here,
+// 1 where there is nothing, else two more than the number of what there is.
+
+// From the place i of the plan along the string at q of m bytes: 0 where no object stands there, else one more than the member's place or 0.
+fn place_number(s: &[u8], tab: &[u64], b: &[u8], i: usize, q: usize, m: usize) -> usize
+    requires { ⌜ Accepted (now s) (now tab) × (length (now b) ≤ 65536) × (i < places (now s)) × Holds string (bits (now b)) q × (m ≡ field (bits (now b)) 16 q) ⌝ }
+    ensures { λ r. ⌜ MemberNumber (now (s .entry)) i (text-at (bits (now (b .entry))) q) r ⌝ }
+{
+    if places::is_object(s, tab, i) {
+        let c = places::member_number(s, tab, i, b, q + 16, m);
+        return c + 1;
+    }
+    0
+}
+
+// A member's place as the number of a value of that kind.
+fn placed_number(r: usize, tag: u64) -> u64
+    requires { ⌜ (r ≤ 4096) × (tag < 16) ⌝ }
+    ensures { λ n. ⌜ n ≡ placed-number r tag ⌝ }
+{
+    if r < 2 {
+        return r as u64;
+    }
+    2 + tag + 16 * ((r - 1) as u64)
+}
+
+// From the value v along the string at q of m bytes.
+pub fn get_number(s: &[u8], tab: &[u64], b: &[u8], ent: &[u64], v: u32, q: usize, m: usize) -> u64
+    requires { ⌜ Accepted (now s) (now tab) × (length (now b) ≤ 65536) × Held (now s) (now b) (now ent) (decoded v) × Holds string (bits (now b)) q × (m ≡ field (bits (now b)) 16 q) ⌝ }
+    ensures { λ r. ⌜ NumberGot (now (s .entry)) (now (b .entry)) (now (ent .entry)) (decoded v) (text-at (bits (now (b .entry))) q) r ⌝ }
+{
+    let tag = v % 16;
+    if (tag == 5) | (tag == 6) {
+        let r = place_number(s, tab, b, (v / 16) as usize, q, m);
+        return placed_number(r, tag as u64);
+    }
+    0
 }
 
 // The helper `lookup`
