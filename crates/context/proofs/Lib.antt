@@ -2,3 +2,4 @@ pub mod Walking
 mod Starting
 mod Climbing
 mod Evaluating
+mod Numbers

@@ -24,17 +24,18 @@ use Rattle.parts.specs.Says.{segment-at, segments-at, segment-says, SegmentStan
 use Rattle.places.specs.Nodes.{some-places}
 use Rattle.places.specs.Paths.{root-path, root-live}
 use Rattle.value.specs.declared.Value.{Value}
+use Rattle.value.specs.Numbers.{decoded, decoded-encoded}
 use Rattle.value.specs.declared.Value.the-variants.{Context}
 use Rattle.meaning.specs.Standing.{plain, stands-later}
 use Rattle.scope.specs.declared.Scope.{Scope}
 use Rattle.scope.specs.declared.Param.the-variants.{Is, Nothing}
 use Rattle.scope.specs.Scopes.{base-of, blocks-of, blank}
 use Rattle.scope.specs.Standing.{ScopesStand}
-use Rattle.scope.specs.Names.{resolved, ParamIs, level-place}
+use Rattle.scope.specs.Names.{resolved, ParamIs, numbered, level-place}
 use Rattle.scope.specs.NamesLaws.{or-front-is, level-within, follow-base}
 use Rattle.context.specs.declared.Start.{Start}
 use Rattle.context.proofs.Walking.{segments-on, rest-holds}
-use Rattle.context.specs.Start.{FirstIs, First, BasedAt, Based, OpensAt, Opens, Starts, NameStarts}
+use Rattle.context.specs.Start.{FirstIs, BasedAt, Based, OpensAt, Opens, Starts, NameStarts}
 
 -- The ups in front: k of them are passed
 
@@ -138,17 +139,16 @@ module _ (b : Bytes) (ent : List ℕ) (l : List Scope) (used : ℕ) where
   abbrev rest-of : Start → List PathSeg
   rest-of x = segments-at (x .left) (bits b) (x .place)
 
-  opens-based : (segs : List PathSeg) (ups : ℕ) (root : Bool) (x : Start) (from : List Block → ResolvedPath) → Holds (row seg (x .left)) (bits b) (x .place) → First (bits b) x
-      → merge-json-path segs ≡ merge-json-path (rest-of x) → (is-lone-name segs ≡ true → 0 < x .left → is-lone-name (rest-of x) ≡ true) → Based l used ups root (x .value)
+  opens-based : (segs : List PathSeg) (ups : ℕ) (root : Bool) (x : Start) (from : List Block → ResolvedPath) → Holds (row seg (x .left)) (bits b) (x .place)
+      → merge-json-path segs ≡ merge-json-path (rest-of x) → (is-lone-name segs ≡ true → 0 < x .left → is-lone-name (rest-of x) ≡ true) → Based l used ups root (decoded (x .value))
       → ((s : Bytes) (t : ℕ) → ScopesStand s b ent l used t → from (blocks-of s b ent l used) ≡ without-block-param segs ups root (blocks-of s b ent l used)) → Opens b ent l used segs from x
-  opens-based segs ups root x from H f e o B g = record {
+  opens-based segs ups root x from H e o B g = record {
     holds = H;
-    first = f;
     lone = o;
     at = λ s t st.
         let y = B s b ent t st in
         record {
-          leads = λ plan r. ap (follow plan r) (g s t st) ∙ y .leads plan r segs ∙ ap (λ (m : List Bytes). follow plan r (resolved s b ent (x .value) m)) e;
+          leads = λ plan r. ap (follow plan r) (g s t st) ∙ y .leads plan r segs ∙ ap (λ (m : List Bytes). follow plan r (resolved s b ent (decoded (x .value)) m)) e;
           stands = y .stands;
           present = y .present;
         };
@@ -157,7 +157,6 @@ module _ (b : Bytes) (ent : List ℕ) (l : List Scope) (used : ℕ) where
   opens-as : (segs : List PathSeg) (x : Start) (from to : List Block → ResolvedPath) → ((c : List Block) → to c ≡ from c) → Opens b ent l used segs from x → Opens b ent l used segs to x
   opens-as segs x from to e O = record {
     holds = O .holds;
-    first = O .first;
     lone = O .lone;
     at = λ s t st.
         let y = O .at s t st in
@@ -171,23 +170,22 @@ module _ (b : Bytes) (ent : List ℕ) (l : List Scope) (used : ℕ) where
     -- nothing is left to follow, or what stands behind the root
     plain-start : (root : Bool) (m q : ℕ) → Holds (row seg m) (bits b) q → merge-json-path (segments-at (n - k) (bits b) at) ≡ merge-json-path (segments-at m (bits b) q)
         → (is-lone-name all ≡ true → 0 < m → ⊥) → ((c : List Block) → parse-json-visitor all c ≡ without-block-param all k root c)
-        → x .place ≡ q → x .left ≡ m → x .name ≡ 0 → Based l used k root (x .value) → Starts b ent l used p n x
-    plain-start root m q H e o g f h z B =
+        → x .place ≡ q → x .left ≡ m → Based l used k root (decoded (x .value)) → Starts b ent l used p n x
+    plain-start root m q H e o g f h B =
         opens-based all k root x (parse-json-visitor all)
         (subst (λ (y : ℕ). Holds (row seg (x .left)) (bits b) y) (sym f) (subst (λ (y : ℕ). Holds (row seg y) (bits b) q) (sym h) H))
-        (λ y. absurd (y z))
         (P .merged ∙ e ∙ sym (ap₂ (λ (y w : ℕ). merge-json-path (segments-at y (bits b) w)) h f))
         (λ y lt. absurd (o y (omega arith)))
         B
         (λ s t st. g (blocks-of s b ent l used))
 
-    pub starts-end : n ≤ k → x .place ≡ at → x .left ≡ 0 → x .name ≡ 0 → Based l used k false (x .value) → Starts b ent l used p n x
+    pub starts-end : n ≤ k → x .place ≡ at → x .left ≡ 0 → Based l used k false (decoded (x .value)) → Starts b ent l used p n x
     starts-end le =
         let e : n - k ≡ 0 = omega arith in
         plain-start false 0 at (subst (λ (y : ℕ). Holds (row seg y) (bits b) at) e (P .passed .left)) (ap (λ (y : ℕ). merge-json-path (segments-at y (bits b) at)) e)
         (λ h lt. omega arith) (begin-end (bits b) p n k at P le)
 
-    pub starts-root : k < n → (next : ℕ) → SegmentStands (bits b) at (Root next) → x .place ≡ next → x .left ≡ n - k - 1 → x .name ≡ 0 → Based l used k true (x .value) → Starts b ent l used p n x
+    pub starts-root : k < n → (next : ℕ) → SegmentStands (bits b) at (Root next) → x .place ≡ next → x .left ≡ n - k - 1 → Based l used k true (decoded (x .value)) → Starts b ent l used p n x
     starts-root lt next y =
         let e = first-is (bits b) p n k at P lt path-root (y .is) in
         plain-start true (n - k - 1) next (rest-holds (bits b) at (n - k) next (omega arith) (P .passed .left) (y .next))
@@ -224,11 +222,11 @@ module _ (b : Bytes) (ent : List ℕ) (l : List Scope) (used p n ups q next : �
       ap (λ (m : List PathSeg). visit segs ups m k)
       (segments-on (bits b) p n (F .some) (F .all) ∙ ap₂ (λ (x : PathSeg) (z : ℕ). x ∷ segments-at (n - 1) (bits b) z) (F .is) (sym (F .behind)))
 
-  pub name-based : (v : Value) → Based l used ups false v
+  pub name-based : (v : ℕ) → Based l used ups false (decoded v)
       → ((s : Bytes) (t : ℕ) → ScopesStand s b ent l used t → ParamIs s b ent t (get-in-block-params (blocks-of s b ent l used) name) Nothing)
-      → NameStarts b ent l used p n ups (record { value = v; place = p; left = n; name = q; next = next })
+      → NameStarts b ent l used p n ups (record { value = v; place = p; left = n })
   name-based v B g segs e o =
-      opens-based b ent l used segs ups false (record { value = v; place = p; left = n; name = q; next = next }) (visit segs ups here) (F .all) (λ h. F) e (λ h lt. o h) B
+      opens-based b ent l used segs ups false (record { value = v; place = p; left = n }) (visit segs ups here) (F .all) e (λ h lt. o h) B
       (λ s t st. visits segs (blocks-of s b ent l used) ∙ none-found (blocks-of s b ent l used) s t (get-in-block-params (blocks-of s b ent l used) name) (g s t st))
     where
       none-found : (k : List Block) (s : Bytes) (t : ℕ) (o : Option (BlockParamHolder × List Bytes)) → ParamIs s b ent t o Nothing
@@ -236,20 +234,19 @@ module _ (b : Bytes) (ent : List ℕ) (l : List Scope) (used p n ups q next : �
       none-found k s t none y = refl
       none-found k s t (some h) y = absurd y
 
-  pub name-found : (w : Value) → ((s : Bytes) (t : ℕ) → ScopesStand s b ent l used t → ParamIs s b ent t (get-in-block-params (blocks-of s b ent l used) name) (Is w))
-      → NameStarts b ent l used p n ups (record { value = w; place = next; left = n - 1; name = 0; next = 0 })
+  pub name-found : (w : ℕ) → ((s : Bytes) (t : ℕ) → ScopesStand s b ent l used t → ParamIs s b ent t (get-in-block-params (blocks-of s b ent l used) name) (Is (decoded w)))
+      → NameStarts b ent l used p n ups (record { value = w; place = next; left = n - 1 })
   name-found w g segs e o =
       let few : is-lone-name here ≡ true → n ≡ 1 = λ h. sym (row-length seg n (bits b) p (F .all)) ∙ one-segment here h in
       record {
         holds = rest-holds (bits b) p n next (F .some) (F .all) (F .behind);
-        first = λ h. absurd (h refl);
         lone = λ h lt. let e : n ≡ 1 = few (o h) in absurd (omega arith);
         at = λ s t st. go s t (blocks-of s b ent l used) (get-in-block-params (blocks-of s b ent l used) name) (visits segs (blocks-of s b ent l used)) (g s t st);
       }
     where
       go : (s : Bytes) (t : ℕ) (k : List Block) (o : Option (BlockParamHolder × List Bytes))
           → visit segs ups here (blocks-of s b ent l used) ≡ maybe o (without-block-param segs ups false k) (λ h. from-holder (h .0) (h .1) (merge-json-path rest))
-          → ParamIs s b ent t o (Is w) → OpensAt s b ent l used t (visit segs ups here) (record { value = w; place = next; left = n - 1; name = 0; next = 0 })
+          → ParamIs s b ent t o (Is (decoded w)) → OpensAt s b ent l used t (visit segs ups here) (record { value = w; place = next; left = n - 1 })
       go s t k none v x = absurd x
       go s t k (some h) v x = record {
         leads = λ plan r. ap (follow plan r) (v ∙ x .leads (merge-json-path rest));
@@ -283,3 +280,11 @@ based-first l used ups root e =
     let f = each-true (eqb ups 0) root e in
     subst (λ (k : ℕ). Based l used k root (Context 0)) (sym (eqb-true ups 0 (f .0)))
     (subst (λ (r : Bool). Based l used 0 r (Context 0)) (sym (f .1)) (based-root l used))
+
+-- the same by numbers
+
+pub whole-plan : decoded 5 ≡ Context 0
+whole-plan = decoded-encoded (Context 0) (omega arith)
+
+pub some-number : (r : ℕ) → (r ≡ 0 → ⊥) → numbered r ≡ Is (decoded (r - 1))
+some-number r h = let f : r ≡ suc (r - 1) = omega arith in ap numbered f

@@ -195,6 +195,11 @@ module _ (s b : Bytes) (ent : List ℕ) (v : Value) (p n : ℕ) where
     walk-stop Nothing k lt S t x = (W .walks x ∙ ap from-cur (segments-on (bits b) at left lt (W .holds)) ∙ S (segments-at (left - 1) (bits b) (end seg (bits b) at)), plain refl tt)
     walk-stop BadIndex k lt S t x = W .walks x ∙ ap from-cur (segments-on (bits b) at left lt (W .holds)) ∙ S (segments-at (left - 1) (bits b) (end seg (bits b) at))
 
+    -- it leads nowhere
+    pub walk-missing : 0 < left → Stepped s b ent cur at Nothing → (t : ℕ) → is-missing v ≡ false
+        → Evaluates s b ent t (walked (path-of s v) (json-of s b ent v) (merge-json-path (segments-at n (bits b) p))) (Is Missing)
+    walk-missing lt S t x = (W .walks x ∙ ap from-cur (segments-on (bits b) at left lt (W .holds)) ∙ S (segments-at (left - 1) (bits b) (end seg (bits b) at)), plain refl tt)
+
     pub walk-done : left ≡ 0 → (t : ℕ) → Stands s b ent t v → is-missing v ≡ false
         → Evaluates s b ent t (walked (path-of s v) (json-of s b ent v) (merge-json-path (segments-at n (bits b) p))) (Is cur)
     walk-done e t st x = (

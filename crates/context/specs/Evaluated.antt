@@ -12,7 +12,7 @@ use Rattle.rules.specs.Error.{Got, got, bad, invalid-json-index}
 use Rattle.rules.specs.Value.{ScopedJson, missing}
 use Rattle.rules.specs.Context.{get-data}
 use Rattle.parts.specs.Holds.{end}
-use Rattle.parts.specs.Says.{segment-at}
+use Rattle.parts.specs.Says.{segment-at, segments-at}
 use Rattle.places.specs.Places.{path-at}
 use Rattle.value.specs.declared.Value.{Value}
 use Rattle.value.specs.declared.Value.the-variants.{Missing, Null, False, True, Empty, Context, Place, Literal, Index, IndexText, Name, Text, SaidChar, PackedChar, Merged}
@@ -32,6 +32,10 @@ path-of s v = maybe (context-place v) none (λ i. some (path-at s i))
 abbrev pub Evaluates : Bytes → Bytes → List ℕ → ℕ → Got ScopedJson → Evaluated → Type 0
 Evaluates s b ent t x (Is w) = (x ≡ got (scoped-of s b ent w)) × Stands s b ent t w
 Evaluates s b ent t x BadIndex = x ≡ bad invalid-json-index
+
+-- from v along the names among the n segments at p
+abbrev pub Walked : Bytes → Bytes → List ℕ → Value → ℕ → ℕ → Evaluated → Type 0
+Walked s b ent v p n r = (t : ℕ) → Stands s b ent t v → is-missing v ≡ false → Evaluates s b ent t (walked (path-of s v) (json-of s b ent v) (merge-json-path (segments-at n (bits b) p))) r
 
 -- a value that is not missing, with its path where that is known
 pub scoped-is : (s b : Bytes) (ent : List ℕ) (v : Value) → is-missing v ≡ false → with-path (path-of s v) (json-of s b ent v) ≡ scoped-of s b ent v

@@ -14,6 +14,7 @@ use Rattle.layout.specs.Text.{text-at}
 use Rattle.parts.specs.Holds.{Holds, end, row}
 use Rattle.parts.specs.Says.{segment-at, segments-at}
 use Rattle.value.specs.declared.Value.{Value}
+use Rattle.value.specs.Numbers.{decoded}
 use Rattle.meaning.specs.Meaning.{is-missing}
 use Rattle.meaning.specs.Standing.{Stands}
 use Rattle.scope.specs.declared.Scope.{Scope}
@@ -30,10 +31,6 @@ pub record FirstIs (b : Bits) (p n q next : ℕ) : Type 0 where
   pub is : segment-at b p ≡ named (text-at b q)
   pub behind : next ≡ end seg b p
 
--- where the first that is left is read already
-abbrev pub First : Bits → Start → Type 0
-First b x = (x .name ≡ 0 → ⊥) → FirstIs b (x .place) (x .left) (x .name) (x .next)
-
 -- without a block name a path leads where all its names lead from v
 pub record BasedAt (s b : Bytes) (ent : List ℕ) (l : List Scope) (used t ups : ℕ) (root : Bool) (v : Value) : Type 0 where
   pub leads : (plan : Json) (r : Bool) (segs : List PathSeg)
@@ -47,14 +44,13 @@ Based l used ups root v = (s b : Bytes) (ent : List ℕ) (t : ℕ) → ScopesSta
 -- what `from` makes of the open scopes leads where the segments that are left lead from the value
 pub record OpensAt (s b : Bytes) (ent : List ℕ) (l : List Scope) (used t : ℕ) (from : List Block → ResolvedPath) (x : Start) : Type 0 where
   pub leads : (plan : Json) (r : Bool)
-      → follow plan r (from (blocks-of s b ent l used)) ≡ follow plan r (resolved s b ent (x .value) (merge-json-path (segments-at (x .left) (bits b) (x .place))))
-  pub stands : Stands s b ent t (x .value)
-  pub present : is-missing (x .value) ≡ false
+      → follow plan r (from (blocks-of s b ent l used)) ≡ follow plan r (resolved s b ent (decoded (x .value)) (merge-json-path (segments-at (x .left) (bits b) (x .place))))
+  pub stands : Stands s b ent t (decoded (x .value))
+  pub present : is-missing (decoded (x .value)) ≡ false
 
 -- of a lone name all is left, or nothing
 pub record Opens (b : Bytes) (ent : List ℕ) (l : List Scope) (used : ℕ) (segs : List PathSeg) (from : List Block → ResolvedPath) (x : Start) : Type 0 where
   pub holds : Holds (row seg (x .left)) (bits b) (x .place)
-  pub first : First (bits b) x
   pub lone : is-lone-name segs ≡ true → 0 < x .left → is-lone-name (segments-at (x .left) (bits b) (x .place)) ≡ true
   pub at : (s : Bytes) (t : ℕ) → ScopesStand s b ent l used t → OpensAt s b ent l used t from x
 

@@ -18,6 +18,7 @@ ghost use Rattle.parts.specs.Holds.{Holds, row};
 ghost use Rattle.parts.specs.Says.{segments-at, path-at};
 ghost use Rattle.places.specs.Accepted.{Accepted};
 ghost use Rattle.places.specs.Places.{places, json-at, live-at, path-at as place-path};
+ghost use Rattle.value.specs.Numbers.{decoded};
 ghost use Rattle.meaning.specs.Meaning.{is-missing, json-of, scoped-of};
 ghost use Rattle.meaning.specs.Standing.{Stands};
 ghost use Rattle.scope.specs.Scopes.{blocks-of};
@@ -27,8 +28,8 @@ ghost use Rattle.scope.specs.Names.{AllReadable, local-at};
 ghost use Rattle.lookup.specs.Answers.{Held};
 ghost use Rattle.context.specs.Walk.{walked};
 ghost use Rattle.context.specs.Recursive.{looked};
-ghost use Rattle.context.specs.Evaluated.{path-of, Evaluates, present, NamedStep, Stepped, stopped};
-ghost use Rattle.context.specs.Start.{FirstIs, First, Based, NameStarts, Starts};
+ghost use Rattle.context.specs.Evaluated.{path-of, Evaluates, Walked, present, NamedStep, Stepped, stopped};
+ghost use Rattle.context.specs.Start.{FirstIs, Based, NameStarts, Starts};
 use lookup::Got;
 use parts::Path;
 use parts::Segment;
@@ -113,40 +114,36 @@ fn walk(s: &[u8], tab: &[u64], b: &[u8], ent: &[u64], v: Value, p: usize, n: usi
     Evaluated::Is(cur)
 }
 
-// Where a path starts: a value, and the segments to follow from it, so many. Where the first is a name that is read already, its string, and the place behind it.
+// Where a path starts: a value as `value::encode` makes it, and the segments to follow from it, so many.
 struct Start {
-    value: Value,
+    value: u32,
     place: usize,
     left: usize,
-    // 0 where it is not read
-    name: usize,
-    next: usize,
 }
 
 // Without a block name: from the root, or from the scope that the ups lead to.
-fn without_block_param(sc: &[u64], used: usize, ups: usize, root: bool) -> Value
+fn without_block_param(sc: &[u64], used: usize, ups: usize, root: bool) -> u32
     requires { ⌜ (0 < used) × (used ≤ 32) × (length (now sc) ≡ 96) ⌝ }
-    ensures { λ r. ⌜ Based (scopes-of (now (sc .entry))) used ups root r ⌝ }
+    ensures { λ r. ⌜ Based (scopes-of (now (sc .entry))) used ups root (decoded r) ⌝ }
 {
     if (ups == 0) & root {
-        return Value::Context(0);
+        // the whole plan
+        return 5;
     }
     let c = scope::get_or_front(sc, used, ups);
-    value::decode(c.base)
+    c.base
 }
 
 // With the n segments at p to follow.
 fn from_base(sc: &[u64], used: usize, p: usize, n: usize, ups: usize, root: bool) -> Start
     requires { ⌜ (0 < used) × (used ≤ 32) × (length (now sc) ≡ 96) ⌝ }
-    ensures { λ r. ⌜ (r .place ≡ p) × (r .left ≡ n) × (r .name ≡ 0) × Based (scopes-of (now (sc .entry))) used ups root (r .value) ⌝ }
+    ensures { λ r. ⌜ (r .place ≡ p) × (r .left ≡ n) × Based (scopes-of (now (sc .entry))) used ups root (decoded (r .value)) ⌝ }
 {
     let base = without_block_param(sc, used, ups, root);
     Start {
         value: base,
         place: p,
         left: n,
-        name: 0,
-        next: 0,
     }
 }
 
@@ -165,23 +162,19 @@ fn from_name(
     requires { ⌜ (length (now b) ≤ 65536) × (0 < used) × (used ≤ 32) × AllReadable (now b) (now ent) (scopes-of (now sc)) used × FirstIs (bits (now b)) p n q next × (length (now sc) ≡ 96) ⌝ }
     ensures { λ r. ⌜ NameStarts (now (b .entry)) (now (ent .entry)) (scopes-of (now (sc .entry))) used p n ups r ⌝ }
 {
-    let found = scope::get_in_block_params(b, ent, sc, used, q);
-    let Param::Is(w) = found else {
+    let found = scope::param_number(b, ent, sc, used, q, bits::field(b, q, 24));
+    if found == 0 {
         let base = without_block_param(sc, used, ups, false);
         return Start {
             value: base,
             place: p,
             left: n,
-            name: q,
-            next: next,
         };
-    };
+    }
     Start {
-        value: w,
+        value: (found - 1) as u32,
         place: next,
         left: n - 1,
-        name: 0,
-        next: 0,
     }
 }
 
@@ -210,25 +203,49 @@ fn begin(b: &[u8], ent: &[u64], sc: &[u64], used: usize, p: usize, n: usize) -> 
     from_base(sc, used, at, 0, ups, false)
 }
 
-// Along what is left. A first name that is read already is not read again.
-fn onward(s: &[u8], tab: &[u64], b: &[u8], ent: &[u64], from: Start) -> Evaluated
-    requires { ⌜ Accepted (now s) (now tab) × (length (now b) ≤ 65536) × Held (now s) (now b) (now ent) (from .value) × Holds (row seg (from .left)) (bits (now b)) (from .place) × First (bits (now b)) from ⌝ }
-    ensures { λ r. ⌜ ((t : ℕ) → Stands (now (s .entry)) (now (b .entry)) (now (ent .entry)) t (from .value) → is-missing (from .value) ≡ false → Evaluates (now (s .entry)) (now (b .entry)) (now (ent .entry)) t (walked (path-of (now (s .entry)) (from .value)) (json-of (now (s .entry)) (now (b .entry)) (now (ent .entry)) (from .value)) (merge-json-path (segments-at (from .left) (bits (now (b .entry))) (from .place)))) r) ⌝ }
+// The same as `walk`, with the value as `value::encode` makes it: what most paths meet needs no enum, which would go through memory.
+
+fn slowly(s: &[u8], tab: &[u64], b: &[u8], ent: &[u64], v: u32, p: usize, n: usize) -> Evaluated
+    requires { ⌜ Accepted (now s) (now tab) × (length (now b) ≤ 65536) × Held (now s) (now b) (now ent) (decoded v) × Holds (row seg n) (bits (now b)) p ⌝ }
+    ensures { λ r. ⌜ Walked (now (s .entry)) (now (b .entry)) (now (ent .entry)) (decoded v) p n r ⌝ }
 {
-    let mut cur = from.value;
-    let mut at = from.place;
-    let mut left = from.left;
-    let q = from.name;
-    if q != 0 {
-        let r = named(s, tab, b, ent, cur, q, from.next);
-        let Step::On(w, next) = r else {
-            return stopped(r);
-        };
-        cur = w;
-        at = next;
+    walk(s, tab, b, ent, value::decode(v), p, n)
+}
+
+fn present_number(n: u32) -> u32
+    ensures { λ r. ⌜ decoded r ≡ present (decoded n) ⌝ }
+{
+    if n % 16 == 0 {
+        return 1;
+    }
+    n
+}
+
+fn quickly(s: &[u8], tab: &[u64], b: &[u8], ent: &[u64], v: u32, p: usize, n: usize) -> Evaluated
+    requires { ⌜ Accepted (now s) (now tab) × (length (now b) ≤ 65536) × Held (now s) (now b) (now ent) (decoded v) × Holds (row seg n) (bits (now b)) p ⌝ }
+    ensures { λ r. ⌜ Walked (now (s .entry)) (now (b .entry)) (now (ent .entry)) (decoded v) p n r ⌝ }
+{
+    let mut cur = v;
+    let mut at = p;
+    let mut left = n;
+    while 0 < left {
+        // the kind, and the count of the string that a name is
+        let x = bits::field(b, at, 18);
+        if 65536 <= x {
+            return slowly(s, tab, b, ent, cur, at, left);
+        }
+        let r = lookup::get_number(s, tab, b, ent, cur, at + 2, x as usize);
+        if r == 0 {
+            return slowly(s, tab, b, ent, cur, at, left);
+        }
+        if r == 1 {
+            return Evaluated::Is(Value::Missing);
+        }
+        cur = present_number((r - 2) as u32);
+        at += 18 + 8 * (x as usize);
         left -= 1;
     }
-    walk(s, tab, b, ent, cur, at, left)
+    Evaluated::Is(value::decode(cur))
 }
 
 // Recursive lookup
@@ -301,7 +318,7 @@ fn navigate(
     ensures { λ r. ⌜ ((t : ℕ) → ScopesStand (now (s .entry)) (now (b .entry)) (now (ent .entry)) (scopes-of (now (sc .entry))) used t → Evaluates (now (s .entry)) (now (b .entry)) (now (ent .entry)) t (navigate (json-at (now (s .entry)) 0) (segments-at n (bits (now (b .entry))) p) (blocks-of (now (s .entry)) (now (b .entry)) (now (ent .entry)) (scopes-of (now (sc .entry))) used) recursive) r) ⌝ }
 {
     let from = begin(b, ent, sc, used, p, n);
-    let v = from.value;
+    let v = value::decode(from.value);
     if recursive {
         if is_lone_name(b, p, n) {
             if let Value::Context(i) = v {
@@ -309,7 +326,7 @@ fn navigate(
             }
         }
     }
-    onward(s, tab, b, ent, from)
+    quickly(s, tab, b, ent, from.value, from.place, from.left)
 }
 
 fn local_value(b: &[u8], sc: &[u64], used: usize, level: usize, p: usize) -> Evaluated

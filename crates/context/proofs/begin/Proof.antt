@@ -66,7 +66,7 @@ returns-2 c =
     let at = c .before .before .before .before .before .before .loop .at in
     let x = subst (SegmentStands (bits b) at) (c .before .before .segment2 .given .1) (read (c .before .before .before .before)) in
     let E = c .from-base .ensures in
-    starts-root b (c .before .before .before .before .before .before .before .before .before .before .args .ent .now) (scopes-of (c .before .before .before .before .before .before .before .before .before .before .args .sc .now)) (c .before .before .before .before .before .before .before .before .before .before .args .used) (c .before .before .before .before .before .before .before .before .before .before .args .p) (c .before .before .before .before .before .before .before .before .before .before .args .n) (c .before .before .before .before .before .before .loop .ups) at (c .before .before .before .before .before .before .loop .inv) (c .from-base .result) (omega arith) (c .before .before .segment2 .given .0 .0) x (E .0) (E .1) (E .2) (E .3)
+    starts-root b (c .before .before .before .before .before .before .before .before .before .before .args .ent .now) (scopes-of (c .before .before .before .before .before .before .before .before .before .before .args .sc .now)) (c .before .before .before .before .before .before .before .before .before .before .args .used) (c .before .before .before .before .before .before .before .before .before .before .args .p) (c .before .before .before .before .before .before .before .before .before .before .args .n) (c .before .before .before .before .before .before .loop .ups) at (c .before .before .before .before .before .before .loop .inv) (c .from-base .result) (omega arith) (c .before .before .segment2 .given .0 .0) x (E .0) (E .1) (E .2)
 
 enum-known-segment-3 : tie.Need-enum-known-segment-3 Inv-loop μ-loop
 enum-known-segment-3 c = search needs
@@ -90,7 +90,7 @@ from-base-requires-2 c κs = (c .before .before .before .before .before .pre .1,
 returns-3 : tie.Need-returns-3 Inv-loop μ-loop
 returns-3 c =
     let E = c .from-base2 .ensures in
-    starts-end (c .before .before .before .before .before .before .args .b .now) (c .before .before .before .before .before .before .args .ent .now) (scopes-of (c .before .before .before .before .before .before .args .sc .now)) (c .before .before .before .before .before .before .args .used) (c .before .before .before .before .before .before .args .p) (c .before .before .before .before .before .before .args .n) (c .before .before .loop .ups) (c .before .before .loop .at) (c .before .before .loop .inv) (c .from-base2 .result) (omega arith) (E .0) (E .1) (E .2) (E .3)
+    starts-end (c .before .before .before .before .before .before .args .b .now) (c .before .before .before .before .before .before .args .ent .now) (scopes-of (c .before .before .before .before .before .before .args .sc .now)) (c .before .before .before .before .before .before .args .used) (c .before .before .before .before .before .before .args .p) (c .before .before .before .before .before .before .args .n) (c .before .before .loop .ups) (c .before .before .loop .at) (c .before .before .loop .inv) (c .from-base2 .result) (omega arith) (E .0) (E .1) (E .2)
 
 pub begin-spec : {M : Type 1} → statement M
 begin-spec =
