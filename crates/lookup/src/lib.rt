@@ -3,7 +3,7 @@ ghost use mathlib.Core.Path.{_≡_};
 ghost use mathlib.Core.Option.{none, some};
 ghost use Prim.Native.Nat.{_+_, _*_, _≤_, _<_};
 ghost use lib.ListN.{length, getElem?};
-ghost use Rattle.rules.specs.Bytes.{pick, maybe, same};
+ghost use Rattle.rules.specs.Bytes.{Bytes, pick, maybe, same};
 ghost use Rattle.rules.specs.Json.{jstr, as-str, as-u64, get-member};
 ghost use Rattle.rules.specs.Bits.{bits};
 ghost use Rattle.rules.specs.Layout.{field};
@@ -28,7 +28,7 @@ ghost use Rattle.meaning.specs.Standing.{KeysStand};
 ghost use Rattle.meaning.specs.Forms.{Known};
 ghost use Rattle.lookup.specs.Answers.{Held, PlainHeld, Spells, pathless, Finds, PlainFinds, DataGot};
 ghost use Rattle.lookup.specs.Keys.{KeyFound};
-ghost use Rattle.lookup.specs.Numbers.{MemberNumber, placed-number, NumberGot};
+ghost use Rattle.lookup.specs.Numbers.{MemberNumber, placed-number, NumberGot, pair-at, BaseNumber, MergedNumber};
 ghost use Rattle.lookup.specs.Places.{placed, placed-at, reached-at, list-reached, Reaches, with-path, without-path, from-member};
 use chars::Nth;
 use decimal::Parsed;
@@ -433,6 +433,76 @@ fn placed_number(r: usize, tag: u64) -> u64
     2 + tag + 16 * ((r - 1) as u64)
 }
 
+// Whether the string at p is the one at q of m bytes: most keys differ in their counts.
+fn is_key(b: &[u8], p: usize, q: usize, m: usize) -> bool
+    requires { ⌜ (p ≤ 524288) × (q ≤ 524288) × (m ≡ field (bits (now b)) 16 q) ⌝ }
+    ensures { λ r. ⌜ r ≡ same (text-at (bits (now (b .entry))) p) (text-at (bits (now (b .entry))) q) ⌝ }
+{
+    let n = bits::field(b, p, 16) as usize;
+    if n != m {
+        return false;
+    }
+    layout::same_text(b, p, q)
+}
+
+// The last of the n entries from h on whose key is the string at q of m bytes: one more than its number among them, or 0.
+fn last_pair(b: &[u8], ent: &[u64], h: usize, n: usize, q: usize, m: usize) -> usize
+    requires { ⌜ (length (now b) ≤ 65536) × (2 * (h + n) ≤ length (now ent)) × KeysStand (now b) (now ent) h n × (q ≤ 524288) × (m ≡ field (bits (now b)) 16 q) ⌝ }
+    ensures { λ r. ⌜ ((s : Bytes) → KeyFound s (now (b .entry)) (now (ent .entry)) h n (find-last (pairs (now (b .entry)) (now (ent .entry)) (json-of s (now (b .entry)) (now (ent .entry))) h n) (text-at (bits (now (b .entry))) q)) (pair-at h r)) ⌝ }
+{
+    let mut k = n;
+    while 0 < k {
+        let p = entries::place(ent, h + (k - 1));
+        if is_key(b, p, q, m) {
+            return k;
+        }
+        k -= 1;
+    }
+    0
+}
+
+fn pathless_number(n: u32) -> u32
+    ensures { λ r. ⌜ decoded r ≡ pathless (decoded n) ⌝ }
+{
+    if n % 16 == 5 {
+        return n + 1;
+    }
+    n
+}
+
+// What a value that is not merged has as an object. Most often an object of the plan stands there.
+fn base_number(s: &[u8], tab: &[u64], b: &[u8], u: u32, q: usize, m: usize) -> u64
+    requires { ⌜ Accepted (now s) (now tab) × (length (now b) ≤ 65536) × PlainHeld (now s) (now b) (decoded u) × Holds string (bits (now b)) q × (m ≡ field (bits (now b)) 16 q) ⌝ }
+    ensures { λ r. ⌜ BaseNumber (now (s .entry)) (now (b .entry)) (decoded u) (text-at (bits (now (b .entry))) q) r ⌝ }
+{
+    let tag = u % 16;
+    if (tag == 5) | (tag == 6) {
+        let r = place_number(s, tab, b, (u / 16) as usize, q, m);
+        return placed_number(r, 6);
+    }
+    0
+}
+
+// What a merged object has: its own pairs come before its base.
+fn merged_number(s: &[u8], tab: &[u64], b: &[u8], ent: &[u64], v: u32, q: usize, m: usize) -> u64
+    requires { ⌜ Accepted (now s) (now tab) × (length (now b) ≤ 65536) × Held (now s) (now b) (now ent) (decoded v) × Holds string (bits (now b)) q × (m ≡ field (bits (now b)) 16 q) ⌝ }
+    ensures { λ r. ⌜ MergedNumber (now (s .entry)) (now (b .entry)) (now (ent .entry)) (decoded v) (text-at (bits (now (b .entry))) q) r ⌝ }
+{
+    let mut u = v;
+    loop {
+        let w = value::decode(u);
+        let Value::Merged(h, n) = w else {
+            return base_number(s, tab, b, u, q, m);
+        };
+        let k = last_pair(b, ent, h, n, q, m);
+        if k != 0 {
+            let low = entries::low(ent, h + (k - 1));
+            return 2 + (pathless_number(low) as u64);
+        }
+        u = entries::high(ent, h);
+    }
+}
+
 // From the value v along the string at q of m bytes.
 pub fn get_number(s: &[u8], tab: &[u64], b: &[u8], ent: &[u64], v: u32, q: usize, m: usize) -> u64
     requires { ⌜ Accepted (now s) (now tab) × (length (now b) ≤ 65536) × Held (now s) (now b) (now ent) (decoded v) × Holds string (bits (now b)) q × (m ≡ field (bits (now b)) 16 q) ⌝ }
@@ -442,6 +512,9 @@ pub fn get_number(s: &[u8], tab: &[u64], b: &[u8], ent: &[u64], v: u32, q: usize
     if (tag == 5) | (tag == 6) {
         let r = place_number(s, tab, b, (v / 16) as usize, q, m);
         return placed_number(r, tag as u64);
+    }
+    if tag == 14 {
+        return merged_number(s, tab, b, ent, v, q, m);
     }
     0
 }
