@@ -450,13 +450,13 @@ fn last_pair(b: &[u8], ent: &[u64], h: usize, n: usize, q: usize, m: usize) -> u
     requires { ⌜ (length (now b) ≤ 65536) × (2 * (h + n) ≤ length (now ent)) × KeysStand (now b) (now ent) h n × (q ≤ 524288) × (m ≡ field (bits (now b)) 16 q) ⌝ }
     ensures { λ r. ⌜ ((s : Bytes) → KeyFound s (now (b .entry)) (now (ent .entry)) h n (find-last (pairs (now (b .entry)) (now (ent .entry)) (json-of s (now (b .entry)) (now (ent .entry))) h n) (text-at (bits (now (b .entry))) q)) (pair-at h r)) ⌝ }
 {
-    let mut k = n;
-    while 0 < k {
-        let p = entries::place(ent, h + (k - 1));
+    let mut left = n;
+    while 0 < left {
+        let p = entries::place(ent, h + (left - 1));
         if is_key(b, p, q, m) {
-            return k;
+            return left;
         }
-        k -= 1;
+        left -= 1;
     }
     0
 }

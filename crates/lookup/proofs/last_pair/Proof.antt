@@ -35,17 +35,17 @@ place-requires c κs = omega (arith, c .before .before .before .before .pre .1, 
 is-key-requires : tie.Need-is-key-requires Inv-loop μ-loop
 is-key-requires c κs =
     let z = c .before .before .before .before .before in
-    (omega (arith, c .place .ensures, string-near (z .args .b .now) _ (z .pre .0) (z .pre .2 .keys (c .before .before .loop .k - 1) (omega (arith, c .before .before .loop .inv .0)))), z .pre .3, z .pre .4)
+    (omega (arith, c .place .ensures, string-near (z .args .b .now) _ (z .pre .0) (z .pre .2 .keys (c .before .before .loop .left - 1) (omega (arith, c .before .before .loop .inv .0)))), z .pre .3, z .pre .4)
 
 returns : tie.Need-returns Inv-loop μ-loop
 returns c =
     let a = c .before .before .before .before .before .before .before .args in
     λ s.
-    subst (KeyFound s (a .b .now) (a .ent .now) (a .h) (a .n) (find-last (pairs (a .b .now) (a .ent .now) (json-of s (a .b .now) (a .ent .now)) (a .h) (a .n)) (text-at (bits (a .b .now)) (a .q)))) (sym (pair-some (a .h) (c .before .before .before .before .loop .k) (c .before .before .before .loop-test .taken)))
-    (last-hit s (a .b .now) (a .ent .now) (a .h) (a .n) (text-at (bits (a .b .now)) (a .q)) _ (c .before .before .before .before .loop .k) (c .before .before .before .loop-test .taken) (c .before .before .before .before .loop .inv .1 s) (c .before .is-key .result) (c .before .is-key .ensures ∙ ap (λ (p : ℕ). same (text-at (bits (a .b .now)) p) (text-at (bits (a .b .now)) (a .q))) (c .before .before .place .ensures)) (c .before .before .before .before .loop .inv .0) (c .if1 .taken))
+    subst (KeyFound s (a .b .now) (a .ent .now) (a .h) (a .n) (find-last (pairs (a .b .now) (a .ent .now) (json-of s (a .b .now) (a .ent .now)) (a .h) (a .n)) (text-at (bits (a .b .now)) (a .q)))) (sym (pair-some (a .h) (c .before .before .before .before .loop .left) (c .before .before .before .loop-test .taken)))
+    (last-hit s (a .b .now) (a .ent .now) (a .h) (a .n) (text-at (bits (a .b .now)) (a .q)) _ (c .before .before .before .before .loop .left) (c .before .before .before .loop-test .taken) (c .before .before .before .before .loop .inv .1 s) (c .before .is-key .result) (c .before .is-key .ensures ∙ ap (λ (p : ℕ). same (text-at (bits (a .b .now)) p) (text-at (bits (a .b .now)) (a .q))) (c .before .before .place .ensures)) (c .before .before .before .before .loop .inv .0) (c .if1 .taken))
 
-sub-k : tie.Need-sub-k Inv-loop μ-loop
-sub-k c = omega arith
+sub-left : tie.Need-sub-left Inv-loop μ-loop
+sub-left c = omega arith
 
 loop-less : tie.Need-loop-less Inv-loop μ-loop
 loop-less c = omega arith
@@ -53,12 +53,12 @@ loop-less c = omega arith
 loop-again : tie.Need-loop-again Inv-loop μ-loop
 loop-again c =
     let a = c .before .before .before .before .before .before .before .args in
-    (omega (arith, c .before .before .before .before .loop .inv .0), λ s. last-miss s (a .b .now) (a .ent .now) (a .h) (a .n) (text-at (bits (a .b .now)) (a .q)) _ (c .before .before .before .before .loop .k) (c .before .before .before .loop-test .taken) (c .before .before .before .before .loop .inv .1 s) (c .before .is-key .result) (c .before .is-key .ensures ∙ ap (λ (p : ℕ). same (text-at (bits (a .b .now)) p) (text-at (bits (a .b .now)) (a .q))) (c .before .before .place .ensures)) (c .if1 .left))
+    (omega (arith, c .before .before .before .before .loop .inv .0), λ s. last-miss s (a .b .now) (a .ent .now) (a .h) (a .n) (text-at (bits (a .b .now)) (a .q)) _ (c .before .before .before .before .loop .left) (c .before .before .before .loop-test .taken) (c .before .before .before .before .loop .inv .1 s) (c .before .is-key .result) (c .before .is-key .ensures ∙ ap (λ (p : ℕ). same (text-at (bits (a .b .now)) p) (text-at (bits (a .b .now)) (a .q))) (c .before .before .place .ensures)) (c .if1 .left))
 
 returns-2 : tie.Need-returns-2 Inv-loop μ-loop
 returns-2 c =
     let a = c .before .before .before .before .args in
-    λ s. last-none s (a .b .now) (a .ent .now) (a .h) (a .n) (text-at (bits (a .b .now)) (a .q)) _ (c .before .loop .k) (λ z. omega (arith, c .loop-test .left)) (c .before .loop .inv .1 s)
+    λ s. last-none s (a .b .now) (a .ent .now) (a .h) (a .n) (text-at (bits (a .b .now)) (a .q)) _ (c .before .loop .left) (λ z. omega (arith, c .loop-test .left)) (c .before .loop .inv .1 s)
 
 pub last-pair-spec : {M : Type 1} → statement M
-last-pair-spec = tie.close (tie.spec Inv-loop μ-loop loop-holds sub-place add-place place-requires is-key-requires returns sub-k loop-less loop-again returns-2)
+last-pair-spec = tie.close (tie.spec Inv-loop μ-loop loop-holds sub-place add-place place-requires is-key-requires returns sub-left loop-less loop-again returns-2)
