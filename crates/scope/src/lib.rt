@@ -7,6 +7,7 @@ ghost use Rattle.rules.specs.Bytes.{Bytes, same, pick};
 ghost use Rattle.rules.specs.Bits.{bits};
 ghost use Rattle.rules.specs.Layout.{field};
 ghost use Rattle.rules.specs.Bundle.{string};
+ghost use Rattle.bits.specs.Packed.{number-bytes};
 ghost use Rattle.layout.specs.Text.{text-at};
 ghost use Rattle.parts.specs.Holds.{Holds};
 ghost use Rattle.rules.specs.Context.{get-in-block-params};
@@ -312,7 +313,24 @@ fn local_key(c: Scope) -> Param
     Param::Nothing
 }
 
-// The local variable of the scope that the string at p names. Its count and its first byte, read at once, leave one name at most to be compared.
+// Whether the last bytes of a number are those of t. The compiler makes one comparison of it where t is known.
+fn spells(z: u64, t: &[u8]) -> bool
+    requires { ⌜ length (now t) ≤ 8 ⌝ }
+    ensures { λ r. ⌜ r ≡ same (number-bytes (length (now (t .entry))) z) (now (t .entry)) ⌝ }
+{
+    let n = t.len();
+    let mut i: usize = 0;
+    while i < n {
+        if ((z >> (8 * (n - 1 - i))) % 256) as u8 != t[i] {
+            return false;
+        }
+        i += 1;
+    }
+    true
+}
+
+// The local variable of the scope that the string at p names. Its count and its first five bytes are read at once: count and first byte leave one name at most to
+// be compared.
 fn local_variable(b: &[u8], c: Scope, p: usize) -> Param
     requires { ⌜ p ≤ 524288 ⌝ }
     ensures { λ r. ⌜ (c .index < 65536) × (r ≡ local-variable c (text-at (bits (now (b .entry))) p)) ⌝ }
@@ -322,17 +340,18 @@ fn local_variable(b: &[u8], c: Scope, p: usize) -> Param
         return Param::Nothing;
     }
     let turn = c.locals - 1;
-    let x = bits::field(b, p, 24);
-    if x == 1382 && parts::text_is(b, p, b"first") {
+    let z = bits::field(b, p, 56);
+    let x = z / 4294967296;
+    if x == 1382 && spells(z, b"first") {
         return Param::Is(flag(turn % 2 == 1));
     }
-    if x == 1132 && parts::text_is(b, p, b"last") {
+    if x == 1132 && spells(z / 256, b"last") {
         return Param::Is(flag(turn / 2 % 2 == 1));
     }
-    if x == 1385 && parts::text_is(b, p, b"index") {
+    if x == 1385 && spells(z, b"index") {
         return Param::Is(Value::Index(index));
     }
-    if x == 875 && parts::text_is(b, p, b"key") {
+    if x == 875 && spells(z / 65536, b"key") {
         return local_key(c);
     }
     Param::Nothing
