@@ -212,6 +212,15 @@ fn slowly(s: &[u8], tab: &[u64], b: &[u8], ent: &[u64], v: u32, p: usize, n: usi
     walk(s, tab, b, ent, value::decode(v), p, n)
 }
 
+// (Where a function passes a slice to a call, the compiler stores the slice when the function begins. This one stands between, so that only the few that come here
+// pay for that.)
+fn by_enums(s: &[u8], tab: &[u64], b: &[u8], ent: &[u64], v: u32, p: usize, n: usize) -> Evaluated
+    requires { ⌜ Accepted (now s) (now tab) × (length (now b) ≤ 65536) × Held (now s) (now b) (now ent) (decoded v) × Holds (row seg n) (bits (now b)) p ⌝ }
+    ensures { λ r. ⌜ Walked (now (s .entry)) (now (b .entry)) (now (ent .entry)) (decoded v) p n r ⌝ }
+{
+    slowly(s, tab, b, ent, v, p, n)
+}
+
 fn present_number(n: u32) -> u32
     ensures { λ r. ⌜ decoded r ≡ present (decoded n) ⌝ }
 {
@@ -232,11 +241,11 @@ fn quickly(s: &[u8], tab: &[u64], b: &[u8], ent: &[u64], v: u32, p: usize, n: us
         // the kind, and the count of the string that a name is
         let x = bits::field(b, at, 18);
         if 65536 <= x {
-            return slowly(s, tab, b, ent, cur, at, left);
+            return by_enums(s, tab, b, ent, cur, at, left);
         }
         let r = lookup::get_number(s, tab, b, ent, cur, at + 2, x as usize);
         if r == 0 {
-            return slowly(s, tab, b, ent, cur, at, left);
+            return by_enums(s, tab, b, ent, cur, at, left);
         }
         if r == 1 {
             return Evaluated::Is(Value::Missing);
@@ -318,9 +327,9 @@ fn navigate(
     ensures { λ r. ⌜ ((t : ℕ) → ScopesStand (now (s .entry)) (now (b .entry)) (now (ent .entry)) (scopes-of (now (sc .entry))) used t → Evaluates (now (s .entry)) (now (b .entry)) (now (ent .entry)) t (navigate (json-at (now (s .entry)) 0) (segments-at n (bits (now (b .entry))) p) (blocks-of (now (s .entry)) (now (b .entry)) (now (ent .entry)) (scopes-of (now (sc .entry))) used) recursive) r) ⌝ }
 {
     let from = begin(b, ent, sc, used, p, n);
-    let v = value::decode(from.value);
     if recursive {
         if is_lone_name(b, p, n) {
+            let v = value::decode(from.value);
             if let Value::Context(i) = v {
                 return Evaluated::Is(alone(s, tab, b, ent, i, from.place, from.left));
             }

@@ -36,11 +36,11 @@ begin-requires c κs =
     let used = c .before .before .before .before .before .args .used in
     (c .before .before .before .before .before .pre .1, c .before .before .before .before .before .pre .2, c .before .before .before .before .before .pre .3, all-readable s b ent (scopes-of (c .before .before .before .before .before .args .sc .now)) used (c .before .before .before .before .before .pre .4 .0) (c .before .before .before .before .before .pre .4 .1), c .before .before .before .before .before .pre .5, c .before .before .before .before .before .pre .6)
 
+is-lone-name-requires : tie.Need-is-lone-name-requires
+is-lone-name-requires c κs = (c .before .before .before .before .before .before .before .pre .1, c .before .before .before .before .before .before .before .pre .5)
+
 decode-requires : tie.Need-decode-requires
 decode-requires c κs = search needs
-
-is-lone-name-requires : tie.Need-is-lone-name-requires
-is-lone-name-requires c κs = (c .before .before .before .before .before .before .before .before .pre .1, c .before .before .before .before .before .before .before .before .pre .5)
 
 enum-known-v : tie.Need-enum-known-v
 enum-known-v c = search needs
@@ -52,8 +52,8 @@ alone-requires c κs =
     let ent = c .before .before .before .before .before .before .before .before .before .before .before .before .before .args .ent .now in
     let z = c .before .before .before .before .before .before .before .before .before .before .before .before .before .pre .4 in
     let S = c .before .before .before .before .before .before .before .begin .ensures in
-    let y = stands-plain s b ent (z .0) (Context (c .before .v .given .0 .0)) refl (subst (Stands s b ent (z .0)) (sym (c .before .before .before .before .before .before .decode .ensures) ∙ c .before .v .given .1) (S .at s (z .0) (z .1) .stands)) in
-    (c .before .before .before .before .before .before .before .before .before .before .before .before .before .pre .0, c .before .before .before .before .before .before .before .before .before .before .before .before .before .pre .1, y .0, y .1, S .holds, S .lone (sym (c .before .before .before .before .is-lone-name .ensures) ∙ c .before .before .before .if2 .taken))
+    let y = stands-plain s b ent (z .0) (Context (c .before .v .given .0 .0)) refl (subst (Stands s b ent (z .0)) (sym (c .before .before .before .decode .ensures) ∙ c .before .v .given .1) (S .at s (z .0) (z .1) .stands)) in
+    (c .before .before .before .before .before .before .before .before .before .before .before .before .before .pre .0, c .before .before .before .before .before .before .before .before .before .before .before .before .before .pre .1, y .0, y .1, S .holds, S .lone (sym (c .before .before .before .before .before .is-lone-name .ensures) ∙ c .before .before .before .before .if2 .taken))
 
 returns : tie.Need-returns
 returns c =
@@ -64,48 +64,48 @@ returns c =
     let segs = segments-at (c .before .before .before .before .before .before .before .before .before .before .before .before .before .before .args .n) (bits b) (c .before .before .before .before .before .before .before .before .before .before .before .before .before .before .args .p) in
     let l = scopes-of (c .before .before .before .before .before .before .before .before .before .before .before .before .before .before .args .sc .now) in
     let from = c .before .before .before .before .before .before .before .before .begin .result in
-    let e = ap₂ (λ (x y : Bool). x && y) (c .before .before .before .before .before .before .if1 .taken) (sym (c .before .before .before .before .before .is-lone-name .ensures) ∙ c .before .before .before .before .if2 .taken) in
+    let e = ap₂ (λ (x y : Bool). x && y) (c .before .before .before .before .before .before .before .if1 .taken) (sym (c .before .before .before .before .before .before .is-lone-name .ensures) ∙ c .before .before .before .before .before .if2 .taken) in
     λ t st. (
       ap (λ (f : Bool). follow (json-at s 0) f (parse-json-visitor segs (blocks-of s b ent l used))) e
           ∙ c .before .before .before .before .before .before .before .before .begin .ensures .at s t st .leads (json-at s 0) true
-          ∙ ap (λ (w : Value). follow (json-at s 0) true (resolved s b ent w (merge-json-path (segments-at (from .left) (bits b) (from .place))))) (sym (c .before .before .before .before .before .before .before .decode .ensures) ∙ c .before .before .v .given .1)
+          ∙ ap (λ (w : Value). follow (json-at s 0) true (resolved s b ent w (merge-json-path (segments-at (from .left) (bits b) (from .place))))) (sym (c .before .before .before .before .decode .ensures) ∙ c .before .before .v .given .1)
           ∙ c .alone .ensures .0,
       c .alone .ensures .1 t,
     )
 
 quickly-requires : tie.Need-quickly-requires
 quickly-requires c κs =
-    let s = c .before .before .before .before .before .before .before .before .args .s .now in
-    let b = c .before .before .before .before .before .before .before .before .args .b .now in
-    let ent = c .before .before .before .before .before .before .before .before .args .ent .now in
-    let z = c .before .before .before .before .before .before .before .before .pre .4 in
-    let S = c .before .before .begin .ensures in
-    let h : Held s b ent (decoded (c .before .before .begin .result .value)) = record { used = z .0; room = z .1 .entries; stands = S .at s (z .0) (z .1) .stands } in
-    (c .before .before .before .before .before .before .before .before .pre .0, c .before .before .before .before .before .before .before .before .pre .1, h, S .holds)
+    let s = c .before .before .before .before .before .before .before .args .s .now in
+    let b = c .before .before .before .before .before .before .before .args .b .now in
+    let ent = c .before .before .before .before .before .before .before .args .ent .now in
+    let z = c .before .before .before .before .before .before .before .pre .4 in
+    let S = c .before .begin .ensures in
+    let h : Held s b ent (decoded (c .before .begin .result .value)) = record { used = z .0; room = z .1 .entries; stands = S .at s (z .0) (z .1) .stands } in
+    (c .before .before .before .before .before .before .before .pre .0, c .before .before .before .before .before .before .before .pre .1, h, S .holds)
 
 returns-2 : tie.Need-returns-2
 returns-2 c =
-    let s = c .before .before .before .before .before .before .before .before .before .args .s .now in
-    let tab = c .before .before .before .before .before .before .before .before .before .args .tab .now in
-    let b = c .before .before .before .before .before .before .before .before .before .args .b .now in
-    let ent = c .before .before .before .before .before .before .before .before .before .args .ent .now in
-    let used = c .before .before .before .before .before .before .before .before .before .args .used in
-    let recursive = c .before .before .before .before .before .before .before .before .before .args .recursive in
-    let segs = segments-at (c .before .before .before .before .before .before .before .before .before .args .n) (bits b) (c .before .before .before .before .before .before .before .before .before .args .p) in
-    let l = scopes-of (c .before .before .before .before .before .before .before .before .before .args .sc .now) in
-    let from = c .before .before .before .begin .result in
+    let s = c .before .before .before .before .before .before .before .before .args .s .now in
+    let tab = c .before .before .before .before .before .before .before .before .args .tab .now in
+    let b = c .before .before .before .before .before .before .before .before .args .b .now in
+    let ent = c .before .before .before .before .before .before .before .before .args .ent .now in
+    let used = c .before .before .before .before .before .before .before .before .args .used in
+    let recursive = c .before .before .before .before .before .before .before .before .args .recursive in
+    let segs = segments-at (c .before .before .before .before .before .before .before .before .args .n) (bits b) (c .before .before .before .before .before .before .before .before .args .p) in
+    let l = scopes-of (c .before .before .before .before .before .before .before .before .args .sc .now) in
+    let from = c .before .before .begin .result in
     let deep = recursive && is-lone-name segs in
     let k : deep ≡ true → context-place (decoded (from .value)) ≡ none =
     λ e.
     let each = each-true recursive (is-lone-name segs) e in
-    ⊎-elim (λ w. ap context-place (sym (c .before .before .decode .ensures)) ∙ no-context (c .before .before .decode .result) (w .3 .keys2))
+    ⊎-elim (λ w. ap context-place (sym (w .3 .ensures)) ∙ no-context (w .3 .result) (w .4 .keys2))
     (⊎-elim (λ w. differ (sym (each .1) ∙ sym (w .1 .ensures) ∙ w .2 .left)) (λ w. differ (sym (each .0) ∙ w .left)))
     (c .before .if1 .came) in
     λ t st.
-    let A = c .before .before .before .begin .ensures .at s t st in
+    let A = c .before .before .begin .ensures .at s t st in
     subst (λ (y : Got ScopedJson). Evaluates s b ent t y (c .quickly .result))
-    (sym (A .leads (json-at s 0) deep ∙ followed-either s b ent tab (c .before .before .before .before .before .before .before .before .before .pre .0) (decoded (from .value)) t (A .stands) (merge-json-path (segments-at (from .left) (bits b) (from .place))) deep k))
+    (sym (A .leads (json-at s 0) deep ∙ followed-either s b ent tab (c .before .before .before .before .before .before .before .before .pre .0) (decoded (from .value)) t (A .stands) (merge-json-path (segments-at (from .left) (bits b) (from .place))) deep k))
     (c .quickly .ensures t (A .stands) (A .present))
 
 pub navigate-spec : {M : Type 1} → statement M
-navigate-spec = tie.close (tie.spec begin-requires decode-requires is-lone-name-requires enum-known-v alone-requires returns quickly-requires returns-2)
+navigate-spec = tie.close (tie.spec begin-requires is-lone-name-requires decode-requires enum-known-v alone-requires returns quickly-requires returns-2)

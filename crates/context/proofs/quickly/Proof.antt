@@ -32,11 +32,11 @@ loop-holds c = let z = c .before .before .before .before in let a = z .args in w
 field-requires : tie.Need-field-requires Inv-loop μ-loop
 field-requires c κs = search needs
 
-slowly-requires : tie.Need-slowly-requires Inv-loop μ-loop
-slowly-requires c κs = let z = c .before .before .before .before .before .before .before .before in (z .pre .0, z .pre .1, c .before .before .before .loop .inv .held, c .before .before .before .loop .inv .holds)
+by-enums-requires : tie.Need-by-enums-requires Inv-loop μ-loop
+by-enums-requires c κs = let z = c .before .before .before .before .before .before .before .before in (z .pre .0, z .pre .1, c .before .before .before .loop .inv .held, c .before .before .before .loop .inv .holds)
 
 returns : tie.Need-returns Inv-loop μ-loop
-returns c = let a = c .before .before .before .before .before .before .before .before .before .args in walk-from (a .s .now) (a .b .now) (a .ent .now) (decoded (a .v)) (a .p) (a .n) (decoded (c .before .before .before .before .loop .cur)) (c .before .before .before .before .loop .at) (c .before .before .before .before .loop .left) (c .before .before .before .before .loop .inv) (c .slowly .result) (c .slowly .ensures)
+returns c = let a = c .before .before .before .before .before .before .before .before .before .args in walk-from (a .s .now) (a .b .now) (a .ent .now) (decoded (a .v)) (a .p) (a .n) (decoded (c .before .before .before .before .loop .cur)) (c .before .before .before .before .loop .at) (c .before .before .before .before .loop .left) (c .before .before .before .before .loop .inv) (c .by-enums .result) (c .by-enums .ensures)
 
 add-get-number : tie.Need-add-get-number Inv-loop μ-loop
 add-get-number c = let a = c .before .before .before .before .before .before .before .before .args in omega (arith, name-fits (a .b .now) (c .before .before .before .loop .at) (first (c .before)) (c .before .field .result) (c .before .field .ensures) (omega (arith, c .if1 .left)), bits-size (a .b .now), c .before .before .before .before .before .before .before .before .pre .1)
@@ -47,11 +47,11 @@ get-number-requires c κs =
     let a = z .args in
     (z .pre .0, z .pre .1, c .before .before .before .loop .inv .held, name-stands (a .b .now) (c .before .before .before .loop .at) (first (c .before)) (c .before .field .result) (c .before .field .ensures) (omega (arith, c .if1 .left)) .parts, count-is (a .b .now) (c .before .before .before .loop .at) (first (c .before)) (c .before .field .result) (c .before .field .ensures) (omega (arith, c .if1 .left)))
 
-slowly-requires-2 : tie.Need-slowly-requires-2 Inv-loop μ-loop
-slowly-requires-2 c κs = let z = c .before .before .before .before .before .before .before .before .before .before in (z .pre .0, z .pre .1, c .before .before .before .before .before .loop .inv .held, c .before .before .before .before .before .loop .inv .holds)
+by-enums-requires-2 : tie.Need-by-enums-requires-2 Inv-loop μ-loop
+by-enums-requires-2 c κs = let z = c .before .before .before .before .before .before .before .before .before .before in (z .pre .0, z .pre .1, c .before .before .before .before .before .loop .inv .held, c .before .before .before .before .before .loop .inv .holds)
 
 returns-2 : tie.Need-returns-2 Inv-loop μ-loop
-returns-2 c = let a = c .before .before .before .before .before .before .before .before .before .before .before .args in walk-from (a .s .now) (a .b .now) (a .ent .now) (decoded (a .v)) (a .p) (a .n) (decoded (c .before .before .before .before .before .before .loop .cur)) (c .before .before .before .before .before .before .loop .at) (c .before .before .before .before .before .before .loop .left) (c .before .before .before .before .before .before .loop .inv) (c .slowly2 .result) (c .slowly2 .ensures)
+returns-2 c = let a = c .before .before .before .before .before .before .before .before .before .before .before .args in walk-from (a .s .now) (a .b .now) (a .ent .now) (decoded (a .v)) (a .p) (a .n) (decoded (c .before .before .before .before .before .before .loop .cur)) (c .before .before .before .before .before .before .loop .at) (c .before .before .before .before .before .before .loop .left) (c .before .before .before .before .before .before .loop .inv) (c .by-enums2 .result) (c .by-enums2 .ensures)
 
 returns-3 : tie.Need-returns-3 Inv-loop μ-loop
 returns-3 c = let a = c .before .before .before .before .before .before .before .before .before .before .before .args in λ t st x. walk-missing (a .s .now) (a .b .now) (a .ent .now) (decoded (a .v)) (a .p) (a .n) (decoded (c .before .before .before .before .before .before .loop .cur)) (c .before .before .before .before .before .before .loop .at) (c .before .before .before .before .before .before .loop .left) (c .before .before .before .before .before .before .loop .inv) (omega (arith, c .before .before .before .before .before .loop-test .taken)) (step-missing (a .b .now) (c .before .before .before .before .before .before .loop .at) (first (c .before .before .before .before)) (c .before .before .before .before .field .result) (c .before .before .before .before .field .ensures) (omega (arith, c .before .before .before .if1 .left)) (a .s .now) (a .ent .now) (a .tab .now) (c .before .before .before .before .before .before .before .before .before .before .before .pre .0) (c .before .before .before .before .before .before .loop .cur) (c .before .before .before .before .before .before .loop .inv .held) (c .before .before .get-number .result) (c .before .before .get-number .ensures) (c .if3 .taken)) t x
@@ -95,4 +95,4 @@ returns-4 c =
     (λ t st x. walk-done (a .s .now) (a .b .now) (a .ent .now) (decoded (a .v)) (a .p) (a .n) (decoded (c .before .before .loop .cur)) (c .before .before .loop .at) (c .before .before .loop .left) (c .before .before .loop .inv) (omega (arith, c .before .loop-test .left)) t st x)
 
 pub quickly-spec : {M : Type 1} → statement M
-quickly-spec = tie.close (tie.spec Inv-loop μ-loop loop-holds field-requires slowly-requires returns add-get-number get-number-requires slowly-requires-2 returns-2 returns-3 sub-present-number cast-present-number present-number-requires mul-at add-at add-at-2 sub-left loop-less loop-again decode-requires returns-4)
+quickly-spec = tie.close (tie.spec Inv-loop μ-loop loop-holds field-requires by-enums-requires returns add-get-number get-number-requires by-enums-requires-2 returns-2 returns-3 sub-present-number cast-present-number present-number-requires mul-at add-at add-at-2 sub-left loop-less loop-again decode-requires returns-4)
