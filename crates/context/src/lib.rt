@@ -162,7 +162,7 @@ fn from_name(
     requires { ⌜ (length (now b) ≤ 65536) × (0 < used) × (used ≤ 32) × AllReadable (now b) (now ent) (scopes-of (now sc)) used × FirstIs (bits (now b)) p n q next × (length (now sc) ≡ 96) ⌝ }
     ensures { λ r. ⌜ NameStarts (now (b .entry)) (now (ent .entry)) (scopes-of (now (sc .entry))) used p n ups r ⌝ }
 {
-    let found = scope::param_number(b, ent, sc, used, q, bits::field(b, q, 24));
+    let found = scope::param_number(b, ent, sc, used, q);
     if found == 0 {
         let base = without_block_param(sc, used, ups, false);
         return Start {
@@ -171,10 +171,12 @@ fn from_name(
             left: n,
         };
     }
+    let value = (found - 1) as u32;
+    let left = n - 1;
     Start {
-        value: (found - 1) as u32,
+        value: value,
         place: next,
-        left: n - 1,
+        left: left,
     }
 }
 

@@ -14,7 +14,7 @@ ghost use Rattle.rules.specs.Context.{get-in-block-params};
 ghost use Rattle.scope.specs.Scopes.{blank, blocks-of};
 ghost use Rattle.scope.specs.Standing.{NamesStand, ScopeStands, ScopesStand};
 ghost use Rattle.value.specs.Numbers.{decoded};
-ghost use Rattle.scope.specs.Names.{Readable, AllReadable, HashReadable, without-path, hash-param, second-value, one-param, two-params, own-param, param-of, first-param, ParamIs, numbered, Settled, FirstNumber, level-place, flag, local-key, local-variable, local-param, local-at, LocalIs};
+ghost use Rattle.scope.specs.Names.{Readable, AllReadable, HashReadable, without-path, hash-param, second-value, one-param, two-params, own-param, param-of, first-param, ParamIs, spare, numbered, NoNames, Settled, FirstNumber, level-place, flag, local-key, local-variable, local-param, local-at, LocalIs};
 ghost use Rattle.scope.specs.Words.{scopes-of, first-word, second-word, small-part, third-word};
 ghost use Rattle.scope.specs.Made.{child, with-names, with-locals, with-count, turned};
 use value::Value;
@@ -128,14 +128,28 @@ pub fn without_path(v: Value) -> Value
     }
 }
 
-// Whether the strings at the bits p and q are the same bytes, where x and y are their heads: count and first byte, 24 bits, which a caller reads once for many.
-// Strings whose heads differ are the same only where both are empty.
-fn same_headed(b: &[u8], p: usize, x: u64, q: usize, y: u64) -> bool
-    requires { ⌜ (p ≤ 524288) × (q ≤ 524288) × (x ≡ field (bits (now b)) 24 p) × (y ≡ field (bits (now b)) 24 q) ⌝ }
+// The head of a string is its count and the first five bytes behind it, 56 bits, which a caller reads once for many. So many of them stand behind a string that has
+// fewer bytes.
+fn spare(y: u64) -> u64
+    ensures { λ r. ⌜ r ≡ spare y ⌝ }
+{
+    if y < 6597069766656 {
+        return 40 - 8 * (y / 1099511627776);
+    }
+    0
+}
+
+// Whether the strings at the bits p and q are the same bytes, where x and y are their heads, and k bits of y stand behind its string.
+fn same_headed(b: &[u8], p: usize, x: u64, q: usize, y: u64, k: u64) -> bool
+    requires { ⌜ (p ≤ 524288) × (q ≤ 524288) × (x ≡ field (bits (now b)) 56 p) × (y ≡ field (bits (now b)) 56 q) × (k ≡ spare y) ⌝ }
     ensures { λ r. ⌜ r ≡ same (text-at (bits (now (b .entry))) p) (text-at (bits (now (b .entry))) q) ⌝ }
 {
-    if x != y {
-        return (x < 256) & (y < 256);
+    if x >> k != y >> k {
+        return false;
+    }
+    // at most five bytes
+    if y < 6597069766656 {
+        return true;
     }
     layout::same_text(b, p, q)
 }
@@ -155,16 +169,16 @@ fn bare(n: u32) -> u32
     n
 }
 
-// Among the n hash pairs from h on. The name is the string at p, and x its head.
-fn hash_number(b: &[u8], ent: &[u64], h: usize, n: usize, p: usize, x: u64) -> u64
-    requires { ⌜ (length (now b) ≤ 65536) × (p ≤ 524288) × HashReadable (now b) (now ent) h n × (x ≡ field (bits (now b)) 24 p) ⌝ }
+// Among the n hash pairs from h on. The name is the string at p, and x its head with k bits behind it.
+fn hash_number(b: &[u8], ent: &[u64], h: usize, n: usize, p: usize, x: u64, k: u64) -> u64
+    requires { ⌜ (length (now b) ≤ 65536) × (p ≤ 524288) × HashReadable (now b) (now ent) h n × (x ≡ field (bits (now b)) 56 p) × (k ≡ spare x) ⌝ }
     ensures { λ r. ⌜ (numbered r ≡ hash-param (now (b .entry)) (now (ent .entry)) (text-at (bits (now (b .entry))) p) h n) × (r ≤ 4294967296) ⌝ }
 {
     let mut i: usize = 0;
     while i < n {
         let e = h + i;
         let q = entries::place(ent, e);
-        if same_headed(b, q, bits::field(b, q, 24), p, x) {
+        if same_headed(b, q, bits::field(b, q, 56), p, x, k) {
             let low = entries::low(ent, e);
             return 1 + (bare(low) as u64);
         }
@@ -184,75 +198,104 @@ fn second_number(c: Scope) -> u32
     8 + 16 * index
 }
 
-fn one_number(b: &[u8], c: Scope, p: usize, x: u64) -> u64
-    requires { ⌜ (p ≤ 524288) × (c .names ≤ 524288) × (x ≡ field (bits (now b)) 24 p) ⌝ }
+fn one_number(b: &[u8], c: Scope, p: usize, x: u64, k: u64) -> u64
+    requires { ⌜ (p ≤ 524288) × (c .names ≤ 524288) × (x ≡ field (bits (now b)) 56 p) × (k ≡ spare x) ⌝ }
     ensures { λ r. ⌜ (numbered r ≡ one-param (now (b .entry)) c (text-at (bits (now (b .entry))) p)) × (r ≤ 4294967296) ⌝ }
 {
     let base = c.base as u64;
     let q = c.names as usize;
-    if same_headed(b, q, bits::field(b, q, 24), p, x) {
+    if same_headed(b, q, bits::field(b, q, 56), p, x, k) {
         return 1 + base;
     }
     0
 }
 
 // The second name wins. Its place follows from the head of the first.
-fn two_number(b: &[u8], c: Scope, p: usize, x: u64) -> u64
-    requires { ⌜ (length (now b) ≤ 65536) × (p ≤ 524288) × NamesStand (now b) c 2 × (x ≡ field (bits (now b)) 24 p) ⌝ }
+fn two_number(b: &[u8], c: Scope, p: usize, x: u64, k: u64) -> u64
+    requires { ⌜ (length (now b) ≤ 65536) × (p ≤ 524288) × NamesStand (now b) c 2 × (x ≡ field (bits (now b)) 56 p) × (k ≡ spare x) ⌝ }
     ensures { λ r. ⌜ (numbered r ≡ two-params (now (b .entry)) c (text-at (bits (now (b .entry))) p)) × (r ≤ 4294967296) × (c .index < 65536) ⌝ }
 {
     let base = c.base as u64;
     let second = second_number(c);
     let q = c.names as usize;
-    let y = bits::field(b, q, 24);
-    let next = q + 16 + 8 * ((y / 256) as usize);
-    if same_headed(b, next, bits::field(b, next, 24), p, x) {
+    let y = bits::field(b, q, 56);
+    let next = q + 16 + 8 * ((y / 1099511627776) as usize);
+    if same_headed(b, next, bits::field(b, next, 56), p, x, k) {
         return 1 + (second as u64);
     }
-    if same_headed(b, q, y, p, x) {
+    if same_headed(b, q, y, p, x, k) {
         return 1 + base;
     }
     0
 }
 
 // Among the scope's own block names.
-fn own_number(b: &[u8], ent: &[u64], c: Scope, p: usize, x: u64) -> u64
-    requires { ⌜ (length (now b) ≤ 65536) × (p ≤ 524288) × Readable (now b) (now ent) c × (x ≡ field (bits (now b)) 24 p) ⌝ }
+fn own_number(b: &[u8], ent: &[u64], c: Scope, p: usize, x: u64, k: u64) -> u64
+    requires { ⌜ (length (now b) ≤ 65536) × (p ≤ 524288) × Readable (now b) (now ent) c × (x ≡ field (bits (now b)) 56 p) × (k ≡ spare x) ⌝ }
     ensures { λ r. ⌜ Settled (now (b .entry)) (now (ent .entry)) c (text-at (bits (now (b .entry))) p) r ⌝ }
 {
     if c.kind == 0 {
         return 0;
     }
     if c.kind == 1 {
-        return one_number(b, c, p, x);
+        return one_number(b, c, p, x, k);
     }
     if c.kind == 2 {
-        return two_number(b, c, p, x);
+        return two_number(b, c, p, x, k);
     }
     let base = value::decode(c.base);
     let Value::Merged(h, n) = base else {
         return 0;
     };
-    hash_number(b, ent, h, n, p, x)
+    hash_number(b, ent, h, n, p, x, k)
 }
 
-// From the newest scope on. The name is the string at p, and x its head.
-pub fn param_number(b: &[u8], ent: &[u64], sc: &[u64], used: usize, p: usize, x: u64) -> u64
-    requires { ⌜ (length (now b) ≤ 65536) × Holds string (bits (now b)) p × (used ≤ 32) × AllReadable (now b) (now ent) (scopes-of (now sc)) used × (length (now sc) ≡ 96) × (x ≡ field (bits (now b)) 24 p) ⌝ }
+// How many scopes are left, from the newest one on that has names: most paths of some sheets meet none.
+fn named_scope(sc: &[u64], used: usize) -> usize
+    requires { ⌜ (used ≤ 32) × (length (now sc) ≡ 96) ⌝ }
+    ensures { λ r. ⌜ NoNames (scopes-of (now (sc .entry))) used r ⌝ }
+{
+    let mut left = used;
+    while 0 < left {
+        if kind_at(sc, left - 1) != 0 {
+            return left;
+        }
+        left -= 1;
+    }
+    0
+}
+
+// In the first scopes, so many, where the others have no names.
+fn search_number(b: &[u8], ent: &[u64], sc: &[u64], used: usize, first: usize, p: usize) -> u64
+    requires { ⌜ (length (now b) ≤ 65536) × Holds string (bits (now b)) p × (used ≤ 32) × AllReadable (now b) (now ent) (scopes-of (now sc)) used × (length (now sc) ≡ 96) × NoNames (scopes-of (now sc)) used first ⌝ }
     ensures { λ r. ⌜ FirstNumber (now (b .entry)) (now (ent .entry)) (scopes-of (now (sc .entry))) (text-at (bits (now (b .entry))) p) used r ⌝ }
 {
-    let mut i = used;
+    let x = bits::field(b, p, 56);
+    let k = spare(x);
+    let mut i = first;
     while 0 < i {
         i -= 1;
         if kind_at(sc, i) != 0 {
             let c = scope_at(sc, i);
-            let n = own_number(b, ent, c, p, x);
+            let n = own_number(b, ent, c, p, x, k);
             if n != 0 {
                 return n;
             }
         }
     }
     0
+}
+
+// From the newest scope on.
+pub fn param_number(b: &[u8], ent: &[u64], sc: &[u64], used: usize, p: usize) -> u64
+    requires { ⌜ (length (now b) ≤ 65536) × Holds string (bits (now b)) p × (used ≤ 32) × AllReadable (now b) (now ent) (scopes-of (now sc)) used × (length (now sc) ≡ 96) ⌝ }
+    ensures { λ r. ⌜ FirstNumber (now (b .entry)) (now (ent .entry)) (scopes-of (now (sc .entry))) (text-at (bits (now (b .entry))) p) used r ⌝ }
+{
+    let first = named_scope(sc, used);
+    if first == 0 {
+        return 0;
+    }
+    search_number(b, ent, sc, used, first, p)
 }
 
 fn param_of(n: u64) -> Param
@@ -270,7 +313,8 @@ pub fn block_param(b: &[u8], ent: &[u64], c: Scope, p: usize) -> Param
     requires { ⌜ (length (now b) ≤ 65536) × Holds string (bits (now b)) p × Readable (now b) (now ent) c ⌝ }
     ensures { λ r. ⌜ (r ≡ param-of (now (b .entry)) (now (ent .entry)) c (text-at (bits (now (b .entry))) p)) × ((s : Bytes) → ScopeStands s (now (b .entry)) (now (ent .entry)) c → ParamIs s (now (b .entry)) (now (ent .entry)) (c .inline) (own-param s (now (b .entry)) (now (ent .entry)) c (text-at (bits (now (b .entry))) p)) r) ⌝ }
 {
-    let n = own_number(b, ent, c, p, bits::field(b, p, 24));
+    let x = bits::field(b, p, 56);
+    let n = own_number(b, ent, c, p, x, spare(x));
     param_of(n)
 }
 
@@ -279,7 +323,7 @@ pub fn get_in_block_params(b: &[u8], ent: &[u64], sc: &[u64], used: usize, p: us
     requires { ⌜ (length (now b) ≤ 65536) × Holds string (bits (now b)) p × (used ≤ 32) × AllReadable (now b) (now ent) (scopes-of (now sc)) used × (length (now sc) ≡ 96) ⌝ }
     ensures { λ r. ⌜ (r ≡ first-param (now (b .entry)) (now (ent .entry)) (scopes-of (now (sc .entry))) (text-at (bits (now (b .entry))) p) used) × ((s : Bytes) (t : ℕ) → ScopesStand s (now (b .entry)) (now (ent .entry)) (scopes-of (now (sc .entry))) used t → ParamIs s (now (b .entry)) (now (ent .entry)) t (get-in-block-params (blocks-of s (now (b .entry)) (now (ent .entry)) (scopes-of (now (sc .entry))) used) (text-at (bits (now (b .entry))) p)) r) ⌝ }
 {
-    let n = param_number(b, ent, sc, used, p, bits::field(b, p, 24));
+    let n = param_number(b, ent, sc, used, p);
     param_of(n)
 }
 

@@ -11,24 +11,21 @@ use borrow.Author.Needs.{needs}
 use Rattle.scope.proofs.get_in_block_params.Statement.{statement}
 use Rattle.scope.proofs.get_in_block_params.Tie as tie
 
-field-requires : tie.Need-field-requires
-field-requires c κs = search needs
-
 param-number-requires : tie.Need-param-number-requires
 param-number-requires c κs =
-    let z = c .before .before .before .before in
-    (z .pre .0, z .pre .1, z .pre .2, z .pre .3, z .pre .4, c .field .ensures)
+    let z = c .before .before .before in
+    (z .pre .0, z .pre .1, z .pre .2, z .pre .3, z .pre .4)
 
 param-of-requires : tie.Need-param-of-requires
 param-of-requires c κs = c .param-number .ensures .small
 
 returns : tie.Need-returns
 returns c =
-    let a = c .before .before .before .before .before .before .args in
+    let a = c .before .before .before .before .before .args in
     let n = c .before .param-number .ensures in (
       c .param-of .ensures ∙ n .is,
       λ s t st. subst (λ (r : Param). ParamIs s (a .b .now) (a .ent .now) t (get-in-block-params (blocks-of s (a .b .now) (a .ent .now) (scopes-of (a .sc .now)) (a .used)) (text-at (bits (a .b .now)) (a .p))) r) (sym (c .param-of .ensures)) (n .means s t st),
     )
 
 pub get-in-block-params-spec : {M : Type 1} → statement M
-get-in-block-params-spec = tie.close (tie.spec field-requires param-number-requires param-of-requires returns)
+get-in-block-params-spec = tie.close (tie.spec param-number-requires param-of-requires returns)
