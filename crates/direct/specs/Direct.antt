@@ -1,50 +1,59 @@
 -- When a text is stored at once, and the writer behind it.
-use Prim.Native.Nat.{ℕ, zero, suc, _+_, _-_, _≤_, _<_}
+use Prim.Native.Nat.{ℕ, zero, suc, _+_, _-_, _*_, _/_, _%_, _^_, _≤_, _<_}
 use mathlib.Core.Bool.{Bool, true, false, _&&_, not}
-use mathlib.Core.List.{[], _∷_}
+use mathlib.Core.List.{[], _∷_, _++_}
+use mathlib.Core.Option.{none, some}
 use mathlib.Core.Path.{_≡_, refl, sym, ap, _∙_}
+use native.Mathlib.Nat.{add-zero}
 use native.Mathlib.Omega.{arith}
-use borrow.Author.Tests.{eqb-false, ltb-false, leb-true}
+use borrow.Author.Tests.{eqb-false, leb-true, not-true}
 use lib.Dec.{eqb, ltb, leb}
 use lib.ListN.{length, getD, take}
-use lib.Seq.{sets}
+use lib.Seq.{sets, getD-take, length-take-le}
 use Rattle.rules.specs.Bytes.{Bytes, pick}
 use Rattle.rules.specs.Order.{differ}
+use Rattle.rules.specs.Bits.{Bits}
+use Rattle.rules.specs.Layout.{field}
+use Rattle.rules.specs.LayoutLaws.{Binary}
 use Rattle.rules.specs.Support.{newline-matcher}
+use Rattle.rules.specs.Output.{indent-or-empty, indented}
+use Rattle.bits.specs.Packed.{bytes-at, number-bytes, number-packed}
 use Rattle.output.specs.declared.Writer.{Writer}
-use Rattle.output.specs.Writer.{Output, output, over, advanced, stored, room, place-of, limit-of, all-put}
-use Rattle.output.proofs.Written.{all-put-fits}
-use Rattle.support.specs.Feed.{begun, penned, marked, finished, due, wants-indent, indent-before, all-emitted}
+use Rattle.output.specs.Writer.{Output, output, over, advanced, filled, stored, room, place-of, limit-of, all-put, wrote}
+use Rattle.output.specs.Outputs.{indent-of}
+use Rattle.output.proofs.Steps.{all-put-append}
+use Rattle.output.proofs.Written.{all-put-is, all-put-fits}
+use Rattle.output.proofs.Packed.{take-packed}
+use Rattle.support.specs.Feed.{begun, penned, marked, finished, due, wants-indent, indent-before, all-emitted, fed-text}
 use Rattle.support.specs.Runs.{calm}
 use Rattle.support.proofs.Runs.{run-whole}
+use Rattle.support.proofs.Fed.{after-text, fed-is}
 
--- on the page, with no indent in front, and there is room
+-- a text that is begun, fed and finished; i is the buffer of which the indent is a prefix
+abbrev pub written-text : Bytes → Bytes → Output → Output
+written-text i v o = over finished (all-emitted i v (over begun o))
+
+-- no indent in front, and there is room
 abbrev pub takes : Writer → ℕ → ℕ → Bool
-takes w len n = pick (w .«block_text») false (pick (w .«has_indent» && w .«indent_before_write») false (pick (eqb n 0) false (pick (ltb len n) false (leb (w .written) (len - n)))))
+takes w len n = pick (w .«has_indent» && w .«indent_before_write») false (pick (eqb n 0) false (leb n (limit-of w len - place-of w)))
 
 -- behind a text of n bytes whose last one is c
 abbrev pub behind : ℕ → ℕ → Writer → Writer
-behind n c w = record { written = w .written + n; low = w .low; high = w .high; indent = w .indent; pen = suc c; «has_indent» = w .«has_indent»; «block_text» = w .«block_text»; full = w .full; «trailing_newline» = newline-matcher c; «content_produced» = true; «indent_before_write» = newline-matcher c }
+behind n c w = marked (newline-matcher c) (penned c (advanced n w))
 
 pub record Taken (w : Writer) (len n : ℕ) : Type 0 where
-  pub page : w .«block_text» ≡ false
   pub flush : (w .«has_indent» && w .«indent_before_write») ≡ false
   pub some : n ≡ 0 → ⊥
-  pub fits : w .written + n ≤ len
+  pub fits : n ≤ limit-of w len - place-of w
 
 pub taken : (w : Writer) (len n : ℕ) → takes w len n ≡ true → Taken w len n
-taken w len n = by (w .«block_text») (w .«has_indent» && w .«indent_before_write») (eqb n 0) (ltb len n) refl refl refl refl
+taken w len n = by (w .«has_indent» && w .«indent_before_write») (eqb n 0) refl refl
   where
-    by : (x y z u : Bool) → w .«block_text» ≡ x → (w .«has_indent» && w .«indent_before_write») ≡ y → eqb n 0 ≡ z → ltb len n ≡ u
-        → pick x false (pick y false (pick z false (pick u false (leb (w .written) (len - n))))) ≡ true → Taken w len n
-    by true y z u p q r s h = differ (sym h)
-    by false true z u p q r s h = differ (sym h)
-    by false false true u p q r s h = differ (sym h)
-    by false false false true p q r s h = differ (sym h)
-    by false false false false p q r s h =
-        let le = leb-true (w .written) (len - n) h in
-        let more = ltb-false len n s in
-        record { page = p; flush = q; some = eqb-false n 0 r; fits = omega arith }
+    by : (y z : Bool) → (w .«has_indent» && w .«indent_before_write») ≡ y → eqb n 0 ≡ z
+        → pick y false (pick z false (leb n (limit-of w len - place-of w))) ≡ true → Taken w len n
+    by true z q r h = differ (sym h)
+    by false true q r h = differ (sym h)
+    by false false q r h = record { flush = q; some = eqb-false n 0 r; fits = leb-true n (limit-of w len - place-of w) h }
 
 all-put-nil : (v : Bytes) (o : Output) → all-put v (all-put [] o) ≡ all-put v o
 unfolding all-put
@@ -62,14 +71,96 @@ no-indent i c w h = by (w .«has_indent») (w .«indent_before_write») (newline
 
 -- storing v at once is what beginning, feeding and finishing make of it
 pub stored-whole : (i v out : Bytes) (w : Writer) → takes w (length out) (length v) ≡ true → calm (w .«has_indent») v ≡ true
-    → output (behind (length v) (getD v (length v - 1) 0) w) (sets out (w .written) v) ≡ over finished (all-emitted i v (over begun (output w out)))
+    → output (behind (length v) (getD v (length v - 1) 0) w) (sets out (place-of w) v) ≡ written-text i v (output w out)
 stored-whole i v out w h k =
     let t = taken w (length out) (length v) h in
     let o : Output = over begun (output w out) in
     let c = getD v (length v - 1) 0 in
-    let fits : length v ≤ room o = rw (t .page) (let e = t .fits in omega arith) in
     let puts : all-put v (all-put (indent-before i (getD v 0 0) (begun w)) o) ≡ stored v o =
-    ap (λ (x : Bytes). all-put v (all-put x o)) (no-indent i (getD v 0 0) w (t .flush)) ∙ all-put-nil v o ∙ all-put-fits v o fits in
+    ap (λ (x : Bytes). all-put v (all-put x o)) (no-indent i (getD v 0 0) w (t .flush)) ∙ all-put-nil v o ∙ all-put-fits v o (t .fits) in
     let feeds : all-emitted i v o ≡ over (penned c) (stored v o) = run-whole i v o (t .some) k ∙ ap (over (penned c)) puts in
-    let ends : output (behind (length v) c w) (sets out (w .written) v) ≡ over finished (over (penned c) (stored v o)) = rw (t .page) refl in
-    ends ∙ ap (over finished) (sym feeds)
+    ap (over finished) (sym feeds)
+
+-- The indent in front
+
+pub bytes-first : (b : Bits) (p n : ℕ) → (n ≡ 0 → ⊥) → bytes-at b p n ≡ field b 8 p ∷ bytes-at b (p + 8) (n - 1)
+unfolding bytes-at
+bytes-first b p zero h = absurd (h refl)
+bytes-first b p (suc n) h = let e : n ≡ suc n - 1 = omega arith in ap (λ (m : ℕ). field b 8 p ∷ bytes-at b (p + 8) m) e
+
+-- whether one comes in front of a text that begins with c
+abbrev pub leads : ℕ → Writer → Bool
+leads c w = pick (w .«has_indent» && w .«indent_before_write») (not (newline-matcher c)) false
+
+-- none is due any more
+abbrev pub cleared : Writer → Writer
+cleared w = record { written = w .written; low = w .low; high = w .high; indent = w .indent; pen = w .pen; «has_indent» = w .«has_indent»; «block_text» = w .«block_text»; full = w .full; «trailing_newline» = w .«trailing_newline»; «content_produced» = w .«content_produced»; «indent_before_write» = false }
+
+cleared-by : (b : Bool) (x y : Output) → pick b (over cleared x) (over cleared y) ≡ over cleared (pick b x y)
+cleared-by true x y = refl
+cleared-by false x y = refl
+
+-- a plain write does not ask
+all-put-cleared : (v : Bytes) (o : Output) → all-put v (over cleared o) ≡ over cleared (all-put v o)
+all-put-cleared v o =
+    all-put-is v (over cleared o) ∙ cleared-by (ltb (room o) (length v)) (over filled (stored (take (room o) v) o)) (stored v o) ∙ ap (over cleared) (sym (all-put-is v o))
+
+-- the marks are set anew where a text ends
+after-cleared : (c : ℕ) (v : Bytes) (o : Output) → over (after-text (c ∷ v)) (over cleared o) ≡ over (after-text (c ∷ v)) o
+unfolding after-text
+after-cleared c v o = refl
+
+-- the text with the indent in front
+text-led : (i v : Bytes) (c : ℕ) (w : Writer) → leads c w ≡ true → fed-text i w (c ∷ v) ≡ take (w .indent) i ++ fed-text i (cleared w) (c ∷ v)
+text-led i v c w = by (w .«has_indent») (w .«indent_before_write») (newline-matcher c)
+  where
+    by : (x y z : Bool) → pick (x && y) (not z) false ≡ true
+        → pick (not z && y) (indent-or-empty (pick x (some (take (w .indent) i)) none)) [] ++ indented (pick x (some (take (w .indent) i)) none) (c ∷ v)
+        ≡ take (w .indent) i ++ (pick (not z && false) (indent-or-empty (pick x (some (take (w .indent) i)) none)) [] ++ indented (pick x (some (take (w .indent) i)) none) (c ∷ v))
+    by true true true h = differ (sym h)
+    by true true false h = refl
+    by true false z h = differ (sym h)
+    by false y z h = differ (sym h)
+
+-- THE LAW: the indent stored first, and then the text
+pub led-whole : (i v out : Bytes) (c : ℕ) (w : Writer) → leads c w ≡ true → length (take (w .indent) i) ≤ room (output w out)
+    → written-text i (c ∷ v) (output (cleared (advanced (length (take (w .indent) i)) w)) (sets out (place-of w) (take (w .indent) i))) ≡ written-text i (c ∷ v) (output w out)
+led-whole i v out c w h k =
+    let t = take (w .indent) i in
+    let o : Output = output w out in
+    let rest = fed-text i (cleared w) (c ∷ v) in
+    let a = after-text (c ∷ v) in
+    fed-is i (c ∷ v) (over cleared (stored t o))
+    ∙ ap (over a) (all-put-cleared rest (stored t o))
+    ∙ after-cleared c v (all-put rest (stored t o))
+    ∙ ap (λ (x : Output). over a (all-put rest x)) (sym (all-put-fits t o k))
+    ∙ ap (over a) (sym (all-put-append t rest o) ∙ ap (λ (x : Bytes). all-put x o) (sym (text-led i v c w h)))
+    ∙ sym (fed-is i (c ∷ v) o)
+
+-- A short text: the first n bytes of the seven of a word
+
+abbrev pub short-bytes : ℕ → ℕ → Bytes
+short-bytes n x = take n (number-bytes 7 x)
+
+-- the byte j
+pub short-get : (x j : ℕ) → j < 7 → x / 2 ^ (48 - 8 * j) % 256 ≡ getD (number-bytes 7 x) j 0
+unfolding number-bytes
+short-get x zero h = refl
+short-get x (suc zero) h = refl
+short-get x (suc (suc zero)) h = refl
+short-get x (suc (suc (suc zero))) h = refl
+short-get x (suc (suc (suc (suc zero)))) h = refl
+short-get x (suc (suc (suc (suc (suc zero))))) h = refl
+short-get x (suc (suc (suc (suc (suc (suc zero)))))) h = refl
+short-get x (suc (suc (suc (suc (suc (suc (suc j))))))) h = absurd (omega arith)
+
+pub word-length : (x : ℕ) → length (number-bytes 7 x) ≡ 7
+unfolding number-bytes
+word-length x = refl
+
+pub short-length : (n x : ℕ) → n ≤ 7 → length (short-bytes n x) ≡ n
+short-length n x h = length-take-le n (number-bytes 7 x) (rw word-length h)
+
+-- the field of a packed string
+pub short-packed : (b : Bits) (bin : Binary b) (p n x : ℕ) → n ≤ 7 → x ≡ field b 56 p → short-bytes n x ≡ bytes-at b p n
+short-packed b bin p n x h e = ap (take n) (number-packed b bin 7 0 p x e ∙ ap (λ (q : ℕ). bytes-at b q 7) (add-zero p)) ∙ take-packed b p 7 n h

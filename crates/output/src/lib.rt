@@ -61,7 +61,7 @@ fn either(first: bool, a: usize, b: usize) -> usize
 }
 
 // The place of the next byte. (A choice between two fields where they lie in memory would keep the whole writer there.)
-fn place(w: Writer) -> usize
+pub fn place(w: Writer) -> usize
     ensures { λ r. ⌜ r ≡ place-of w ⌝ }
 {
     either(w.block_text, w.low, w.written)
@@ -78,7 +78,7 @@ fn limit(w: Writer, n: usize) -> usize
 }
 
 // The bytes that may still be taken, in a buffer of n bytes.
-fn room(w: Writer, n: usize) -> usize
+pub fn room(w: Writer, n: usize) -> usize
     ensures { λ r. ⌜ r ≡ limit-of w n - place-of w ⌝ }
 {
     let at = place(w);
@@ -89,7 +89,8 @@ fn room(w: Writer, n: usize) -> usize
     0
 }
 
-fn advance(w: Writer, n: usize) -> Writer
+// n bytes more of the output in force are taken.
+pub fn advance(w: Writer, n: usize) -> Writer
     requires { ⌜ place-of w + n < 2 ^ 64 ⌝ }
     ensures { λ r. ⌜ r ≡ advanced n w ⌝ }
 {

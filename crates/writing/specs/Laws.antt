@@ -10,6 +10,7 @@ use lib.ListN.{length, getD, take, drop, length-append, length-drop}
 use lib.Seq.{slice, length-slice, length-sets, drop-drop}
 use Rattle.rules.specs.Bytes.{Bytes, pick}
 use Rattle.rules.specs.Error.{number}
+use Rattle.rules.specs.Json.{Json, jpos}
 use Rattle.rules.specs.State as rules
 use Rattle.rules.specs.State.{Out, entries, Res, ok, fail, choose}
 use Rattle.rules.specs.Support.{escape-html}
@@ -21,6 +22,10 @@ use Rattle.output.specs.Outputs.{Outputs, outputs, in-force, on, out-of, indent
 use Rattle.output.proofs.Agree.{write-is, write-grown}
 use Rattle.support.specs.Feed.{begun, finished, all-emitted, escaped, fed-text, fed}
 use Rattle.support.proofs.Agree.{fed-outputs, indent-aware-write-is, fed-grown}
+use Rattle.value.specs.declared.Value.{Value}
+use Rattle.value.specs.declared.Value.the-variants.{Index}
+use Rattle.meaning.specs.MeaningLaws.{plain-is}
+use Rattle.meaning.specs.Means.{Means}
 use Rattle.scope.specs.declared.Scope.{Scope}
 use Rattle.scope.specs.Scopes.{blank}
 use Rattle.state.specs.Context.{RenderContext}
@@ -243,3 +248,7 @@ pub wrote-fed : (c r : RenderContext) (w q u : Writer) (i v p t p′ t′ : Byte
 wrote-fed c r w q u i v p t p′ t′ begins feeds ends h =
     wrote-by c r u p′ t′ (fed i v (outputs (c .writer) p t))
     (ap (λ (x : Writer). outputs x p′ t′) ends ∙ ap (buffers.with-writer finished) (feeds ∙ ap (λ (x : Writer). on (all-emitted i v) (outputs x p t)) begins)) h
+
+-- the number of a turn
+pub index-means : (s b : Bytes) (v : Value) (n : ℕ) → v ≡ Index n → (P : Json → Type 0) → P (jpos n) → Means s b v P
+index-means s b v n e P x = subst (λ (u : Value). Means s b u P) (sym e) (record { at = λ ent t st. subst P (sym (plain-is s b ent (Index n) refl)) x })

@@ -1,22 +1,23 @@
 // render.rs and partial.rs: the leaves that write. Each writes into the output in force, page or block texts, and leaves what
 // the rules draw: where it does not fit, 24 or 25. s is the plan, b the bundle; indent is the buffer of which the indent in
 // force is a prefix.
-ghost use mathlib.Core.Bool.{not, true};
+ghost use mathlib.Core.Bool.{not, true, false};
 ghost use mathlib.Core.List.{List};
 ghost use mathlib.Core.Path.{_≡_};
 ghost use Prim.Native.Nat.{ℕ, _+_, _*_, _^_, _≤_, _<_};
 ghost use lib.ListN.{length, take, drop};
-ghost use Rattle.rules.specs.Bytes.{Bytes};
+ghost use Rattle.rules.specs.Bytes.{Bytes, pick};
 ghost use Rattle.rules.specs.Bits.{bits};
 ghost use Rattle.rules.specs.Bundle.{string};
 ghost use Rattle.rules.specs.Output.{write, do-escape, indent-aware-write};
+ghost use Rattle.rules.specs.Json.{jpos};
 ghost use Rattle.rules.specs.Value.{render};
 ghost use Rattle.bits.specs.Packed.{bytes-at};
 ghost use Rattle.output.specs.Writer.{all-put};
 ghost use Rattle.output.specs.Outputs.{outputs, on};
-ghost use Rattle.support.specs.Feed.{all-emitted, escaped, fed};
+ghost use Rattle.support.specs.Feed.{escaped, fed};
 ghost use Rattle.support.specs.Runs.{calm};
-ghost use Rattle.direct.specs.Direct.{takes};
+ghost use Rattle.direct.specs.Direct.{takes, short-bytes};
 ghost use Rattle.layout.specs.Text.{text-at};
 ghost use Rattle.parts.specs.Holds.{Holds};
 ghost use Rattle.places.specs.Accepted.{Accepted};
@@ -32,37 +33,7 @@ use output::Writer;
 use state::RenderContext;
 use value::Value;
 
-// The n bytes of a packed string, into the output in force.
-fn feed_packed(
-    page: &mut [u8],
-    texts: &mut [u8],
-    indent: &[u8],
-    w: Writer,
-    b: &[u8],
-    p: usize,
-    n: usize,
-) -> Writer
-    requires { ⌜ p + 8 * n < 2 ^ 64 ⌝ }
-    ensures { λ r. ⌜ outputs r (now (page .exit)) (now (texts .exit)) ≡ on (all-emitted (now (indent .entry)) (bytes-at (bits (now (b .entry))) p n)) (outputs w (now (page .entry)) (now (texts .entry))) ⌝ }
-{
-    if w.block_text {
-        return support::feed_packed(texts, indent, w, b, p, n);
-    }
-    support::feed_packed(page, indent, w, b, p, n)
-}
-
-// Whether the n bytes of a packed string go to the page at once.
-fn is_direct(w: Writer, len: usize, b: &[u8], p: usize, n: usize) -> bool
-    requires { ⌜ p + 8 * n < 2 ^ 64 ⌝ }
-    ensures { λ r. ⌜ (r ≡ true → (takes w len n ≡ true) × (calm (w .«has_indent») (bytes-at (bits (now (b .entry))) p n) ≡ true)) ⌝ }
-{
-    if direct::takes(w, len, n) {
-        return support::line_end(b, p, 0, n, w.has_indent) == n;
-    }
-    false
-}
-
-// The n bytes of a packed string as a text: at once, or begun, fed and finished.
+// The n bytes of a packed string as a text.
 pub fn write_packed(
     page: &mut [u8],
     texts: &mut [u8],
@@ -75,11 +46,32 @@ pub fn write_packed(
     requires { ⌜ p + 8 * n < 2 ^ 64 ⌝ }
     ensures { λ r. ⌜ outputs r (now (page .exit)) (now (texts .exit)) ≡ fed (now (indent .entry)) (bytes-at (bits (now (b .entry))) p n) (outputs w (now (page .entry)) (now (texts .entry))) ⌝ }
 {
-    if is_direct(w, page.len(), b, p, n) {
-        return direct::put_packed(page, w, b, p, n);
+    if w.block_text {
+        return direct::write_packed(texts, indent, w, b, p, n);
     }
-    let q = support::begin(w);
-    support::finish(feed_packed(page, texts, indent, q, b, p, n))
+    direct::write_packed(page, indent, w, b, p, n)
+}
+
+// Whether the first n bytes of a word are a text that is stored at once, in a page or block texts of so many bytes. (A packed
+// string of up to seven bytes is such a word. To ask first keeps the writer of a loop that draws many of them in its place.)
+pub fn is_short(w: Writer, page: usize, texts: usize, n: usize, x: u64) -> bool
+    ensures { λ r. ⌜ (r ≡ true → (n ≤ 7) × (takes w (pick (w .«block_text») texts page) n ≡ true) × (calm (w .«has_indent») (short-bytes n x) ≡ true)) ⌝ }
+{
+    if w.block_text {
+        return direct::takes_short(w, texts, n, x);
+    }
+    direct::takes_short(w, page, n, x)
+}
+
+// They are.
+pub fn put_short(page: &mut [u8], texts: &mut [u8], w: Writer, n: usize, x: u64) -> Writer
+    requires { ⌜ (n ≤ 7) × (takes w (pick (w .«block_text») (length (now texts)) (length (now page))) n ≡ true) × (calm (w .«has_indent») (short-bytes n x) ≡ true) ⌝ }
+    ensures { λ r. ⌜ ((i : Bytes) → outputs r (now (page .exit)) (now (texts .exit)) ≡ fed i (short-bytes n x) (outputs w (now (page .entry)) (now (texts .entry)))) ⌝ }
+{
+    if w.block_text {
+        return direct::put_short(texts, w, n, x);
+    }
+    direct::put_short(page, w, n, x)
 }
 
 // `RawString`: its text, the string at p, as it is.
@@ -125,17 +117,19 @@ fn feed_value(
 
 // Whether lent bytes go to the page at once.
 fn is_plain(w: Writer, len: usize, v: &[u8], escape: bool) -> bool
-    ensures { λ r. ⌜ (r ≡ true → (takes w len (length (now (v .entry))) ≡ true) × (calm (w .«has_indent») (now (v .entry)) ≡ true) × (escaped escape (now (v .entry)) ≡ now (v .entry))) ⌝ }
+    ensures { λ r. ⌜ (r ≡ true → (w .«block_text» ≡ false) × (takes w len (length (now (v .entry))) ≡ true) × (calm (w .«has_indent») (now (v .entry)) ≡ true) × (escaped escape (now (v .entry)) ≡ now (v .entry))) ⌝ }
 {
-    let n = v.len();
-    if direct::takes(w, len, n) {
-        return support::quiet(v, 0, w.has_indent, escape) == n;
+    if w.block_text {
+        return false;
+    }
+    if direct::takes(w, len, v.len()) {
+        return direct::is_plain(v, w.has_indent, escape);
     }
     false
 }
 
-// Lent bytes, into the output in force.
-fn feed_bytes(
+// Lent bytes as a text.
+fn any_bytes(
     page: &mut [u8],
     texts: &mut [u8],
     indent: &[u8],
@@ -143,15 +137,15 @@ fn feed_bytes(
     v: &[u8],
     escape: bool,
 ) -> Writer
-    ensures { λ r. ⌜ outputs r (now (page .exit)) (now (texts .exit)) ≡ on (all-emitted (now (indent .entry)) (escaped escape (now (v .entry)))) (outputs w (now (page .entry)) (now (texts .entry))) ⌝ }
+    ensures { λ r. ⌜ outputs r (now (page .exit)) (now (texts .exit)) ≡ fed (now (indent .entry)) (escaped escape (now (v .entry))) (outputs w (now (page .entry)) (now (texts .entry))) ⌝ }
 {
     if w.block_text {
-        return support::feed_bytes(texts, indent, w, v, escape);
+        return direct::write_bytes(texts, indent, w, v, escape);
     }
-    support::feed_bytes(page, indent, w, v, escape)
+    direct::write_bytes(page, indent, w, v, escape)
 }
 
-// Lent bytes as a text: at once, or begun, fed and finished.
+// The same, where most go to the page at once.
 fn write_bytes(
     page: &mut [u8],
     texts: &mut [u8],
@@ -165,8 +159,45 @@ fn write_bytes(
     if is_plain(w, page.len(), v, escape) {
         return direct::put_bytes(page, w, v);
     }
+    any_bytes(page, texts, indent, w, v, escape)
+}
+
+// The digits of a number, as a text: those of every u64 fit the buffer.
+fn write_number(
+    page: &mut [u8],
+    texts: &mut [u8],
+    indent: &[u8],
+    w: Writer,
+    n: u64,
+    escape: bool,
+) -> Writer
+    ensures { λ r. ⌜ outputs r (now (page .exit)) (now (texts .exit)) ≡ fed (now (indent .entry)) (escaped escape (render (jpos n))) (outputs w (now (page .entry)) (now (texts .entry))) ⌝ }
+{
+    let mut buf = [0u8; 20];
+    let e = decimal::write_digits(&mut buf, 0, n);
+    any_bytes(page, texts, indent, w, &buf[..e], escape)
+}
+
+// What a value prints, as a text, where it does not stand in the plan so.
+fn other_value(
+    page: &mut [u8],
+    texts: &mut [u8],
+    indent: &[u8],
+    w: Writer,
+    s: &[u8],
+    tab: &[u64],
+    b: &[u8],
+    v: Value,
+    escape: bool,
+) -> Writer
+    requires { ⌜ Accepted (now s) (now tab) × (length (now b) ≤ 65536) × Known (now s) (now b) v ⌝ }
+    ensures { λ r. ⌜ Means (now (s .entry)) (now (b .entry)) v (λ j. outputs r (now (page .exit)) (now (texts .exit)) ≡ fed (now (indent .entry)) (escaped escape (render j)) (outputs w (now (page .entry)) (now (texts .entry)))) ⌝ }
+{
+    if let Value::Index(n) = v {
+        return write_number(page, texts, indent, w, n as u64, escape);
+    }
     let q = support::begin(w);
-    support::finish(feed_bytes(page, texts, indent, q, v, escape))
+    support::finish(feed_value(page, texts, indent, q, s, tab, b, v, escape))
 }
 
 // What a value prints, as a text. Most values of a plan stand there as they are printed.
@@ -190,8 +221,7 @@ pub fn write_value(
     if at < e {
         return write_bytes(page, texts, indent, w, &s[at..e], escape);
     }
-    let q = support::begin(w);
-    support::finish(feed_value(page, texts, indent, q, s, tab, b, v, escape))
+    other_value(page, texts, indent, w, s, tab, b, v, escape)
 }
 
 // `Expression` and `HtmlExpression`: what a value prints, escaped unless that is disabled.

@@ -12,11 +12,11 @@ use Rattle.bits.specs.Packed.{bytes-at, bytes-length}
 use Rattle.support.specs.Runs.{calm, line-length}
 use Rattle.support.proofs.Runs.{line-calm}
 use borrow.Author.Needs.{needs}
-use Rattle.writing.proofs.is_direct.Statement.{statement}
-use Rattle.writing.proofs.is_direct.Tie as tie
-use Rattle.writing.proofs.is_direct.Reads as reads
-use Rattle.writing.proofs.is_direct.Lts as lts
+use Rattle.direct.proofs.is_direct.Statement.{statement}
+use Rattle.direct.proofs.is_direct.Tie as tie
+use Rattle.direct.proofs.is_direct.Reads as reads
+use Rattle.direct.proofs.is_direct.Lts as lts
 use Rattle.direct.proofs.takes.Reads as takes-reads
 use Rattle.support.proofs.line_end.Reads as line-end-reads
 
 -- src/lib.rt:59:8
@@ -32,8 +32,8 @@ returns : tie.Need-returns
 returns c =
     let a = c .before .before .before .before .args in
     let has = a .w .«has_indent» in
-    let v = bytes-at (bits (a .b .now)) (a .p) (a .n) in
-    let n : length v ≡ a .n = bytes-length (bits (a .b .now)) (a .p) (a .n) in
+    let v = bytes-at (bits (a .s .now)) (a .p) (a .n) in
+    let n : length v ≡ a .n = bytes-length (bits (a .s .now)) (a .p) (a .n) in
     λ h.
     let e : c .line-end .result ≡ a .n = eqb-true (c .line-end .result) (a .n) h in
     let l : length v ≤ line-length has v = omega (arith, e, n, c .line-end .ensures) in
