@@ -149,6 +149,10 @@ pub fn write_packed(
     ensures { λ r. ⌜ output r (now (out .exit)) ≡ written-text (now (indent .entry)) (bytes-at (bits (now (s .entry))) p n) (output w (now (out .entry))) ⌝ }
 {
     let u = led_packed(out, indent, w, s, p, n);
+    let x = bits::field(s, p, 56);
+    if takes_short(u, out.len(), n, x) {
+        return put_short(out, u, n, x);
+    }
     if is_direct(u, out.len(), s, p, n) {
         return put_packed(out, u, s, p, n);
     }
@@ -205,13 +209,13 @@ fn store_short(out: &mut [u8], at: usize, n: usize, x: u64)
     }
 }
 
-// Where the first line of the first n of them ends: behind its line feed.
+// Where the first line of the first n of them ends: behind its line feed. (Whatever the last of them is, it ends there.)
 fn short_line(x: u64, n: usize) -> usize
     requires { ⌜ n ≤ 7 ⌝ }
     ensures { λ r. ⌜ r ≡ line-length true (short-bytes n x) ⌝ }
 {
     let mut j = 0;
-    while j < n {
+    while j + 1 < n {
         if short_byte(x, j) == b'\n' {
             return j + 1;
         }

@@ -29,6 +29,9 @@ abbrev μ-loop : tie.MeasureT-loop
 loop-holds : tie.Need-loop-holds Inv-loop μ-loop
 loop-holds c = (omega arith, refl)
 
+add-loop : tie.Need-add-loop Inv-loop μ-loop
+add-loop c = search needs
+
 -- src/lib.rt:208:12
 short-byte-requires : tie.Need-short-byte-requires Inv-loop μ-loop
 short-byte-requires c κs = search needs
@@ -44,7 +47,7 @@ returns c =
     let l = c .before .before .before .loop in
     let v = short-bytes (a .n) (a .x) in
     let n = short-length (a .n) (a .x) (c .before .before .before .before .pre) in
-    let x : getD v (l .j) 0 ≡ 10 = getD-take (a .n) (number-bytes 7 (a .x)) (l .j) 0 (c .before .before .loop-test .taken) ∙ sym (c .before .short-byte .ensures) ∙ c .if1 .taken in
+    let x : getD v (l .j) 0 ≡ 10 = getD-take (a .n) (number-bytes 7 (a .x)) (l .j) 0 (omega (arith, c .before .before .loop-test .taken)) ∙ sym (c .before .short-byte .ensures) ∙ c .if1 .taken in
     line-found true v 0 (l .j) refl (omega arith) (l .inv .1) (omega arith) (rw x) ∙ zero-add (line-length true v)
 
 -- src/lib.rt:211:9
@@ -62,7 +65,7 @@ loop-again c =
     let l = c .before .before .before .loop in
     let v = short-bytes (a .n) (a .x) in
     let n = short-length (a .n) (a .x) (c .before .before .before .before .pre) in
-    let x : getD v (l .j) 0 ≡ c .before .short-byte .result = getD-take (a .n) (number-bytes 7 (a .x)) (l .j) 0 (c .before .before .loop-test .taken) ∙ sym (c .before .short-byte .ensures) in
+    let x : getD v (l .j) 0 ≡ c .before .short-byte .result = getD-take (a .n) (number-bytes 7 (a .x)) (l .j) 0 (omega (arith, c .before .before .loop-test .taken)) ∙ sym (c .before .short-byte .ensures) in
     let y : inner-byte (getD v (l .j) 0) ≡ true = ap inner-byte x ∙ ap not (ne-eqb (c .before .short-byte .result) 10 (c .if1 .left)) in
     let e : run inner-byte (drop (l .j) v) ≡ run inner-byte (drop (l .j + 1) v) + 1 = rw (add-one (run inner-byte (drop (l .j + 1) v)), add-one (l .j)) (run-more inner-byte v (l .j) (omega arith) y) in
     (search needs, omega (arith, l .inv .1))
@@ -74,8 +77,8 @@ returns-2 c =
     let l = c .before .loop in
     let v = short-bytes (a .n) (a .x) in
     let n = short-length (a .n) (a .x) (c .before .before .pre) in
-    let e : l .j ≡ a .n = omega arith in
-    sym e ∙ line-last true v 0 (l .j) refl (omega arith) (l .inv .1) (omega arith) ∙ zero-add (line-length true v)
+    let e : run inner-byte v ≡ l .j + run inner-byte (drop (l .j) v) = sym (zero-add (run inner-byte v)) ∙ l .inv .1 in
+    omega (arith, e, n, c .loop-test .left)
 
 pub short-line-spec : {M : Type 1} → statement M
 short-line-spec =
@@ -84,6 +87,7 @@ short-line-spec =
     Inv-loop
     μ-loop
     loop-holds
+    add-loop
     short-byte-requires
     add-result
     returns
