@@ -113,16 +113,18 @@ pub fn get_named(b: &[u8], w: usize, at: usize) -> Found
     Found::Missing
 }
 
-// Whether the string at p is the one at q, which has m bytes. Most have another count.
-fn is_named(b: &[u8], p: usize, q: usize, m: usize) -> bool
-    requires { ⌜ (p ≤ 524288) × (q ≤ 524288) × (m ≡ field (bits (now b)) 16 q) ⌝ }
+// Whether the string at p is the one at q, which starts with y: its count and its first byte, read at once. Most start otherwise, and then they are the
+// same only where both are empty.
+fn is_named(b: &[u8], p: usize, q: usize, y: u64) -> bool
+    requires { ⌜ (p ≤ 524288) × (q ≤ 524288) × (y ≡ field (bits (now b)) 24 q) ⌝ }
     ensures { λ r. ⌜ r ≡ same (text-at (bits (now (b .entry))) p) (text-at (bits (now (b .entry))) q) ⌝ }
 {
-    let n = bits::field(b, p, 16) as usize;
-    if n != m {
-        return false;
+    let x = bits::field(b, p, 24);
+    if x != y {
+        return (x < 256) & (y < 256);
     }
-    bits::same_at(b, p + 16, n, q + 16, m)
+    let n = (x / 256) as usize;
+    bits::same_at(b, p + 16, n, q + 16, n)
 }
 
 // The same by the places of the templates.
@@ -131,11 +133,11 @@ pub fn get_indexed(b: &[u8], places: &[u32], at: usize) -> Found
     ensures { λ r. ⌜ r ≡ found-view (body 16 16) (bits (now (b .entry))) (find-template (templates-at 16 (bits (now (b .entry)))) (text-at (bits (now (b .entry))) at)) ⌝ }
 {
     let n = template_count(b);
-    let m = bits::field(b, at, 16) as usize;
+    let y = bits::field(b, at, 24);
     let mut i: usize = 0;
     while i < n {
         let p = places[i] as usize;
-        if is_named(b, p, at, m) {
+        if is_named(b, p, at, y) {
             return Found::Template(i, p, parts::skip_string(b, p));
         }
         i += 1;

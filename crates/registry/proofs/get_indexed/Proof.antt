@@ -15,10 +15,10 @@ use Rattle.registry.proofs.get_indexed.Statement.{statement}
 use Rattle.registry.proofs.get_indexed.Tie as tie
 
 abbrev Inv-loop : tie.InvT-loop
-Inv-loop b places at n m i₀ i = Looking 16 (bits b) (text-at (bits b) at) n i
+Inv-loop b places at n y i₀ i = Looking 16 (bits b) (text-at (bits b) at) n i
 
 abbrev μ-loop : tie.MeasureT-loop
-μ-loop b places at n m i₀ i = n - i
+μ-loop b places at n y i₀ i = n - i
 
 template-count-requires : tie.Need-template-count-requires Inv-loop μ-loop
 template-count-requires c κs = search needs
