@@ -7,3 +7,4 @@ pub mod Included
 pub mod IncludedLaws
 pub mod Counted
 pub mod Including
+pub mod Hashing

@@ -1,7 +1,8 @@
 // partial.rs: the scope of a partial is opened, with the hash of its call merged into its context.
 // s is the plan with its places tab, b the bundle; ent holds the entries of open partials; d is the number of depths left for the call.
 ghost use mathlib.Core.Path.{_≡_};
-ghost use Prim.Native.Nat.{_≤_, _<_};
+ghost use Prim.Native.Nat.{ℕ, _≤_, _<_};
+ghost use mathlib.Core.List.{List};
 ghost use lib.ListN.{length};
 ghost use Rattle.rules.specs.Bits.{bits};
 ghost use Rattle.rules.specs.Bundle.{param, call-of};
@@ -11,6 +12,7 @@ ghost use Rattle.value.specs.Numbers.{Fits};
 ghost use Rattle.state.specs.Context.{whole};
 ghost use Rattle.inlining.specs.Decorated.{SomeReady};
 ghost use Rattle.opening.specs.Scoped.{end-of, plainly-opened, SomeWorked, ScopeOpened};
+ghost use Rattle.opening.specs.Plain.{SomePlainly, OpensBy, deeper};
 use expand::Expanded;
 use expand::Options;
 use state::RenderContext;
@@ -76,4 +78,81 @@ pub fn open_scope(
     }
     let c = including::scope_of(base, t, n, state::front(sc, rc));
     state::push_block(sc, state::set_total(rc, rc.total + m), c)
+}
+
+// By numbers: where the name of a call is a string and it has no parameters, its hash values are known when the scope is opened. What then changes of the
+// context is one number, so that it need not be handed back: the entries in use together, or 4096 and the number of the refusal.
+
+// The same where the call has n hash pairs at q: values are the numbers of theirs.
+fn open_pairs(
+    s: &[u8],
+    tab: &[u64],
+    b: &[u8],
+    ent: &mut [u64],
+    sc: &mut [u64],
+    q: usize,
+    n: usize,
+    values: [u32; 15],
+    d: usize,
+    rc: RenderContext,
+) -> usize
+    requires { ⌜ Accepted (now s) (now tab) × (length (now b) ≤ 65536) × SomePlainly (now s) (now b) (now ent) (whole rc (now sc)) d q n values × (n ≡ 0 → ⊥) × (length (now sc) ≡ 96) ⌝ }
+    ensures { λ r. ⌜ OpensBy (now (s .entry)) (now (b .entry)) (now (ent .entry)) (now (ent .exit)) (whole rc (now (sc .entry))) (whole rc (now (sc .exit))) d q n values r ⌝ }
+{
+    let t = end_of(sc, rc);
+    if 4096 < t + n {
+        return 4118;
+    }
+    let base = including::current_number(sc, rc.used);
+    including::merge_into(ent, b, t, base, values, q, n, d);
+    let m = including::merged_entries(s, tab, b, ent, t, n);
+    if 4096 - rc.total < m {
+        return 4118;
+    }
+    if 32 <= rc.used {
+        return 4119;
+    }
+    let c = including::scope_of(Value::Null, t, n, state::front(sc, rc));
+    scope::put_scope(sc, rc.used, c);
+    rc.total + m
+}
+
+// The same for any n.
+pub fn open_named(
+    s: &[u8],
+    tab: &[u64],
+    b: &[u8],
+    ent: &mut [u64],
+    sc: &mut [u64],
+    q: usize,
+    n: usize,
+    values: [u32; 15],
+    d: usize,
+    rc: RenderContext,
+) -> usize
+    requires { ⌜ Accepted (now s) (now tab) × (length (now b) ≤ 65536) × SomePlainly (now s) (now b) (now ent) (whole rc (now sc)) d q n values × (length (now sc) ≡ 96) ⌝ }
+    ensures { λ r. ⌜ OpensBy (now (s .entry)) (now (b .entry)) (now (ent .entry)) (now (ent .exit)) (whole rc (now (sc .entry))) (whole rc (now (sc .exit))) d q n values r ⌝ }
+{
+    if n != 0 {
+        return open_pairs(s, tab, b, ent, sc, q, n, values, d, rc);
+    }
+    if 32 <= rc.used {
+        return 4119;
+    }
+    let t = end_of(sc, rc);
+    let base = including::current_number(sc, rc.used);
+    let c = scope::with_locals(scope::child(base, t as u16), state::front(sc, rc));
+    scope::put_scope(sc, rc.used, c);
+    rc.total
+}
+
+// The context with the scope that was opened so.
+pub fn deeper(rc: RenderContext, total: usize) -> RenderContext
+    requires { ⌜ rc .used < 32 ⌝ }
+    ensures { λ r. ⌜ ((l : List ℕ) → whole r l ≡ deeper (whole rc l) total) ⌝ }
+{
+    let mut q = rc;
+    q.used = q.used + 1;
+    q.total = total;
+    q
 }
