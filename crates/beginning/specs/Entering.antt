@@ -33,6 +33,7 @@ use Rattle.inlining.specs.Decorated.{is-at}
 use Rattle.drawing.specs.Renders.{registry-of, Named, Renders, Worked, Joins, TextDrawn, BodyDrawn, IncludeDrawn}
 use Rattle.drawing.specs.Enclosed.{inside, body-drawn, text-nothing, text-refused, text-drawn}
 use Rattle.opening.specs.Scoped.{SomeWorked, ScopeOpened, Entered}
+use Rattle.opening.specs.Plain.{Plainly}
 use Rattle.drawing.specs.Renders.{body-rule}
 use Rattle.drawing.specs.Continues.{unless-not}
 use Rattle.beginning.specs.declared.Next.{Next}
@@ -78,6 +79,17 @@ EnteredNext s b o w w₁ d p x q e n own at (Text z t i m) = (own ≡ At z) × (
 pub record Enters (s b : Bytes) (ent ent′ : List ℕ) (indent indent′ : Bytes) (o : Options) (c r : RenderContext) (d p : ℕ) (x : Expanded) (q e n : ℕ) (own ind : Maybe) (next : Next) : Type 0 where
   pub at : Named b n → (page texts : Bytes) → Ready s b (world c page texts indent ent) → (y : block-util.Expanded) → Worked s b o (world c page texts indent ent) d p x y
       → EnteredNext s b o (world c page texts indent ent) (world r page texts indent′ ent′) d p x q e n own ind next
+
+-- the same where the call has a string as its name, no parameters, and n hash pairs at r: l are the numbers of their values
+pub record EnterableBy (s : Bytes) (tab : List ℕ) (b : Bytes) (ent : List ℕ) (indent : Bytes) (c : RenderContext) (d r n : ℕ) (l : List ℕ) (q e name : ℕ) (own at : Maybe) : Type 0 where
+  pub o : Options
+  pub p : ℕ
+  pub x : Expanded
+  pub so : Plainly s b ent o c d p x r n l
+  pub enterable : Enterable s tab b ent indent o c d p x q e name own at
+
+abbrev pub EntersBy : Bytes → Bytes → List ℕ → List ℕ → Bytes → Bytes → RenderContext → RenderContext → ℕ → ℕ → ℕ → List ℕ → ℕ → ℕ → ℕ → Maybe → Maybe → Next → Type 0
+EntersBy s b ent ent′ indent indent′ c y d r n l q e name own at next = (o : Options) (p : ℕ) (x : Expanded) → Plainly s b ent o c d p x r n l → Enters s b ent ent′ indent indent′ o c y d p x q e name own at next
 
 -- Laws: w₁ has the scope
 

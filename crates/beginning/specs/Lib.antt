@@ -1,3 +1,4 @@
 pub mod Opened
 pub mod Entering
 pub mod Laws
+pub mod Named

@@ -13,11 +13,12 @@ ghost use Rattle.parts.specs.Says.{MaybeHolds};
 ghost use Rattle.state.specs.Context.{whole};
 ghost use Rattle.state.specs.Setters.{failed, marked};
 ghost use Rattle.state.specs.World.{world, Ready};
+ghost use Rattle.including.specs.Hashing.{plain-pairs};
 ghost use Rattle.inlining.specs.Decorated.{is-at};
 ghost use Rattle.drawing.specs.Parts.{before-partial};
 ghost use Rattle.drawing.specs.Renders.{Checked, Named, Worked, Joins};
 ghost use Rattle.beginning.specs.Opened.{done, whole-begun, BodyFits, body-context, body-buffer, TextEnds, text-context, text-buffer, partial-rule, PartialBegun};
-ghost use Rattle.beginning.specs.Entering.{Enterable, Enters};
+ghost use Rattle.beginning.specs.Entering.{Enterable, Enters, EnterableBy, EntersBy};
 use expand::Expanded;
 use expand::Options;
 use output::Writer;
@@ -151,8 +152,8 @@ fn before_partial(w: Writer, at: Maybe, before: bool) -> bool
     false
 }
 
-// The partial of the call at p, with its own body and its own indent, where it has them.
-pub fn begin(
+// The same, whatever its call is.
+fn begin_any(
     s: &[u8],
     tab: &[u64],
     b: &[u8],
@@ -214,4 +215,180 @@ pub fn begin(
             q,
         ),
     }
+}
+
+// The scope of a partial with n hash pairs at r is opened: its name is a string, and it has no parameters. values are the numbers of its hash values.
+fn enter_named(
+    s: &[u8],
+    tab: &[u64],
+    b: &[u8],
+    ent: &mut [u64],
+    indent: &mut [u8],
+    sc: &mut [u64],
+    r: usize,
+    n: usize,
+    values: [u32; 15],
+    q: usize,
+    e: usize,
+    name: usize,
+    own: Maybe,
+    at: Maybe,
+    d: usize,
+    rc: RenderContext,
+) -> Begun
+    requires { ⌜ EnterableBy (now s) (now tab) (now b) (now ent) (now indent) (whole rc (now sc)) d r n values q e name own at × (length (now sc) ≡ 96) ⌝ }
+    ensures { λ y. ⌜ EntersBy (now (s .entry)) (now (b .entry)) (now (ent .entry)) (now (ent .exit)) (now (indent .entry)) (now (indent .exit)) (whole rc (now (sc .entry))) (whole (y .rc) (now (sc .exit))) d r n values q e name own at (y .next) ⌝ }
+{
+    let total = opening::open_named(s, tab, b, ent, sc, r, n, values, d, rc);
+    if 4096 < total {
+        return done(state::failed(rc, (total - 4096) as u8));
+    }
+    let u = opening::deeper(rc, total);
+    match own {
+        Maybe::At(t) => {
+            Begun {
+                rc: state::set_current_template_name(texts::open_text(u), 0),
+                next: Next::Text(t, q, e, name),
+            }
+        }
+        Maybe::Nothing => {
+            Begun {
+                rc: begin_body(indent, b, at, name, texts::no_text(sc, u)),
+                next: Next::Body(q, e, name),
+            }
+        }
+    }
+}
+
+// The same where the name of the call is a string, and it has no parameters, but k hash pairs. Nothing is worked out twice.
+fn begin_named(
+    s: &[u8],
+    tab: &[u64],
+    b: &[u8],
+    index: &[u32],
+    ent: &mut [u64],
+    page: &mut [u8],
+    texts: &mut [u8],
+    indent: &mut [u8],
+    sc: &mut [u64],
+    options: Options,
+    p: usize,
+    k: usize,
+    own: Maybe,
+    at: Maybe,
+    before: bool,
+    d: usize,
+    rc: RenderContext,
+) -> Begun
+    requires { ⌜ Checked (now s) (now tab) (now b) (now index) × Ready (now s) (now b) (world (whole rc (now sc)) (now page) (now texts) (now indent) (now ent)) × (d ≤ 16) × Holds (call-of (param d)) (bits (now b)) p × MaybeHolds (body 16 d) (bits (now b)) own × MaybeHolds string (bits (now b)) at × (length (now sc) ≡ 96) × (k ≡ plain-pairs (bits (now b)) p) × (k < 16) ⌝ }
+    ensures { λ r. ⌜ PartialBegun (now (s .entry)) (now (b .entry)) options (world (whole rc (now (sc .entry))) (now (page .entry)) (now (texts .entry)) (now (indent .entry)) (now (ent .entry))) (world (whole (r .rc) (now (sc .exit))) (now (page .exit)) (now (texts .exit)) (now (indent .exit)) (now (ent .exit))) d (partial-rule (now (b .entry)) d p own at before) own at (r .next) ⌝ }
+{
+    let r = parts::skip_string(b, p + 2) + 8;
+    let h = including::hash_all(s, tab, b, ent, sc, rc.used, options, r, k, d);
+    if h.bad != 0 {
+        return done(state::failed(rc, h.bad));
+    }
+    let writer = rc.writer;
+    if !decorators::indent_fits(b, writer.has_indent, writer.indent, at) {
+        return done(state::failed(rc, 21));
+    }
+    let q = state::begin_aware(rc, before_partial(writer, at, before));
+    match targets::expand_named(s, tab, b, index, ent, sc, p + 2, own, d, q) {
+        Target::Bad(n) => done(state::failed(q, n)),
+        Target::Text(from, n) => done(state::finish(
+            writing::partial_block_text(page, texts, q, from, n),
+            writer,
+        )),
+        Target::Fallback(t) => {
+            Begun {
+                rc: state::set_current_template_name(q, 0),
+                next: Next::Fallback(t),
+            }
+        }
+        Target::Body(t, e, n, m) => {
+            let values = h.values;
+            enter_named(
+                s,
+                tab,
+                b,
+                ent,
+                indent,
+                sc,
+                r,
+                k,
+                values,
+                t,
+                e,
+                n,
+                m,
+                at,
+                d,
+                q,
+            )
+        }
+    }
+}
+
+// The partial of the call at p, with its own body and its own indent, where it has them.
+pub fn begin(
+    s: &[u8],
+    tab: &[u64],
+    b: &[u8],
+    index: &[u32],
+    ent: &mut [u64],
+    page: &mut [u8],
+    texts: &mut [u8],
+    indent: &mut [u8],
+    sc: &mut [u64],
+    options: Options,
+    p: usize,
+    own: Maybe,
+    at: Maybe,
+    before: bool,
+    d: usize,
+    rc: RenderContext,
+) -> Begun
+    requires { ⌜ Checked (now s) (now tab) (now b) (now index) × Ready (now s) (now b) (world (whole rc (now sc)) (now page) (now texts) (now indent) (now ent)) × (d ≤ 16) × Holds (call-of (param d)) (bits (now b)) p × MaybeHolds (body 16 d) (bits (now b)) own × MaybeHolds string (bits (now b)) at × (length (now sc) ≡ 96) ⌝ }
+    ensures { λ r. ⌜ PartialBegun (now (s .entry)) (now (b .entry)) options (world (whole rc (now (sc .entry))) (now (page .entry)) (now (texts .entry)) (now (indent .entry)) (now (ent .entry))) (world (whole (r .rc) (now (sc .exit))) (now (page .exit)) (now (texts .exit)) (now (indent .exit)) (now (ent .exit))) d (partial-rule (now (b .entry)) d p own at before) own at (r .next) ⌝ }
+{
+    let k = including::plain_pairs(b, p);
+    if 15 < k {
+        return begin_any(
+            s,
+            tab,
+            b,
+            index,
+            ent,
+            page,
+            texts,
+            indent,
+            sc,
+            options,
+            p,
+            own,
+            at,
+            before,
+            d,
+            rc,
+        );
+    }
+    begin_named(
+        s,
+        tab,
+        b,
+        index,
+        ent,
+        page,
+        texts,
+        indent,
+        sc,
+        options,
+        p,
+        k,
+        own,
+        at,
+        before,
+        d,
+        rc,
+    )
 }

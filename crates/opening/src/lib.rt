@@ -106,10 +106,11 @@ fn open_pairs(
     let base = including::current_number(sc, rc.used);
     including::merge_into(ent, b, t, base, values, q, n, d);
     let m = including::merged_entries(s, tab, b, ent, t, n);
-    if 4096 - rc.total < m {
+    let room = 4096 - rc.total;
+    if room < m {
         return 4118;
     }
-    if 32 <= rc.used {
+    if 31 < rc.used {
         return 4119;
     }
     let c = including::scope_of(Value::Null, t, n, state::front(sc, rc));
@@ -136,7 +137,7 @@ pub fn open_named(
     if n != 0 {
         return open_pairs(s, tab, b, ent, sc, q, n, values, d, rc);
     }
-    if 32 <= rc.used {
+    if 31 < rc.used {
         return 4119;
     }
     let t = end_of(sc, rc);

@@ -24,10 +24,10 @@ use mathlib.Core.List.{List}
 use Prim.Native.Nat.{ℕ, _+_, _≤_, _<_, _^_}
 use native.Mathlib.Omega.{arith}
 use borrow.Author.Needs.{needs}
-use Rattle.beginning.proofs.begin.Statement.{statement}
-use Rattle.beginning.proofs.begin.Tie as tie
-use Rattle.beginning.proofs.begin.Reads as reads
-use Rattle.beginning.proofs.begin.Lts as lts
+use Rattle.beginning.proofs.begin_any.Statement.{statement}
+use Rattle.beginning.proofs.begin_any.Tie as tie
+use Rattle.beginning.proofs.begin_any.Reads as reads
+use Rattle.beginning.proofs.begin_any.Lts as lts
 use Rattle.beginning.proofs.before_partial.Reads as before-partial-reads
 use Rattle.beginning.proofs.done.Reads as done-reads
 use Rattle.beginning.proofs.enter.Reads as enter-reads
@@ -291,8 +291,8 @@ returns-6 c =
     let E = subst (λ (v : RenderContext). Enters (a .s .now) (a .b .now) (a .ent .now) ((c .before .before .before .before .before .before .enter) .last .1 .1 .1 .0) (a .indent .now) ((c .before .before .before .before .before .before .enter) .last .1 .1 .1 .1 .0) (a .options) v (whole (c .before .before .before .before .before .before .enter .result .rc) (c .before .before .before .before .before .before .enter .last .1 .1 .1 .1 .1 .0)) (a .d) (a .p) x ((c .before .before .before .before .before .before .before .before .before .before .before .t2) .given .0 .0) ((c .before .before .before .before .before .before .before .before .before .before .before .t2) .given .0 .1 .0) ((c .before .before .before .before .before .before .before .before .before .before .before .t2) .given .0 .1 .1 .0) ((c .before .before .before .before .before .before .before .before .before .before .before .t2) .given .0 .1 .1 .1 .0) (a .at) ((c .before .before .before .before .before .before .enter) .result .next)) q ((c .before .before .before .before .before .before .enter) .ensures) .at (L .2) (a .page .now) (a .texts .now) (marks-ready (a .s .now) (a .b .now) (a .options) w (a .d) (a .p) (a .own) (a .at) (a .before) ((c .before .before .before .before .before .before .before .before .before .before .before .before .before .before .before .before .before .before .before .before .before .before .before .before .before .before .before .before .before .before .before .before .before .before .before .pre) .1) x k ((c .before .before .before .before .before .before .before .before .before .before .before .before .before .before .before .before .before .before .before .before .before .if1) .left)) _ W in
     begun-entered (a .s .now) (a .b .now) (a .options) w (a .d) (a .p) (a .own) (a .at) (a .before) ((c .before .before .before .before .before .before .before .before .before .before .before .before .before .before .before .before .before .before .before .before .before .before .before .before .before .before .before .before .before .before .before .before .before .before .before .pre) .1) x k ((c .before .before .before .before .before .before .before .before .before .before .before .before .before .before .before .before .before .before .before .before .before .if1) .left) fits ((c .before .before .before .before .before .before .before .before .before .before .before .t2) .given .0 .0) ((c .before .before .before .before .before .before .before .before .before .before .before .t2) .given .0 .1 .0) ((c .before .before .before .before .before .before .before .before .before .before .before .t2) .given .0 .1 .1 .0) ((c .before .before .before .before .before .before .before .before .before .before .before .t2) .given .0 .1 .1 .1 .0) L (world (whole (c .before .before .before .before .before .before .enter .result .rc) (c .before .before .before .before .before .before .enter .last .1 .1 .1 .1 .1 .0)) (a .page .now) (a .texts .now) ((c .before .before .before .before .before .before .enter) .last .1 .1 .1 .1 .0) ((c .before .before .before .before .before .before .enter) .last .1 .1 .1 .0)) ((c .before .before .before .before .before .before .enter) .result .next) E
 
-pub begin-spec : {M : Type 1} → statement M
-begin-spec =
+pub begin-any-spec : {M : Type 1} → statement M
+begin-any-spec =
     tie.close
     (tie.spec
     try-from-template-requires

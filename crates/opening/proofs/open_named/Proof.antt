@@ -39,7 +39,7 @@ returns-2 c =
     let one : 0 < a .rc .used = omega (arith, r .one) in (
       omega arith,
       λ o p x so.
-          subst (λ (y : RenderContext). ScopeOpened (a .s .now) (a .b .now) (a .ent .now) (a .ent .now) o (whole (a .rc) (a .sc .now)) y (a .d) p x) (sym (plainly-deep (without-path (base-of (getD (scopes-of (a .sc .now)) (a .rc .used - 1) blank))) (end-of (whole (a .rc) (a .sc .now))) (whole (a .rc) (a .sc .now)) (c .if2 .taken)))
+          subst (λ (y : RenderContext). ScopeOpened (a .s .now) (a .b .now) (a .ent .now) (a .ent .now) o (whole (a .rc) (a .sc .now)) y (a .d) p x) (sym (plainly-deep (without-path (base-of (getD (scopes-of (a .sc .now)) (a .rc .used - 1) blank))) (end-of (whole (a .rc) (a .sc .now))) (whole (a .rc) (a .sc .now)) (omega (arith, c .if2 .taken))))
           (plain-none (a .s .now) (a .b .now) (a .ent .now) o (whole (a .rc) (a .sc .now)) (a .d) p x (a .q) (a .n) (a .values) (z .pre .0 .answers) (z .pre .1) one so (c .before .before .if1 .left) (omega (arith, r .enough, r .few)) (omega (arith, r .few))),
     )
 

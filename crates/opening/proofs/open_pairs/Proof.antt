@@ -94,8 +94,8 @@ merged-entries-requires c κs =
     let is : c .before .before .before .merge-into .last .0 ≡ ent′ = c .before .before .before .merge-into .ensures ∙ ap₂ (λ (k j : ℕ). with-pairs (a .ent .now) (bits (a .b .now)) k j (a .values) (a .d) (a .q) (a .n)) e (c .before .before .before .before .before .current-number .ensures) in
     (z .pre .0, z .pre .1, λ lt. subst (λ (l : List ℕ). Parts (a .s .now) (a .b .now) l (c .before .before .before .before .before .before .before .before .end-of .result) (a .n)) (sym is) (subst (λ (k : ℕ). Parts (a .s .now) (a .b .now) ent′ k (a .n)) (sym e) (plain-parts (a .s .now) (a .b .now) (a .ent .now) (P .o) (whole (a .rc) (a .sc .now)) (a .d) (P .p) (P .x) (a .q) (a .n) (a .values) (z .pre .0 .answers) (z .pre .1) one (P .so) few (P .some) lt)))
 
-sub-if2 : tie.Need-sub-if2
-sub-if2 c = let few = c .before .before .before .before .before .before .before .before .before .before .before .before .before .before .before .before .before .pre .2 .some .ready .few in search needs
+sub-room : tie.Need-sub-room
+sub-room c = let few = c .before .before .before .before .before .before .before .before .before .before .before .before .before .before .before .before .before .pre .2 .some .ready .few in search needs
 
 same-length-2 : tie.Need-same-length-2
 same-length-2 c = search needs
@@ -142,7 +142,7 @@ returns-3 c =
     let is : c .before .before .before .before .before .before .before .before .merge-into .last .0 ≡ ent′ = c .before .before .before .before .before .before .before .before .merge-into .ensures ∙ ap₂ (λ (k j : ℕ). with-pairs (a .ent .now) (bits (a .b .now)) k j (a .values) (a .d) (a .q) (a .n)) e (c .before .before .before .before .before .before .before .before .before .before .current-number .ensures) in
     let m : c .before .before .before .before .merged-entries .result ≡ entries-of (a .n) (json-of (a .s .now) (a .b .now) ent′ (Merged t (a .n))) = c .before .before .before .before .merged-entries .ensures ∙ ap₂ (λ (l : List ℕ) (k : ℕ). entries-of (a .n) (json-of (a .s .now) (a .b .now) l (Merged k (a .n)))) is e in (
       omega arith,
-      λ o p x so. subst (λ (l : List ℕ). ScopeOpened (a .s .now) (a .b .now) (a .ent .now) l o (whole (a .rc) (a .sc .now)) (failed (whole (a .rc) (a .sc .now)) 23) (a .d) p x) (sym is) (plain-deep (a .s .now) (a .b .now) (a .ent .now) o (whole (a .rc) (a .sc .now)) (a .d) p x (a .q) (a .n) (a .values) (z .pre .0 .answers) (z .pre .1) one so few (omega (arith, m, c .before .before .if2 .left, r .few)) (c .if3 .taken)),
+      λ o p x so. subst (λ (l : List ℕ). ScopeOpened (a .s .now) (a .b .now) (a .ent .now) l o (whole (a .rc) (a .sc .now)) (failed (whole (a .rc) (a .sc .now)) 23) (a .d) p x) (sym is) (plain-deep (a .s .now) (a .b .now) (a .ent .now) o (whole (a .rc) (a .sc .now)) (a .d) p x (a .q) (a .n) (a .values) (z .pre .0 .answers) (z .pre .1) one so few (omega (arith, m, c .before .before .if2 .left, r .few)) (omega (arith, c .if3 .taken))),
     )
 
 front-requires : tie.Need-front-requires
@@ -221,7 +221,7 @@ open-pairs-spec =
     current-number-requires
     merge-into-requires
     merged-entries-requires
-    sub-if2
+    sub-room
     same-length-2
     same-length-3
     returns-2
