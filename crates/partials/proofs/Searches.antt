@@ -112,6 +112,10 @@ filled-outer s b ent sc used t st m (suc n) le = go (eqb (getD (scopes-of sc) n 
         ∙ turn-outer s b ent (scopes-of sc) used t st (suc n) (omega arith) le m (λ i lt. absurd (omega arith))
     go false e h = refl
 
+-- where all are such, there is none
+pub none-filled : (s b : Bytes) (ent sc : List ℕ) (used t : ℕ) → ScopesStand s b ent (scopes-of sc) used t → (m : Bytes) → filled sc used ≡ 0 → get-partial (blocks-of s b ent (scopes-of sc) used) m ≡ none
+none-filled s b ent sc used t st m e = sym (filled-outer s b ent sc used t st m used (omega arith)) ∙ ap (λ (j : ℕ). get-partial (blocks-of s b ent (scopes-of sc) j) m) e
+
 -- Templates, by their places
 
 pub named-so : (x : Bool) (m l k : Bytes) → x ≡ same m l → l ≡ k → x ≡ same k m

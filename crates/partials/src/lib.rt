@@ -13,6 +13,7 @@ ghost use Rattle.parts.specs.Holds.{Holds};
 ghost use Rattle.registry.specs.Templates.{templates-at, found-view};
 ghost use Rattle.registry.specs.Index.{Indexed};
 ghost use Rattle.places.specs.Accepted.{Accepted};
+ghost use Rattle.value.specs.declared.Value.the-variants.{Text};
 ghost use Rattle.meaning.specs.Standing.{Stands};
 ghost use Rattle.meaning.specs.Forms.{Known};
 ghost use Rattle.meaning.specs.Means.{Means};
@@ -130,6 +131,30 @@ pub fn find_partial(
         return Found::Inline(entries::place(ent, k), entries::high(ent, k) as usize);
     }
     let t = get_template(s, tab, b, places, v);
+    match t {
+        registry::Found::Template(_, name, body) => Found::Template(name, body),
+        registry::Found::Missing => Found::Nothing,
+    }
+}
+
+// The same of the string at q. Mostly no scope has an inline partial: then the templates alone are looked through.
+pub fn find_named(
+    s: &[u8],
+    tab: &[u64],
+    b: &[u8],
+    places: &[u32],
+    ent: &[u64],
+    sc: &[u64],
+    used: usize,
+    q: usize,
+) -> Found
+    requires { ⌜ Accepted (now s) (now tab) × (length (now b) ≤ 65536) × Holds (templates 16) (bits (now b)) 8 × (field (bits (now b)) 8 8 ≤ length (now places)) × Indexed (body 16 16) (bits (now b)) (field (bits (now b)) 8 8) (now places) × (used ≤ 32) × ((t : ℕ) × ScopesStand (now s) (now b) (now ent) (scopes-of (now sc)) used t) × Holds string (bits (now b)) q × (length (now sc) ≡ 96) ⌝ }
+    ensures { λ r. ⌜ FoundIs (bits (now (b .entry))) (name-of (now (s .entry)) (now (b .entry)) (now (ent .entry)) (Text q)) (get-partial (blocks-of (now (s .entry)) (now (b .entry)) (now (ent .entry)) (scopes-of (now (sc .entry))) used) (name-of (now (s .entry)) (now (b .entry)) (now (ent .entry)) (Text q))) (get-template (templates-at 16 (bits (now (b .entry)))) (name-of (now (s .entry)) (now (b .entry)) (now (ent .entry)) (Text q))) r ⌝ }
+{
+    if filled(sc, used) != 0 {
+        return find_partial(s, tab, b, places, ent, sc, used, Value::Text(q));
+    }
+    let t = registry::get_indexed(b, places, q);
     match t {
         registry::Found::Template(_, name, body) => Found::Template(name, body),
         registry::Found::Missing => Found::Nothing,

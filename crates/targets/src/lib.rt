@@ -143,7 +143,7 @@ pub fn expand_named(
     if is_block(b, q) {
         return block_target(sc, own, rc);
     }
-    match partials::find_partial(s, tab, b, index, ent, sc, rc.used, Value::Text(q)) {
+    match partials::find_named(s, tab, b, index, ent, sc, rc.used, q) {
         Found::Inline(t, e) => Target::Body(t, e, 0, own),
         Found::Template(n, t) => Target::Body(t, 16, n + 1, own),
         Found::Nothing => own_target(own, d),

@@ -10,7 +10,6 @@ use Rattle.rules.specs.Partial.{get-partial, is-current-template}
 use Rattle.parts.specs.HoldsLaws.{string-in}
 use Rattle.registry.specs.Templates.{templates-at}
 use Rattle.value.specs.declared.Value.the-variants.{Text}
-use Rattle.meaning.specs.Standing.{plain}
 use Rattle.scope.specs.NamesLaws.{string-near}
 use Rattle.scope.specs.Scopes.{blocks-of}
 use Rattle.scope.specs.Words.{scopes-of}
@@ -65,13 +64,13 @@ returns-2 c =
     subst (Decided (a .s .now) (a .b .now) (a .ent .now) (whole (a .rc) (a .sc .now)) (a .d) (Text (a .q)) (a .own)) (sym (c .block-target .ensures))
     (decided-block (a .s .now) (a .b .now) (a .ent .now) (whole (a .rc) (a .sc .now)) (a .d) (Text (a .q)) (a .own) y self (c .before .before .before .if1 .left) k block (c .before .if2 .taken) (z .pre .3))
 
-find-partial-requires : tie.Need-find-partial-requires
-find-partial-requires c κs =
+find-named-requires : tie.Need-find-named-requires
+find-named-requires c κs =
     let z = c .before .before .before .before .before .before .before .before .before .before in
     let a = z .args in
     let b = bits (a .b .now) in
     let g = z .pre .0 in
-    (g .plan, g .small, g .bundle, g .listed, g .indexed, z .pre .1 .ready .most, (_, z .pre .1 .ready .scopes), (0, plain refl (z .pre .4)), z .pre .6)
+    (g .plan, g .small, g .bundle, g .listed, g .indexed, z .pre .1 .ready .most, (_, z .pre .1 .ready .scopes), z .pre .4, z .pre .6)
 
 enum-known-t : tie.Need-enum-known-t
 enum-known-t c = search needs
@@ -79,13 +78,13 @@ enum-known-t c = search needs
 enum-known-n : tie.Need-enum-known-n
 enum-known-n c = search needs
 
-add-t20 : tie.Need-add-t20
-add-t20 c =
+add-t19 : tie.Need-add-t19
+add-t19 c =
     let z = c .before .before .before .before .before .before .before .before .before .before .before .before .before .before in
     let a = z .args in
     let b = bits (a .b .now) in
     let nm = name-of (a .s .now) (a .b .now) (a .ent .now) (Text (a .q)) in
-    let f = subst (FoundIs b nm (get-partial (blocks-of (a .s .now) (a .b .now) (a .ent .now) (scopes-of (a .sc .now)) (a .rc .used)) nm) (get-template (templates-at 16 b) nm)) (c .before .n .given .1) (c .before .before .before .find-partial .ensures) in
+    let f = subst (FoundIs b nm (get-partial (blocks-of (a .s .now) (a .b .now) (a .ent .now) (scopes-of (a .sc .now)) (a .rc .used)) nm) (get-template (templates-at 16 b) nm)) (c .before .n .given .1) (c .before .before .before .find-named .ensures) in
     let near = string-near (a .b .now) (c .before .n .given .0 .0) (z .pre .0 .small) (f .name) in
     search needs
 
@@ -104,7 +103,7 @@ returns-3 c =
     let self = text-means (a .s .now) (a .b .now) (a .q) (is-current-template (template-name b (a .rc .template))) y (c .before .before .before .before .before .before .before .is-self .ensures) in
     let k = c .before .before .before .before .before .is-block .result in
     let block = text-means (a .s .now) (a .b .now) (a .q) (λ (m : Bytes). same m (ascii "@partial-block")) k (c .before .before .before .before .before .is-block .ensures) in
-    decided-inline (a .s .now) (a .b .now) (a .ent .now) (whole (a .rc) (a .sc .now)) (a .d) (Text (a .q)) (a .own) y self (c .before .before .before .before .before .before .if1 .left) k block (c .before .before .before .before .if2 .left) (c .before .before .before .find-partial .result) (c .before .before .before .find-partial .ensures) (z .pre .3) (z .pre .2) (c .before .t .given .0 .0) (c .before .t .given .0 .1 .0) (c .before .t .given .1)
+    decided-inline (a .s .now) (a .b .now) (a .ent .now) (whole (a .rc) (a .sc .now)) (a .d) (Text (a .q)) (a .own) y self (c .before .before .before .before .before .before .if1 .left) k block (c .before .before .before .before .if2 .left) (c .before .before .before .find-named .result) (c .before .before .before .find-named .ensures) (z .pre .3) (z .pre .2) (c .before .t .given .0 .0) (c .before .t .given .0 .1 .0) (c .before .t .given .1)
 
 returns-4 : tie.Need-returns-4
 returns-4 c =
@@ -115,7 +114,7 @@ returns-4 c =
     let self = text-means (a .s .now) (a .b .now) (a .q) (is-current-template (template-name b (a .rc .template))) y (c .before .before .before .before .before .before .before .is-self .ensures) in
     let k = c .before .before .before .before .before .is-block .result in
     let block = text-means (a .s .now) (a .b .now) (a .q) (λ (m : Bytes). same m (ascii "@partial-block")) k (c .before .before .before .before .before .is-block .ensures) in
-    decided-template (a .s .now) (a .b .now) (a .ent .now) (whole (a .rc) (a .sc .now)) (a .d) (Text (a .q)) (a .own) y self (c .before .before .before .before .before .before .if1 .left) k block (c .before .before .before .before .if2 .left) (c .before .before .before .find-partial .result) (c .before .before .before .find-partial .ensures) (z .pre .3) (z .pre .2) (c .before .n .given .0 .0) (c .before .n .given .0 .1 .0) (c .before .n .given .1)
+    decided-template (a .s .now) (a .b .now) (a .ent .now) (whole (a .rc) (a .sc .now)) (a .d) (Text (a .q)) (a .own) y self (c .before .before .before .before .before .before .if1 .left) k block (c .before .before .before .before .if2 .left) (c .before .before .before .find-named .result) (c .before .before .before .find-named .ensures) (z .pre .3) (z .pre .2) (c .before .n .given .0 .0) (c .before .n .given .0 .1 .0) (c .before .n .given .1)
 
 returns-5 : tie.Need-returns-5
 returns-5 c =
@@ -127,7 +126,7 @@ returns-5 c =
     let k = c .before .before .before .before .before .is-block .result in
     let block = text-means (a .s .now) (a .b .now) (a .q) (λ (m : Bytes). same m (ascii "@partial-block")) k (c .before .before .before .before .before .is-block .ensures) in
     subst (Decided (a .s .now) (a .b .now) (a .ent .now) (whole (a .rc) (a .sc .now)) (a .d) (Text (a .q)) (a .own)) (sym (c .own-target .ensures))
-    (decided-nothing (a .s .now) (a .b .now) (a .ent .now) (whole (a .rc) (a .sc .now)) (a .d) (Text (a .q)) (a .own) y self (c .before .before .before .before .before .before .if1 .left) k block (c .before .before .before .before .if2 .left) (c .before .before .before .find-partial .result) (c .before .before .before .find-partial .ensures) (z .pre .3) (z .pre .2) (c .before .enum-told .given .1))
+    (decided-nothing (a .s .now) (a .b .now) (a .ent .now) (whole (a .rc) (a .sc .now)) (a .d) (Text (a .q)) (a .own) y self (c .before .before .before .before .before .before .if1 .left) k block (c .before .before .before .before .if2 .left) (c .before .before .before .find-named .result) (c .before .before .before .find-named .ensures) (z .pre .3) (z .pre .2) (c .before .enum-told .given .1))
 
 pub expand-named-spec : {M : Type 1} → statement M
 expand-named-spec =
@@ -138,10 +137,10 @@ expand-named-spec =
     is-block-requires
     block-target-requires
     returns-2
-    find-partial-requires
+    find-named-requires
     enum-known-t
     enum-known-n
-    add-t20
+    add-t19
     enum-told
     own-target-requires
     returns-3
