@@ -32,6 +32,7 @@ use Rattle.value.specs.declared.Value.the-variants.{Missing, Null, False, True,
 use Rattle.meaning.specs.Meaning.{is-missing, json-of, scoped-of}
 use Rattle.meaning.specs.MeaningLaws.{plain-is}
 use Rattle.meaning.specs.Standing.{plain}
+use Rattle.meaning.specs.Means.{Means}
 use Rattle.lookup.specs.Answers.{IsFound}
 use Rattle.members.specs.Turns.{each-turns}
 use Rattle.expand.specs.declared.Options.{Options}
@@ -144,6 +145,17 @@ truthy-present s b ent (Text p) e = refl
 truthy-present s b ent (SaidChar o n) e = refl
 truthy-present s b ent (PackedChar p n) e = refl
 truthy-present s b ent (Merged h n) e = refl
+
+-- a boolean is true as it says, by either truth
+truth-of-bool : (guide z x : Bool) → x ≡ truth guide z (jbool x)
+truth-of-bool true z x = refl
+truth-of-bool false z x = refl
+
+pub true-means : (s b : Bytes) (guide z : Bool) (v : Value) → v ≡ True → Means s b v (λ j. true ≡ truth guide z j)
+true-means s b guide z v e = record { at = λ ent t st. truth-of-bool guide z true ∙ ap (truth guide z) (sym (ap (json-of s b ent) e ∙ plain-is s b ent True refl)) }
+
+pub false-means : (s b : Bytes) (guide z : Bool) (v : Value) → v ≡ False → Means s b v (λ j. false ≡ truth guide z j)
+false-means s b guide z v e = record { at = λ ent t st. truth-of-bool guide z false ∙ ap (truth guide z) (sym (ap (json-of s b ent) e ∙ plain-is s b ent False refl)) }
 
 -- Against the code
 

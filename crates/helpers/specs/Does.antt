@@ -92,9 +92,30 @@ Helping s b ent used o w ht hi f r =
     (g : Registry) (st : RenderContext) (t : ℕ) (e : block-util.Expanded) (ns : BlockParam) (T I : Drawable) → Guided used o g st → IsExpanded s b ent t w e → ht ≡ has T → hi ≡ has I
     → Helps s b ent t used ns T I st (f g e ns T I st) r
 
+-- a call by its parts: its name, how many parameters, the first two, what includeZero says, and the refusal
+abbrev pub given : Value → ℕ → Value → Value → Bool → ℕ → Expanded
+given n k v u z x = record { name = n; count = k; first = v; second = u; zero = z; bad = x }
+
+-- by some of them, whatever the others are: the first parameter, that and includeZero, or the first two
+abbrev pub HelpingFirst : Bytes → Bytes → ℕ → Options → ℕ → Value → Bool → Bool → (Registry → block-util.Expanded → BlockParam → Drawable → Drawable → Draw) → Does → Type 0
+HelpingFirst s b used o k v ht hi f r = (ent : List ℕ) (n u : Value) (z : Bool) (x : ℕ) → Helping s b ent used o (given n k v u z x) ht hi f r
+
+abbrev pub HelpingTruth : Bytes → Bytes → Options → ℕ → Value → Bool → (Registry → block-util.Expanded → BlockParam → Drawable → Drawable → Draw) → Does → Type 0
+HelpingTruth s b o k v z f r = (ent : List ℕ) (used : ℕ) (ht hi : Bool) (n u : Value) (x : ℕ) → Helping s b ent used o (given n k v u z x) ht hi f r
+
+abbrev pub HelpingBoth : Bytes → Bytes → List ℕ → Options → ℕ → Value → Value → (Registry → block-util.Expanded → BlockParam → Drawable → Drawable → Draw) → Does → Type 0
+HelpingBoth s b ent o k v u f r = (used : ℕ) (ht hi : Bool) (n : Value) (z : Bool) (x : ℕ) → Helping s b ent used o (given n k v u z x) ht hi f r
+
 pub record Decides (s b : Bytes) (ent : List ℕ) (used : ℕ) (o : Options) (h : HelperDef) (w : Expanded) (ht hi : Bool) (r : Does) : Type 0 where
   pub known : (k : registry.HelperDef) → h ≡ helper-of (some k) → Helping s b ent used o w ht hi (λ g e ns T I st. call-helper g k e ns T I st) r
   pub unknown : h ≡ Unknown → r ≡ Bad 14
+
+-- with one parameter, or two, and no hash
+abbrev pub DecidesOne : Bytes → Bytes → ℕ → Options → HelperDef → Value → Bool → Bool → Does → Type 0
+DecidesOne s b used o h v ht hi r = (ent : List ℕ) (n u : Value) → Decides s b ent used o h (given n 1 v u false 0) ht hi r
+
+abbrev pub DecidesTwo : Bytes → Bytes → List ℕ → ℕ → Options → HelperDef → Value → Value → Bool → Bool → Does → Type 0
+DecidesTwo s b ent used o h v u ht hi r = (n : Value) → Decides s b ent used o h (given n 2 v u false 0) ht hi r
 
 -- of an expression's call c
 abbrev pub Expresses : Bytes → Bytes → List ℕ → ℕ → Registry → template.Call → Bool → RenderContext → Res → Shows → Type 0

@@ -24,10 +24,11 @@ ghost use Rattle.calls.specs.Calls.{param-view, param-at, call-at};
 ghost use Rattle.places.specs.Accepted.{Accepted};
 ghost use Rattle.meaning.specs.Forms.{Known};
 ghost use Rattle.meaning.specs.Means.{Means};
+ghost use Rattle.lookup.specs.Answers.{Held};
 ghost use Rattle.scope.specs.Words.{scopes-of};
 ghost use Rattle.scope.specs.Standing.{ScopesStand};
 ghost use Rattle.expand.specs.Answers.{Setting, ExpandedHeld};
-ghost use Rattle.helpers.specs.Does.{has, is-known, Helping, Decides, Expresses, unless-strict, inverse, in-scope, branch, truth, is-collection, shown, rendered};
+ghost use Rattle.helpers.specs.Does.{has, is-known, HelpingFirst, HelpingTruth, HelpingBoth, Decides, DecidesOne, DecidesTwo, Expresses, unless-strict, inverse, in-scope, branch, truth, is-collection, shown, rendered};
 use calls::Parameter;
 use context::Evaluated;
 use expand::Expanded;
@@ -94,11 +95,17 @@ fn branch(template: bool) -> Does
     Does::Inverse
 }
 
-// Guide truth (added) does not heed includeZero.
+// Guide truth (added) does not heed includeZero. Most values are told without their form: local variables are true or false.
 fn truth(s: &[u8], tab: &[u64], b: &[u8], v: Value, guide: bool, zero: bool) -> bool
     requires { ⌜ Accepted (now s) (now tab) × (length (now b) ≤ 65536) × Known (now s) (now b) v ⌝ }
     ensures { λ r. ⌜ Means (now (s .entry)) (now (b .entry)) v (λ j. r ≡ truth guide zero j) ⌝ }
 {
+    if let Value::True = v {
+        return true;
+    }
+    if let Value::False = v {
+        return false;
+    }
     if guide {
         return meaning::guide_truthy(s, tab, b, v);
     }
@@ -122,7 +129,7 @@ fn is_collection(s: &[u8], tab: &[u64], b: &[u8], v: Value) -> bool
     }
 }
 
-// The helpers
+// The helpers, by how many parameters there are and the first of them. (They take these one by one: a call's parts in one struct would go through memory.)
 
 fn each_helper(
     s: &[u8],
@@ -130,20 +137,20 @@ fn each_helper(
     b: &[u8],
     used: usize,
     options: Options,
-    w: Expanded,
+    count: usize,
+    v: Value,
     has_template: bool,
     has_inverse: bool,
 ) -> Does
-    requires { ⌜ Accepted (now s) (now tab) × (length (now b) ≤ 65536) × Known (now s) (now b) (w .first) ⌝ }
-    ensures { λ r. ⌜ ((ent : List ℕ) → Helping (now (s .entry)) (now (b .entry)) ent used options w «has_template» «has_inverse» (λ g e ns T I st. each-helper g (e .params) ns T I st) r) ⌝ }
+    requires { ⌜ Accepted (now s) (now tab) × (length (now b) ≤ 65536) × Known (now s) (now b) v ⌝ }
+    ensures { λ r. ⌜ HelpingFirst (now (s .entry)) (now (b .entry)) used options count v «has_template» «has_inverse» (λ g e ns T I st. each-helper g (e .params) ns T I st) r ⌝ }
 {
-    if w.count == 0 {
+    if count == 0 {
         return Does::Bad(15);
     }
     if !has_template {
         return Does::Nothing;
     }
-    let v = w.first;
     if !is_collection(s, tab, b, v) {
         return inverse(options.strict, has_inverse);
     }
@@ -164,17 +171,17 @@ fn with_helper(
     b: &[u8],
     used: usize,
     options: Options,
-    w: Expanded,
+    count: usize,
+    v: Value,
     has_template: bool,
     has_inverse: bool,
 ) -> Does
-    requires { ⌜ Accepted (now s) (now tab) × (length (now b) ≤ 65536) × Known (now s) (now b) (w .first) ⌝ }
-    ensures { λ r. ⌜ ((ent : List ℕ) → Helping (now (s .entry)) (now (b .entry)) ent used options w «has_template» «has_inverse» (λ g e ns T I st. with-helper g (e .params) ns T I st) r) ⌝ }
+    requires { ⌜ Accepted (now s) (now tab) × (length (now b) ≤ 65536) × Known (now s) (now b) v ⌝ }
+    ensures { λ r. ⌜ HelpingFirst (now (s .entry)) (now (b .entry)) used options count v «has_template» «has_inverse» (λ g e ns T I st. with-helper g (e .params) ns T I st) r ⌝ }
 {
-    if w.count == 0 {
+    if count == 0 {
         return Does::Bad(15);
     }
-    let v = w.first;
     if meaning::is_truthy(s, tab, b, v, false) {
         return in_scope(used, Does::Within(v));
     }
@@ -182,15 +189,23 @@ fn with_helper(
 }
 
 // if, or where it is not positive unless.
-fn if_helper(s: &[u8], tab: &[u64], b: &[u8], options: Options, w: Expanded, positive: bool) -> Does
-    requires { ⌜ Accepted (now s) (now tab) × (length (now b) ≤ 65536) × Known (now s) (now b) (w .first) ⌝ }
-    ensures { λ r. ⌜ ((ent : List ℕ) (used : ℕ) (ht hi : Bool) → Helping (now (s .entry)) (now (b .entry)) ent used options w ht hi (λ g e ns T I st. if-helper g positive (e .params) (e .hash) T I st) r) ⌝ }
+fn if_helper(
+    s: &[u8],
+    tab: &[u64],
+    b: &[u8],
+    options: Options,
+    count: usize,
+    v: Value,
+    zero: bool,
+    positive: bool,
+) -> Does
+    requires { ⌜ Accepted (now s) (now tab) × (length (now b) ≤ 65536) × Known (now s) (now b) v ⌝ }
+    ensures { λ r. ⌜ HelpingTruth (now (s .entry)) (now (b .entry)) options count v zero (λ g e ns T I st. if-helper g positive (e .params) (e .hash) T I st) r ⌝ }
 {
-    if w.count == 0 {
+    if count == 0 {
         return Does::Bad(15);
     }
-    let v = w.first;
-    if truth(s, tab, b, v, options.guide_truth, w.zero) {
+    if truth(s, tab, b, v, options.guide_truth, zero) {
         return branch(positive);
     }
     branch(!positive)
@@ -202,16 +217,16 @@ fn lookup_helper(
     b: &[u8],
     ent: &[u64],
     options: Options,
-    w: Expanded,
+    count: usize,
+    v: Value,
+    i: Value,
 ) -> Does
-    requires { ⌜ Accepted (now s) (now tab) × (length (now b) ≤ 65536) × ExpandedHeld (now s) (now b) (now ent) w ⌝ }
-    ensures { λ r. ⌜ ((used : ℕ) (ht hi : Bool) → Helping (now (s .entry)) (now (b .entry)) (now (ent .entry)) used options w ht hi (λ g e ns T I st. lookup-helper g (e .params) st) r) ⌝ }
+    requires { ⌜ Accepted (now s) (now tab) × (length (now b) ≤ 65536) × Held (now s) (now b) (now ent) v × Held (now s) (now b) (now ent) i ⌝ }
+    ensures { λ r. ⌜ HelpingBoth (now (s .entry)) (now (b .entry)) (now (ent .entry)) options count v i (λ g e ns T I st. lookup-helper g (e .params) st) r ⌝ }
 {
-    if w.count < 2 {
+    if count < 2 {
         return Does::Bad(15);
     }
-    let v = w.first;
-    let i = w.second;
     let Found::Is(x) = lookup::looked_up(s, tab, b, ent, v, i) else {
         return unless_strict(options.strict, Does::Write(Value::Null));
     };
@@ -234,12 +249,91 @@ pub fn call_helper(
     requires { ⌜ Accepted (now s) (now tab) × (length (now b) ≤ 65536) × ExpandedHeld (now s) (now b) (now ent) w ⌝ }
     ensures { λ r. ⌜ Decides (now (s .entry)) (now (b .entry)) (now (ent .entry)) used options h w «has_template» «has_inverse» r ⌝ }
 {
+    let v = w.first;
+    let i = w.second;
     match h {
-        HelperDef::Each => each_helper(s, tab, b, used, options, w, has_template, has_inverse),
-        HelperDef::With => with_helper(s, tab, b, used, options, w, has_template, has_inverse),
-        HelperDef::If => if_helper(s, tab, b, options, w, true),
-        HelperDef::Unless => if_helper(s, tab, b, options, w, false),
-        HelperDef::Lookup => lookup_helper(s, tab, b, ent, options, w),
+        HelperDef::Each => {
+            each_helper(
+                s,
+                tab,
+                b,
+                used,
+                options,
+                w.count,
+                v,
+                has_template,
+                has_inverse,
+            )
+        }
+        HelperDef::With => {
+            with_helper(
+                s,
+                tab,
+                b,
+                used,
+                options,
+                w.count,
+                v,
+                has_template,
+                has_inverse,
+            )
+        }
+        HelperDef::If => if_helper(s, tab, b, options, w.count, v, w.zero, true),
+        HelperDef::Unless => if_helper(s, tab, b, options, w.count, v, w.zero, false),
+        HelperDef::Lookup => lookup_helper(s, tab, b, ent, options, w.count, v, i),
+        HelperDef::Unknown => Does::Bad(14),
+    }
+}
+
+// The same with one parameter and no hash.
+pub fn call_one(
+    s: &[u8],
+    tab: &[u64],
+    b: &[u8],
+    used: usize,
+    options: Options,
+    h: HelperDef,
+    v: Value,
+    has_template: bool,
+    has_inverse: bool,
+) -> Does
+    requires { ⌜ Accepted (now s) (now tab) × (length (now b) ≤ 65536) × Known (now s) (now b) v ⌝ }
+    ensures { λ r. ⌜ DecidesOne (now (s .entry)) (now (b .entry)) used options h v «has_template» «has_inverse» r ⌝ }
+{
+    match h {
+        HelperDef::Each => each_helper(s, tab, b, used, options, 1, v, has_template, has_inverse),
+        HelperDef::With => with_helper(s, tab, b, used, options, 1, v, has_template, has_inverse),
+        HelperDef::If => if_helper(s, tab, b, options, 1, v, false, true),
+        HelperDef::Unless => if_helper(s, tab, b, options, 1, v, false, false),
+        // it wants two
+        HelperDef::Lookup => Does::Bad(15),
+        HelperDef::Unknown => Does::Bad(14),
+    }
+}
+
+// The same with two parameters and no hash.
+pub fn call_two(
+    s: &[u8],
+    tab: &[u64],
+    b: &[u8],
+    ent: &[u64],
+    used: usize,
+    options: Options,
+    h: HelperDef,
+    v: Value,
+    i: Value,
+    has_template: bool,
+    has_inverse: bool,
+) -> Does
+    requires { ⌜ Accepted (now s) (now tab) × (length (now b) ≤ 65536) × Held (now s) (now b) (now ent) v × Held (now s) (now b) (now ent) i ⌝ }
+    ensures { λ r. ⌜ DecidesTwo (now (s .entry)) (now (b .entry)) (now (ent .entry)) used options h v i «has_template» «has_inverse» r ⌝ }
+{
+    match h {
+        HelperDef::Each => each_helper(s, tab, b, used, options, 2, v, has_template, has_inverse),
+        HelperDef::With => with_helper(s, tab, b, used, options, 2, v, has_template, has_inverse),
+        HelperDef::If => if_helper(s, tab, b, options, 2, v, false, true),
+        HelperDef::Unless => if_helper(s, tab, b, options, 2, v, false, false),
+        HelperDef::Lookup => lookup_helper(s, tab, b, ent, options, 2, v, i),
         HelperDef::Unknown => Does::Bad(14),
     }
 }

@@ -33,25 +33,25 @@ enum-told-5 : tie.Need-enum-told-5
 enum-told-5 c = search needs
 
 lookup-helper-requires : tie.Need-lookup-helper-requires
-lookup-helper-requires c κs = search needs
+lookup-helper-requires c κs = let z = c .before .before .before .before .before .before in (z .pre .0, z .pre .1, record { used = z .pre .2 .used; room = z .pre .2 .room; stands = z .pre .2 .first }, record { used = z .pre .2 .used; room = z .pre .2 .room; stands = z .pre .2 .second })
 
 enum-told-6 : tie.Need-enum-told-6
 enum-told-6 c = search needs
 
 returns : tie.Need-returns
-returns c = let z = c .before .before .before .before .before .before .before in by-each (z .args .s .now) (z .args .b .now) (z .args .ent .now) (z .args .used) (z .args .options) (z .args .h) (z .args .w) (z .args .has-template) (z .args .has-inverse) (c .before .enum-told .given .1) (c .each-helper .result) (c .each-helper .ensures (z .args .ent .now))
+returns c = let z = c .before .before .before .before .before .before .before in by-each (z .args .s .now) (z .args .b .now) (z .args .ent .now) (z .args .used) (z .args .options) (z .args .h) (z .args .w) (z .args .has-template) (z .args .has-inverse) (c .before .enum-told .given .1) (c .each-helper .result) (c .each-helper .ensures (z .args .ent .now) (z .args .w .name) (z .args .w .second) (z .args .w .zero) (z .args .w .bad))
 
 returns-2 : tie.Need-returns-2
-returns-2 c = let z = c .before .before .before .before .before .before .before in by-with (z .args .s .now) (z .args .b .now) (z .args .ent .now) (z .args .used) (z .args .options) (z .args .h) (z .args .w) (z .args .has-template) (z .args .has-inverse) (c .before .enum-told2 .given .1) (c .with-helper .result) (c .with-helper .ensures (z .args .ent .now))
+returns-2 c = let z = c .before .before .before .before .before .before .before in by-with (z .args .s .now) (z .args .b .now) (z .args .ent .now) (z .args .used) (z .args .options) (z .args .h) (z .args .w) (z .args .has-template) (z .args .has-inverse) (c .before .enum-told2 .given .1) (c .with-helper .result) (c .with-helper .ensures (z .args .ent .now) (z .args .w .name) (z .args .w .second) (z .args .w .zero) (z .args .w .bad))
 
 returns-3 : tie.Need-returns-3
-returns-3 c = let z = c .before .before .before .before .before .before .before in by-if (z .args .s .now) (z .args .b .now) (z .args .ent .now) (z .args .used) (z .args .options) (z .args .h) (z .args .w) (z .args .has-template) (z .args .has-inverse) (c .before .enum-told3 .given .1) (c .if-helper .result) (c .if-helper .ensures (z .args .ent .now) (z .args .used) (z .args .has-template) (z .args .has-inverse))
+returns-3 c = let z = c .before .before .before .before .before .before .before in by-if (z .args .s .now) (z .args .b .now) (z .args .ent .now) (z .args .used) (z .args .options) (z .args .h) (z .args .w) (z .args .has-template) (z .args .has-inverse) (c .before .enum-told3 .given .1) (c .if-helper .result) (c .if-helper .ensures (z .args .ent .now) (z .args .used) (z .args .has-template) (z .args .has-inverse) (z .args .w .name) (z .args .w .second) (z .args .w .bad))
 
 returns-4 : tie.Need-returns-4
-returns-4 c = let z = c .before .before .before .before .before .before .before in by-unless (z .args .s .now) (z .args .b .now) (z .args .ent .now) (z .args .used) (z .args .options) (z .args .h) (z .args .w) (z .args .has-template) (z .args .has-inverse) (c .before .enum-told4 .given .1) (c .if-helper2 .result) (c .if-helper2 .ensures (z .args .ent .now) (z .args .used) (z .args .has-template) (z .args .has-inverse))
+returns-4 c = let z = c .before .before .before .before .before .before .before in by-unless (z .args .s .now) (z .args .b .now) (z .args .ent .now) (z .args .used) (z .args .options) (z .args .h) (z .args .w) (z .args .has-template) (z .args .has-inverse) (c .before .enum-told4 .given .1) (c .if-helper2 .result) (c .if-helper2 .ensures (z .args .ent .now) (z .args .used) (z .args .has-template) (z .args .has-inverse) (z .args .w .name) (z .args .w .second) (z .args .w .bad))
 
 returns-5 : tie.Need-returns-5
-returns-5 c = let z = c .before .before .before .before .before .before .before in by-lookup (z .args .s .now) (z .args .b .now) (z .args .ent .now) (z .args .used) (z .args .options) (z .args .h) (z .args .w) (z .args .has-template) (z .args .has-inverse) (c .before .enum-told5 .given .1) (c .lookup-helper .result) (c .lookup-helper .ensures (z .args .used) (z .args .has-template) (z .args .has-inverse))
+returns-5 c = let z = c .before .before .before .before .before .before .before in by-lookup (z .args .s .now) (z .args .b .now) (z .args .ent .now) (z .args .used) (z .args .options) (z .args .h) (z .args .w) (z .args .has-template) (z .args .has-inverse) (c .before .enum-told5 .given .1) (c .lookup-helper .result) (c .lookup-helper .ensures (z .args .used) (z .args .has-template) (z .args .has-inverse) (z .args .w .name) (z .args .w .zero) (z .args .w .bad))
 
 returns-6 : tie.Need-returns-6
 returns-6 c = let z = c .before .before .before .before .before .before in by-none (z .args .s .now) (z .args .b .now) (z .args .ent .now) (z .args .used) (z .args .options) (z .args .h) (z .args .w) (z .args .has-template) (z .args .has-inverse) (c .enum-told6 .given .1)
