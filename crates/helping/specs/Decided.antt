@@ -2,6 +2,7 @@
 use Prim.Native.Nat.{ℕ}
 use mathlib.Core.Bool.{Bool}
 use mathlib.Core.List.{List}
+use mathlib.Core.Path.{_≡_}
 use Rattle.rules.specs.Bytes.{Bytes}
 use Rattle.rules.specs.Bits.{bits}
 use Rattle.rules.specs.Template as template
@@ -12,11 +13,13 @@ use Rattle.rules.specs.Render.{render-helper, render-body}
 use Rattle.parts.specs.declared.Maybe.{Maybe}
 use Rattle.calls.specs.Calls.{call-at}
 use Rattle.template.specs.Views.{body-says}
+use Rattle.scope.specs.declared.Scope.{Scope}
 use Rattle.expand.specs.declared.Options.{Options}
 use Rattle.helpers.specs.declared.Does.{Does}
 use Rattle.state.specs.Context.{RenderContext}
 use Rattle.state.specs.Setters.{marked, finished}
 use Rattle.state.specs.World.{World, world, over, Ready}
+use Rattle.inlining.specs.Decorated.{is-at}
 use Rattle.drawing.specs.Parts.{before-helper}
 use Rattle.drawing.specs.Renders.{Renders, Possible, Helped}
 
@@ -36,3 +39,7 @@ pub record Drawable (s b : Bytes) (o : Options) (w : World) (d p : ℕ) (before 
 -- whatever page, texts and indent there are
 pub record Decided (s b : Bytes) (ent : List ℕ) (o : Options) (c : RenderContext) (d p : ℕ) (tm im : Maybe) (a : Does) : Type 0 where
   pub at : (page texts indent : Bytes) (before : Bool) (ns : template.BlockParam) → Ready s b (world c page texts indent ent) → Drawable s b o (world c page texts indent ent) d p before ns tm im a
+
+-- of a call by the scopes that are open and the bodies that there are, whatever the context is else
+abbrev pub DecidedBy : Bytes → Bytes → List ℕ → List Scope → ℕ → Options → ℕ → ℕ → Bool → Bool → Does → Type 0
+DecidedBy s b ent l used o d p ht hi a = (c : RenderContext) (tm im : Maybe) → c .scopes ≡ l → c .used ≡ used → ht ≡ is-at tm → hi ≡ is-at im → Decided s b ent o c d p tm im a

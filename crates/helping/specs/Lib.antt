@@ -1,3 +1,4 @@
 pub mod Begun
 pub mod Decided
+pub mod Few
 pub mod Laws

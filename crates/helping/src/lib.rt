@@ -11,6 +11,8 @@ ghost use Rattle.rules.specs.Bundle.{body, param, call-of, block-names};
 ghost use Rattle.parts.specs.Holds.{Holds};
 ghost use Rattle.parts.specs.Says.{MaybeHolds};
 ghost use Rattle.places.specs.Accepted.{Accepted};
+ghost use Rattle.scope.specs.Words.{scopes-of};
+ghost use Rattle.scope.specs.Standing.{ScopesStand};
 ghost use Rattle.state.specs.Setters.{marked};
 ghost use Rattle.state.specs.World.{world, Ready};
 ghost use Rattle.inlining.specs.Decorated.{SomeReady};
@@ -18,13 +20,169 @@ ghost use Rattle.drawing.specs.Parts.{before-helper};
 ghost use Rattle.blocks.specs.Opened.{Opens};
 ghost use Rattle.state.specs.Context.{whole};
 ghost use Rattle.helping.specs.Begun.{whole-begun, done, body-next, within-next, turns-next, HelperBegun};
-ghost use Rattle.helping.specs.Decided.{Decided};
+ghost use Rattle.helping.specs.Decided.{Decided, DecidedBy};
+ghost use Rattle.helping.specs.Few.{SecondHolds, second-view, few-view, FewIs};
+use context::Evaluated;
 use expand::Options;
 use helpers::Does;
 use output::Writer;
 use parts::Maybe;
 use state::RenderContext;
 use value::Value;
+
+// A call whose name is a string, with no hash and few parameters: most are such.
+enum Few {
+    // the path that is the only one
+    One(usize),
+    // a path, and behind it a literal
+    Two(usize, usize),
+    Other,
+}
+
+// The path at v is followed by one parameter more.
+fn second_at(b: &[u8], v: usize) -> Few
+    requires { ⌜ (length (now b) ≤ 65536) × SecondHolds (bits (now b)) v ⌝ }
+    ensures { λ r. ⌜ r ≡ second-view (bits (now (b .entry))) v ⌝ }
+{
+    let e = parts::skip_path(b, v);
+    if bits::field(b, e, 2) != 2 {
+        return Few::Other;
+    }
+    let l = e + 2;
+    let f = parts::skip_literal(b, l);
+    if bits::field(b, f, 4) == 0 {
+        return Few::Two(v, l);
+    }
+    Few::Other
+}
+
+// The call at p, read with few reads.
+fn few_at(b: &[u8], p: usize, d: usize) -> Few
+    requires { ⌜ (length (now b) ≤ 65536) × Holds (call-of (param d)) (bits (now b)) p ⌝ }
+    ensures { λ r. ⌜ r ≡ few-view (bits (now (b .entry))) p ⌝ }
+{
+    // its name's kind, and the count of the string that a name is
+    let x = bits::field(b, p, 18);
+    if 65535 < x {
+        return Few::Other;
+    }
+    let q = p + 18 + 8 * (x as usize);
+    // the count of parameters, and the first one's kind
+    let y = bits::field(b, q, 6);
+    if y == 5 {
+        let e = parts::skip_path(b, q + 6);
+        if bits::field(b, e, 4) == 0 {
+            return Few::One(q + 6);
+        }
+        return Few::Other;
+    }
+    if y == 9 {
+        return second_at(b, q + 6);
+    }
+    Few::Other
+}
+
+// What the helper of the call at p does: its name is a string, and the path at v its only parameter.
+fn decide_one(
+    s: &[u8],
+    tab: &[u64],
+    b: &[u8],
+    ent: &[u64],
+    sc: &[u64],
+    used: usize,
+    options: Options,
+    p: usize,
+    v: usize,
+    has_template: bool,
+    has_inverse: bool,
+    d: usize,
+) -> Does
+    requires { ⌜ Accepted (now s) (now tab) × (length (now b) ≤ 65536) × (0 < used) × (used ≤ 32) × ((t : ℕ) × ScopesStand (now s) (now b) (now ent) (scopes-of (now sc)) used t) × FewIs d (bits (now b)) p (Few.One v) × (length (now sc) ≡ 96) ⌝ }
+    ensures { λ r. ⌜ DecidedBy (now (s .entry)) (now (b .entry)) (now (ent .entry)) (scopes-of (now (sc .entry))) used options d p «has_template» «has_inverse» r ⌝ }
+{
+    let found = context::evaluate2(s, tab, b, ent, sc, used, options.recursive_lookup, v);
+    let Evaluated::Is(w) = found else {
+        return Does::Bad(20);
+    };
+    let h = expand::helper_at(b, p + 2);
+    helpers::call_one(s, tab, b, used, options, h, w, has_template, has_inverse)
+}
+
+// The same where the literal at l is a second parameter.
+fn decide_two(
+    s: &[u8],
+    tab: &[u64],
+    b: &[u8],
+    ent: &[u64],
+    sc: &[u64],
+    used: usize,
+    options: Options,
+    p: usize,
+    v: usize,
+    l: usize,
+    has_template: bool,
+    has_inverse: bool,
+    d: usize,
+) -> Does
+    requires { ⌜ Accepted (now s) (now tab) × (length (now b) ≤ 65536) × (0 < used) × (used ≤ 32) × ((t : ℕ) × ScopesStand (now s) (now b) (now ent) (scopes-of (now sc)) used t) × FewIs d (bits (now b)) p (Few.Two v l) × (length (now sc) ≡ 96) ⌝ }
+    ensures { λ r. ⌜ DecidedBy (now (s .entry)) (now (b .entry)) (now (ent .entry)) (scopes-of (now (sc .entry))) used options d p «has_template» «has_inverse» r ⌝ }
+{
+    let found = context::evaluate2(s, tab, b, ent, sc, used, options.recursive_lookup, v);
+    let Evaluated::Is(w) = found else {
+        return Does::Bad(20);
+    };
+    let h = expand::helper_at(b, p + 2);
+    helpers::call_two(
+        s,
+        tab,
+        b,
+        ent,
+        used,
+        options,
+        h,
+        w,
+        Value::Literal(l),
+        has_template,
+        has_inverse,
+    )
+}
+
+// The same of any call.
+fn decide_any(
+    s: &[u8],
+    tab: &[u64],
+    b: &[u8],
+    ent: &[u64],
+    sc: &[u64],
+    used: usize,
+    options: Options,
+    p: usize,
+    has_template: bool,
+    has_inverse: bool,
+    d: usize,
+) -> Does
+    requires { ⌜ Accepted (now s) (now tab) × (length (now b) ≤ 65536) × (0 < used) × (used ≤ 32) × ((t : ℕ) × ScopesStand (now s) (now b) (now ent) (scopes-of (now sc)) used t) × Holds (call-of (param d)) (bits (now b)) p × (length (now sc) ≡ 96) ⌝ }
+    ensures { λ r. ⌜ DecidedBy (now (s .entry)) (now (b .entry)) (now (ent .entry)) (scopes-of (now (sc .entry))) used options d p «has_template» «has_inverse» r ⌝ }
+{
+    let w = expand::try_from_template(s, tab, b, ent, sc, used, options, p, d);
+    if w.bad != 0 {
+        return Does::Bad(w.bad);
+    }
+    let n = w.name;
+    let h = expand::get_helper(s, tab, b, n);
+    helpers::call_helper(
+        s,
+        tab,
+        b,
+        ent,
+        used,
+        options,
+        h,
+        w,
+        has_template,
+        has_inverse,
+    )
+}
 
 // What the helper of the call at p does.
 pub fn decide(
@@ -43,15 +201,14 @@ pub fn decide(
     requires { ⌜ Accepted (now s) (now tab) × (length (now b) ≤ 65536) × SomeReady (now s) (now b) (whole rc (now sc)) (now ent) × Holds (call-of (param d)) (bits (now b)) p × (length (now sc) ≡ 96) ⌝ }
     ensures { λ r. ⌜ Decided (now (s .entry)) (now (b .entry)) (now (ent .entry)) options (whole rc (now (sc .entry))) d p template inverse r ⌝ }
 {
-    let w = expand::try_from_template(s, tab, b, ent, sc, rc.used, options, p, d);
-    if w.bad != 0 {
-        return Does::Bad(w.bad);
-    }
-    let n = w.name;
-    let h = expand::get_helper(s, tab, b, n);
     let t = inlining::is_at(template);
     let i = inlining::is_at(inverse);
-    helpers::call_helper(s, tab, b, ent, rc.used, options, h, w, t, i)
+    let few = few_at(b, p, d);
+    match few {
+        Few::One(v) => decide_one(s, tab, b, ent, sc, rc.used, options, p, v, t, i, d),
+        Few::Two(v, l) => decide_two(s, tab, b, ent, sc, rc.used, options, p, v, l, t, i, d),
+        Few::Other => decide_any(s, tab, b, ent, sc, rc.used, options, p, t, i, d),
+    }
 }
 
 // Whether an indent comes in front of what a helper writes.

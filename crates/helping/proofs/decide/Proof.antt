@@ -1,66 +1,62 @@
+-- `helping::decide` meets its contract.
+use mathlib.Core.Path.{refl, sym, _∙_}
+use Rattle.rules.specs.BundleLaws.{bits-binary}
+use Rattle.rules.specs.Bits.{bits}
 use Rattle.state.specs.Context.{whole}
-use Rattle.scope.specs.Words.{scopes-of}
-use Rattle.expand.specs.Answers.{helper-of}
-use Rattle.rules.specs.Registry.{get-helper}
-use Rattle.inlining.specs.Decorated.{is-at}
-use mathlib.Core.Bool.{Bool}
-use Rattle.helpers.specs.Does.{Decides}
-use Rattle.helping.specs.Decided.{Decided}
-use Rattle.helping.specs.Laws.{decided-refused, decided-fine, some-held}
-use Rattle.meaning.specs.Means.{stands-known}
-use mathlib.Core.Path.{_∙_, ap, ap₂, sym, subst}
-use native.Mathlib.Omega.{arith}
+use Rattle.helping.specs.Few.{few-read}
 use borrow.Author.Needs.{needs}
 use Rattle.helping.proofs.decide.Statement.{statement}
 use Rattle.helping.proofs.decide.Tie as tie
-use Rattle.helping.proofs.decide.Reads as reads
-use Rattle.helping.proofs.decide.Lts as lts
-use Rattle.expand.proofs.get_helper.Reads as get-helper-reads
-use Rattle.expand.proofs.try_from_template.Reads as try-from-template-reads
-use Rattle.helpers.proofs.call_helper.Reads as call-helper-reads
-use Rattle.inlining.proofs.is_at.Reads as is-at-reads
 
--- src/lib.rt:53:9
-try-from-template-requires : tie.Need-try-from-template-requires
-try-from-template-requires c κs = search needs
-
--- src/lib.rt:55:9
-returns : tie.Need-returns
-returns c = decided-refused ((c .before .before .before .before .before .before .before .before .args) .s .now) ((c .before .before .before .before .before .before .before .before .args) .b .now) ((c .before .before .before .before .before .before .before .before .args) .ent .now) ((c .before .before .before .before .before .before .before .before .args) .options) (whole ((c .before .before .before .before .before .before .before .before .args) .rc) ((c .before .before .before .before .before .before .before .before .args) .sc .now)) ((c .before .before .before .before .before .before .before .before .args) .d) ((c .before .before .before .before .before .before .before .before .args) .p) ((c .before .before .before .before .before .before .before .before .args) .template) ((c .before .before .before .before .before .before .before .before .args) .inverse) ((c .before .before .try-from-template) .result) ((c .before .before .try-from-template) .ensures) ((c .if1) .taken)
-
--- src/lib.rt:58:9
-get-helper-requires : tie.Need-get-helper-requires
-get-helper-requires c κs = ((c .before .before .before .before .before .before .before .before .pre) .0, (c .before .before .before .before .before .before .before .before .pre) .1, stands-known ((c .before .before .before .before .before .before .before .before .args) .s .now) ((c .before .before .before .before .before .before .before .before .args) .b .now) ((c .before .before .before .before .before .before .before .before .args) .ent .now) _ _ (some-held ((c .before .before .before .before .before .before .before .before .args) .s .now) ((c .before .before .before .before .before .before .before .before .args) .b .now) ((c .before .before .before .before .before .before .before .before .args) .ent .now) ((c .before .before .before .before .before .before .before .before .args) .options) (whole ((c .before .before .before .before .before .before .before .before .args) .rc) ((c .before .before .before .before .before .before .before .before .args) .sc .now)) ((c .before .before .before .before .before .before .before .before .args) .d) ((c .before .before .before .before .before .before .before .before .args) .p) ((c .before .before .before .before .before .before .before .before .args) .template) ((c .before .before .before .before .before .before .before .before .args) .inverse) ((c .before .before .try-from-template) .result) ((c .before .before .try-from-template) .ensures) ((c .if1) .left) ((c .before .before .before .before .before .before .before .before .pre) .2) .name))
-
--- src/lib.rt:59:9
 is-at-requires : tie.Need-is-at-requires
 is-at-requires c κs = search needs
 
--- src/lib.rt:60:9
 is-at-requires-2 : tie.Need-is-at-requires-2
 is-at-requires-2 c κs = search needs
 
--- src/lib.rt:61:5
-call-helper-requires : tie.Need-call-helper-requires
-call-helper-requires c κs = ((c .before .before .before .before .before .before .before .before .before .before .before .pre) .0, (c .before .before .before .before .before .before .before .before .before .before .before .pre) .1, some-held ((c .before .before .before .before .before .before .before .before .before .before .before .args) .s .now) ((c .before .before .before .before .before .before .before .before .before .before .before .args) .b .now) ((c .before .before .before .before .before .before .before .before .before .before .before .args) .ent .now) ((c .before .before .before .before .before .before .before .before .before .before .before .args) .options) (whole ((c .before .before .before .before .before .before .before .before .before .before .before .args) .rc) ((c .before .before .before .before .before .before .before .before .before .before .before .args) .sc .now)) ((c .before .before .before .before .before .before .before .before .before .before .before .args) .d) ((c .before .before .before .before .before .before .before .before .before .before .before .args) .p) ((c .before .before .before .before .before .before .before .before .before .before .before .args) .template) ((c .before .before .before .before .before .before .before .before .before .before .before .args) .inverse) ((c .before .before .before .before .before .try-from-template) .result) ((c .before .before .before .before .before .try-from-template) .ensures) ((c .before .before .before .if1) .left) ((c .before .before .before .before .before .before .before .before .before .before .before .pre) .2))
+few-at-requires : tie.Need-few-at-requires
+few-at-requires c κs = search needs
 
--- src/lib.rt:37:1
+enum-known-few : tie.Need-enum-known-few
+enum-known-few c = search needs
+
+decide-one-requires : tie.Need-decide-one-requires
+decide-one-requires c κs = let z = c .before .before .before .before .before .before .before .before .before .before .before in (z .pre .0, z .pre .1, z .pre .2 .ready .one, z .pre .2 .ready .most, (_, z .pre .2 .ready .scopes), few-read (z .args .d) (bits (z .args .b .now)) (bits-binary (z .args .b .now)) (z .args .p) (z .pre .3) _ (sym (c .before .few .given .1) ∙ c .before .before .before .few-at .ensures), z .pre .4)
+
+enum-known-few-2 : tie.Need-enum-known-few-2
+enum-known-few-2 c = search needs
+
+decide-two-requires : tie.Need-decide-two-requires
+decide-two-requires c κs = let z = c .before .before .before .before .before .before .before .before .before .before .before in (z .pre .0, z .pre .1, z .pre .2 .ready .one, z .pre .2 .ready .most, (_, z .pre .2 .ready .scopes), few-read (z .args .d) (bits (z .args .b .now)) (bits-binary (z .args .b .now)) (z .args .p) (z .pre .3) _ (sym (c .before .few2 .given .1) ∙ c .before .before .before .few-at .ensures), z .pre .4)
+
+enum-told : tie.Need-enum-told
+enum-told c = search needs
+
+decide-any-requires : tie.Need-decide-any-requires
+decide-any-requires c κs = let z = c .before .before .before .before .before .before .before .before .before .before in (z .pre .0, z .pre .1, z .pre .2 .ready .one, z .pre .2 .ready .most, (_, z .pre .2 .ready .scopes), z .pre .3, z .pre .4)
+
+returns : tie.Need-returns
+returns c = let z = c .before .before .before .before .before .before .before .before .before .before .before .before in c .decide-one .ensures (whole (z .args .rc) (z .args .sc .now)) (z .args .template) (z .args .inverse) refl refl (c .before .before .before .before .before .before .is-at .ensures) (c .before .before .before .before .before .is-at2 .ensures)
+
 returns-2 : tie.Need-returns-2
-returns-2 c =
-    let x = (c .before .before .before .before .before .before .try-from-template) .result in
-    decided-fine ((c .before .before .before .before .before .before .before .before .before .before .before .before .args) .s .now) ((c .before .before .before .before .before .before .before .before .before .before .before .before .args) .b .now) ((c .before .before .before .before .before .before .before .before .before .before .before .before .args) .ent .now) ((c .before .before .before .before .before .before .before .before .before .before .before .before .args) .options) (whole ((c .before .before .before .before .before .before .before .before .before .before .before .before .args) .rc) ((c .before .before .before .before .before .before .before .before .before .before .before .before .args) .sc .now)) ((c .before .before .before .before .before .before .before .before .before .before .before .before .args) .d) ((c .before .before .before .before .before .before .before .before .before .before .before .before .args) .p) ((c .before .before .before .before .before .before .before .before .before .before .before .before .args) .template) ((c .before .before .before .before .before .before .before .before .before .before .before .before .args) .inverse) x ((c .before .before .before .before .before .before .try-from-template) .ensures) ((c .before .before .before .before .if1) .left) ((c .before .before .before .get-helper) .result) ((c .call-helper) .result)
-    (λ t e i. (c .before .before .before .get-helper) .ensures .at ((c .before .before .before .before .before .before .before .before .before .before .before .before .args) .ent .now) t (i .name-stands) ∙ ap (λ n. helper-of (get-helper n)) (sym (i .name)))
-    (subst (λ (k : Bool). Decides ((c .before .before .before .before .before .before .before .before .before .before .before .before .args) .s .now) ((c .before .before .before .before .before .before .before .before .before .before .before .before .args) .b .now) ((c .before .before .before .before .before .before .before .before .before .before .before .before .args) .ent .now) ((c .before .before .before .before .before .before .before .before .before .before .before .before .args) .rc .used) ((c .before .before .before .before .before .before .before .before .before .before .before .before .args) .options) ((c .before .before .before .get-helper) .result) x k (is-at ((c .before .before .before .before .before .before .before .before .before .before .before .before .args) .inverse)) ((c .call-helper) .result)) ((c .before .before .is-at) .ensures)
-    (subst (λ (k : Bool). Decides ((c .before .before .before .before .before .before .before .before .before .before .before .before .args) .s .now) ((c .before .before .before .before .before .before .before .before .before .before .before .before .args) .b .now) ((c .before .before .before .before .before .before .before .before .before .before .before .before .args) .ent .now) ((c .before .before .before .before .before .before .before .before .before .before .before .before .args) .rc .used) ((c .before .before .before .before .before .before .before .before .before .before .before .before .args) .options) ((c .before .before .before .get-helper) .result) x ((c .before .before .is-at) .result) k ((c .call-helper) .result)) ((c .before .is-at2) .ensures) ((c .call-helper) .ensures)))
+returns-2 c = let z = c .before .before .before .before .before .before .before .before .before .before .before .before in c .decide-two .ensures (whole (z .args .rc) (z .args .sc .now)) (z .args .template) (z .args .inverse) refl refl (c .before .before .before .before .before .before .is-at .ensures) (c .before .before .before .before .before .is-at2 .ensures)
+
+returns-3 : tie.Need-returns-3
+returns-3 c = let z = c .before .before .before .before .before .before .before .before .before .before .before in c .decide-any .ensures (whole (z .args .rc) (z .args .sc .now)) (z .args .template) (z .args .inverse) refl refl (c .before .before .before .before .before .is-at .ensures) (c .before .before .before .before .is-at2 .ensures)
 
 pub decide-spec : {M : Type 1} → statement M
 decide-spec =
     tie.close
     (tie.spec
-    try-from-template-requires
-    returns
-    get-helper-requires
     is-at-requires
     is-at-requires-2
-    call-helper-requires
-    returns-2)
+    few-at-requires
+    enum-known-few
+    decide-one-requires
+    enum-known-few-2
+    decide-two-requires
+    enum-told
+    decide-any-requires
+    returns
+    returns-2
+    returns-3)
