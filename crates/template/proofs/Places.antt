@@ -1,19 +1,23 @@
 -- What the readers meet on their way: the parts of an element at the places that the code has worked out, and the answers made of them.
-use Prim.Native.Nat.{ℕ, zero, suc, _+_, _-_, _%_, _≤_, _<_}
+use Prim.Native.Nat.{ℕ, zero, suc, _+_, _-_, _*_, _%_, _≤_, _<_}
 use mathlib.Core.Bool.{Bool}
 use mathlib.Core.Path.{_≡_, refl, sym, ap, _∙_}
 use native.Mathlib.Omega.{arith}
+use lib.Dec.{eqb}
 use Rattle.rules.specs.Bits.{Bits}
 use Rattle.rules.specs.Layout.{Layout, field, _then_}
+use Rattle.rules.specs.LayoutLaws.{Binary, field-lt}
+use Rattle.bits.specs.Fields.{field-append}
 use Rattle.rules.specs.Bundle.{string, flag, block-names, indent, param, call-of, maybe-body, element-of, body}
 use Rattle.rules.specs.Template as rule
 use Rattle.parts.specs.Holds.{Holds, end}
 use Rattle.parts.specs.HoldsLaws.{moved, Same}
-use Rattle.parts.specs.Views.{maybe-view}
-use Rattle.parts.specs.Parts.{indent-fits}
+use Rattle.parts.specs.Views.{maybe-of, maybe-view}
+use Rattle.parts.specs.Parts.{indent-fits, names-none}
 use Rattle.parts.specs.declared.Maybe.{Maybe}
+use Rattle.parts.specs.declared.Maybe.the-variants.{At, Nothing}
 use Rattle.template.specs.Views.{flag-at, tail-view, call-end, flagged-view, names-end, template-end, inverse-end, body-end, bodied-view, block-view, kind-view, content-of, content-view, element-view, placed-element-is}
-use Rattle.template.specs.Content.{tail-indent, tail-fits, tail-end, maybe-fits, FlaggedHolds, written-holds, BodilessHolds, bodiless-holds, BodiedHolds, bodied-holds, BlockHolds, block-holds}
+use Rattle.template.specs.Content.{tail-indent, tail-fits, tail-end, maybe-fits, maybe-none, maybe-some, maybe-there, FlaggedHolds, written-holds, BodilessHolds, bodiless-holds, BodiedHolds, bodied-holds, BlockHolds, block-holds}
 use Rattle.template.specs.Content.{raw-string-holds, html-holds, expression-holds, helper-holds, decorator-holds, decorator-block-holds, partial-holds, partial-block-holds, comment-holds, element-never}
 use Rattle.template.specs.declared.Element.the-variants.{RawString, HtmlExpression, Expression, HelperBlock, DecoratorExpression, DecoratorBlock, PartialExpression, PartialBlock, Comment}
 use Rattle.template.specs.declared.Flagged.{Flagged}
@@ -138,6 +142,82 @@ module _ (w d : ℕ) (b : Bits) (p : ℕ) (H : Holds (call-of (param d) then blo
               ∙ ap (λ (i : ℕ). record { names = n; template = maybe-view b t; inverse = maybe-view b i; before = flag-at b (inverse-end w d b p); next = inverse-end w d b p + 1 }) at-inverse
               ∙ ap (λ (t : ℕ). record { names = n; template = maybe-view b t; inverse = maybe-view b (template-end w d b p); before = flag-at b (inverse-end w d b p); next = inverse-end w d b p + 1 }) at-template
               ∙ ap (λ (n : ℕ). record { names = n; template = maybe-view b (names-end w d b p); inverse = maybe-view b (template-end w d b p); before = flag-at b (inverse-end w d b p); next = inverse-end w d b p + 1 }) hn
+
+    -- no names and a template: the bits 0, 0 and 1
+    module _ (h : field b 3 n ≡ 1) where
+      bare : field b 2 n ≡ 0
+      bare = omega (arith, field-append b 2 1 n, h)
+
+      there : field b 1 (n + 2) ≡ 1
+      there = omega (arith, field-append b 2 1 n, h)
+
+      at-plain : n + 2 ≡ end block-names b n
+      at-plain = names-none b n block-named bare .0
+
+      behind-bit : n + 2 + 1 ≡ n + 3
+      behind-bit = omega arith
+
+      plain-some : Same (body w d) b (n + 2 + 1) (λ x. rule.body x ≡ block-template (n + 2) at-plain .found) (end (maybe-body (body w d)) b (n + 2))
+      plain-some = maybe-some (body w d) b (n + 2) (block-template (n + 2) at-plain) there
+
+      pub plain-body : Holds (body w d) b (n + 3)
+      plain-body = moved (body w d) b _ _ behind-bit (plain-some .inner)
+
+      pub plain-fits : n + 3 ≤ b .size
+      plain-fits = omega (arith, maybe-fits (body w d) b (n + 2) (block-template (n + 2) at-plain))
+
+      plain-template : At (n + 3) ≡ maybe-view b (n + 2)
+      plain-template = ap At (sym behind-bit) ∙ sym (ap (maybe-of (n + 2 + 1)) there)
+
+      module _ (i : ℕ) (hi : i ≡ end (body w d) b (n + 3)) where
+        at-other : i ≡ end (maybe-body (body w d)) b (n + 2)
+        at-other = hi ∙ sym (ap (end (body w d) b) behind-bit) ∙ plain-some .ends
+
+        other-holds : Holds (maybe-body (body w d)) b i
+        other-holds = block-inverse (n + 2) at-plain i at-other
+
+        -- the two bits at i
+        module _ (y : ℕ) (hy : y ≡ field b 2 i) where
+          two-bits : y ≡ field b 1 i * 2 + field b 1 (i + 1)
+          two-bits = hy ∙ field-append b 1 1 i
+
+          module _ (lt : y < 2) where
+            no-inverse : field b 1 i ≡ 0
+            no-inverse = omega (arith, two-bits)
+
+            at-last : i + 1 ≡ end (maybe-body (body w d)) b i
+            at-last = maybe-none (body w d) b i other-holds no-inverse .0
+
+            pub none-fits : i + 2 ≤ b .size
+            none-fits = omega (arith, block-fits (n + 2) at-plain i at-other (i + 1) at-last .2)
+
+            pub none-made : _≡_ {A = Block} (record { names = n; template = At (n + 3); inverse = Nothing; before = eqb y 1; next = i + 2 }) (block-view w d b p)
+            none-made =
+                let e : i + 2 ≡ i + 1 + 1 = omega arith in
+                let k : y ≡ field b 1 (i + 1) = omega (arith, two-bits, no-inverse) in
+                ap (λ (m : ℕ). record { names = n; template = At (n + 3); inverse = Nothing; before = eqb y 1; next = m }) e
+                ∙ block-made (n + 2) at-plain i at-other (i + 1) at-last (At (n + 3)) Nothing plain-template (sym (ap (maybe-of (i + 1)) no-inverse)) (eqb y 1) (ap (λ (m : ℕ). eqb m 1) k)
+
+          module _ (bin : Binary b) (ge : 2 ≤ y) where
+            an-inverse : field b 1 i ≡ 1
+            an-inverse = maybe-there (body w d) b i other-holds (λ e. omega (arith, two-bits, e, ge, field-lt b bin 1 (i + 1)))
+
+            inverse-some : Same (body w d) b (i + 1) (λ x. rule.body x ≡ other-holds .found) (end (maybe-body (body w d)) b i)
+            inverse-some = maybe-some (body w d) b i other-holds an-inverse
+
+            pub some-body : Holds (body w d) b (i + 1)
+            some-body = inverse-some .inner
+
+            pub some-fits : i + 1 ≤ b .size
+            some-fits = maybe-fits (body w d) b i other-holds
+
+            module _ (f : ℕ) (hf : f ≡ end (body w d) b (i + 1)) where
+              pub some-last : f + 1 ≤ b .size
+              some-last = block-fits (n + 2) at-plain i at-other f (hf ∙ inverse-some .ends) .2
+
+              pub some-made : (g : Bool) → g ≡ flag-at b f → _≡_ {A = Block} (record { names = n; template = At (n + 3); inverse = At (i + 1); before = g; next = f + 1 }) (block-view w d b p)
+              some-made g hg =
+                  block-made (n + 2) at-plain i at-other f (hf ∙ inverse-some .ends) (At (n + 3)) (At (i + 1)) plain-template (sym (ap (maybe-of (i + 1)) an-inverse)) g hg
 
 -- a number that is none of the first eight
 four-more : (n k : ℕ) → n ≤ k → (k ≡ n → ⊥) → (k ≡ n + 1 → ⊥) → (k ≡ n + 2 → ⊥) → (k ≡ n + 3 → ⊥) → n + 4 ≤ k

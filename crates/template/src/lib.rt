@@ -137,6 +137,29 @@ fn block_at(b: &[u8], p: usize, w: usize, d: usize) -> Block
     ensures { λ r. ⌜ r ≡ block-view w d (bits (now (b .entry))) p ⌝ }
 {
     let names = calls::skip_call(b, p, d);
+    // most have no names, and a template
+    if bits::field(b, names, 3) == 1 {
+        let other = skip_body(b, names + 3, w, d);
+        // whether there is an inverse, and where there is none the last bit
+        let y = bits::field(b, other, 2);
+        if y < 2 {
+            return Block {
+                names,
+                template: Maybe::At(names + 3),
+                inverse: Maybe::Nothing,
+                before: y == 1,
+                next: other + 2,
+            };
+        }
+        let g = skip_body(b, other + 1, w, d);
+        return Block {
+            names,
+            template: Maybe::At(names + 3),
+            inverse: Maybe::At(other + 1),
+            before: flag_at(b, g),
+            next: g + 1,
+        };
+    }
     let template = parts::skip_block_names(b, names);
     let inverse = skip_maybe(b, template, w, d);
     let f = skip_maybe(b, inverse, w, d);
