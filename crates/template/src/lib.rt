@@ -82,6 +82,48 @@ fn flag_at(b: &[u8], p: usize) -> bool
     bits::field(b, p, 1) == 1
 }
 
+// The place behind the call at p. Those of blocks are most often a name, which is a string, and a path.
+fn skip_with_path(b: &[u8], p: usize, d: usize) -> usize
+    requires { ⌜ (length (now b) ≤ 65536) × Holds (call-of (param d)) (bits (now b)) p ⌝ }
+    ensures { λ r. ⌜ r ≡ end (call-of (param d)) (bits (now (b .entry))) p ⌝ }
+{
+    // the name's kind, and the count of its string
+    let x = bits::field(b, p, 18);
+    if 65535 < x {
+        return calls::skip_call(b, p, d);
+    }
+    let q = p + 18 + 8 * (x as usize);
+    // the count of parameters, and the first one's kind: 1 and 1
+    if bits::field(b, q, 6) == 5 {
+        let e = parts::skip_path(b, q + 6);
+        if bits::field(b, e, 4) == 0 {
+            return e + 4;
+        }
+    }
+    calls::skip_call(b, p, d)
+}
+
+// The same. Those of partials are most often a name alone, or a name and one pair.
+fn skip_bare(b: &[u8], p: usize, d: usize) -> usize
+    requires { ⌜ (length (now b) ≤ 65536) × Holds (call-of (param d)) (bits (now b)) p ⌝ }
+    ensures { λ r. ⌜ r ≡ end (call-of (param d)) (bits (now (b .entry))) p ⌝ }
+{
+    let x = bits::field(b, p, 18);
+    if 65535 < x {
+        return calls::skip_call(b, p, d);
+    }
+    let q = p + 18 + 8 * (x as usize);
+    // the counts of parameters and of pairs
+    let y = bits::field(b, q, 8);
+    if y == 0 {
+        return q + 8;
+    }
+    if y == 1 {
+        return calls::skip_param(b, parts::skip_string(b, q + 8), d);
+    }
+    calls::skip_call(b, p, d)
+}
+
 // A call, and a bit.
 fn flagged_at(b: &[u8], p: usize, d: usize) -> Flagged
     requires { ⌜ (length (now b) ≤ 65536) × Holds (call-of (param d) then flag) (bits (now b)) p ⌝ }
@@ -112,7 +154,7 @@ fn bodiless_at(b: &[u8], p: usize, d: usize) -> Tail
     requires { ⌜ (length (now b) ≤ 65536) × Holds (call-of (param d) then indent then flag) (bits (now b)) p ⌝ }
     ensures { λ r. ⌜ r ≡ tail-view (bits (now (b .entry))) (end (call-of (param d)) (bits (now (b .entry))) p) ⌝ }
 {
-    tail_at(b, calls::skip_call(b, p, d))
+    tail_at(b, skip_bare(b, p, d))
 }
 
 // A call, a body, an indent, and a bit.
@@ -136,7 +178,7 @@ fn block_at(b: &[u8], p: usize, w: usize, d: usize) -> Block
     requires { ⌜ (length (now b) ≤ 65536) × Holds (call-of (param d) then block-names then maybe-body (body w d) then maybe-body (body w d) then flag) (bits (now b)) p ⌝ }
     ensures { λ r. ⌜ r ≡ block-view w d (bits (now (b .entry))) p ⌝ }
 {
-    let names = calls::skip_call(b, p, d);
+    let names = skip_with_path(b, p, d);
     // most have no names, and a template
     if bits::field(b, names, 3) == 1 {
         let other = skip_body(b, names + 3, w, d);
