@@ -4,14 +4,14 @@ use native.Mathlib.Omega.{arith}
 use mathlib.Core.Bool.{Bool, true, false}
 use mathlib.Core.List.{List, [], _∷_}
 use mathlib.Core.Option.{none, some}
-use mathlib.Core.Path.{_≡_, refl, sym, ap, _∙_}
-use lib.Dec.{ltb}
+use mathlib.Core.Path.{_≡_, refl, sym, ap, ap₂, _∙_}
+use lib.Dec.{eqb, ltb}
 use lib.ListN.{length, getD}
-use borrow.Author.Tests.{ne-eqb, ltb-true}
+use borrow.Author.Tests.{eq-eqb, ne-eqb, ltb-true}
 use types.Run.{OneOf, miss}
 use denote.Enum.Declared.{tagOf}
 use Rattle.rules.specs.Bytes.{Bytes, pick, same, ascii, digits, digits-onto}
-use Rattle.rules.specs.Order.{same-eq}
+use Rattle.rules.specs.Order.{same-eq, same-refl}
 use Rattle.rules.specs.Json.{jbool}
 use Rattle.rules.specs.Bits.{Bits}
 use Rattle.rules.specs.Layout.{field}
@@ -19,7 +19,7 @@ use Rattle.rules.specs.LayoutLaws.{Binary, field-lt}
 use Rattle.rules.specs.Value.{render}
 use Rattle.rules.specs.Registry as registry
 use Rattle.rules.specs.Registry.{get-helper}
-use Rattle.bits.specs.Fields.{field-append}
+use Rattle.bits.specs.Fields.{field-none, field-append}
 use Rattle.bits.specs.Packed.{bytes-at, bytes-length, bytes-get}
 use Rattle.layout.specs.Text.{text-at}
 use Rattle.value.specs.declared.Value.{Value}
@@ -30,7 +30,7 @@ use Rattle.meaning.specs.Forms.{Formed}
 use Rattle.meaning.specs.Means.{Means, means}
 use Rattle.expand.specs.declared.HelperDef.{HelperDef}
 use Rattle.expand.specs.declared.HelperDef.the-variants.{Each, With, If, Unless, Lookup, Unknown}
-use Rattle.expand.specs.Answers.{helper-of}
+use Rattle.expand.specs.Answers.{helper-of, packed-onto, packed}
 
 pub get-empty : (n : Bytes) → n ≡ [] → Unknown ≡ helper-of (get-helper n)
 get-empty n e = rw e
@@ -108,6 +108,69 @@ module _ (b : Bits) (p : ℕ) where
         text-other 117 (110 ∷ 108 ∷ 101 ∷ 115 ∷ 115 ∷ []) (λ q. i (e ∙ q)),
         text-other 108 (111 ∷ 111 ∷ 107 ∷ 117 ∷ 112 ∷ []) (λ q. j (e ∙ q)),
       )
+
+-- Bytes compared as one number
+
+abbrev Small : Bytes → Type 0
+Small [] = Unit {0}
+Small (c ∷ l) = (c < 256) × Small l
+
+packed-differ : (l t : Bytes) (x y : ℕ) → length l ≡ length t → Small l → Small t → packed-onto x l ≡ packed-onto y t → (x ≡ y) × (l ≡ t)
+packed-differ [] [] x y n a c e = (e, refl)
+packed-differ [] (d ∷ t) x y n a c e = absurd (omega (arith, n))
+packed-differ (d ∷ l) [] x y n a c e = absurd (omega (arith, n))
+packed-differ (d ∷ l) (f ∷ t) x y n a c e =
+    let z = packed-differ l t (x * 256 + d) (y * 256 + f) (omega (arith, n)) (a .1) (c .1) e in
+    let u : d ≡ f = omega (arith, z .0, a .0, c .0) in
+    (omega (arith, z .0, u), ap₂ _∷_ u (z .1))
+
+module _ (b : Bits) (bin : Binary b) where
+  bytes-small : (q n : ℕ) → Small (bytes-at b q n)
+  unfolding bytes-at
+  bytes-small q zero = tt
+  bytes-small q (suc n) = (field-lt b bin 8 q, bytes-small (q + 8) n)
+
+  -- w bits, and behind them n bytes
+  field-packed : (n w q : ℕ) → packed-onto (field b w q) (bytes-at b (q + w) n) ≡ field b (w + 8 * n) q
+  unfolding bytes-at
+  field-packed zero w q =
+      let e : w + 8 * 0 ≡ w = omega arith in
+      rw e
+  field-packed (suc n) w q =
+      let e : w + 8 * suc n ≡ w + 8 + 8 * n = omega arith in
+      let f : q + w + 8 ≡ q + (w + 8) = omega arith in
+      rw (e, f, ← field-append b w 8 q) (field-packed n (w + 8) q)
+
+  pub packed-same : (q : ℕ) (t : Bytes) → Small t → eqb (field b (8 * length t) q) (packed t) ≡ same (bytes-at b q (length t)) t
+  packed-same q t st = go (same (bytes-at b q (length t)) t) refl
+    where
+      clash : true ≡ false → ⊥
+      clash h = let n : _≡_ {A = ℕ} 0 1 = cc in omega arith
+
+      whole : packed (bytes-at b q (length t)) ≡ field b (8 * length t) q
+      whole =
+          let z : q + 0 ≡ q = omega arith in
+          let n : 0 + 8 * length t ≡ 8 * length t = omega arith in
+          ap₂ (λ (x m : ℕ). packed-onto x (bytes-at b m (length t))) (sym (field-none b q)) (sym z) ∙ field-packed (length t) 0 q ∙ ap (λ (m : ℕ). field b m q) n
+
+      go : (c : Bool) → same (bytes-at b q (length t)) t ≡ c → eqb (field b (8 * length t) q) (packed t) ≡ c
+      go true e = eq-eqb _ _ (sym whole ∙ ap packed (same-eq (bytes-at b q (length t)) t e))
+      go false e =
+          ne-eqb _ _
+          (λ k.
+          let z = packed-differ (bytes-at b q (length t)) t 0 0 (bytes-length b q (length t)) (bytes-small q (length t)) st (whole ∙ k) .1 in
+          clash (sym (same-refl (bytes-at b q (length t))) ∙ ap (same (bytes-at b q (length t))) z ∙ e))
+
+-- the string at p, whose count and first byte are known
+pub text-packed : (b : Bits) → Binary b → (p : ℕ) (c : ℕ) (l : Bytes) → c < 256 → field b 24 p ≡ suc (length l) * 256 + c → Small (c ∷ l)
+    → eqb (field b (8 * suc (length l)) (p + 16)) (packed (c ∷ l)) ≡ same (text-at b p) (c ∷ l)
+text-packed b bin p c l lt e st =
+    let n : field b 16 p ≡ suc (length l) = omega (arith, field-append b 16 8 p, field-lt b bin 8 (p + 16), e) in
+    packed-same b bin (p + 16) (c ∷ l) st ∙ ap (λ (m : ℕ). same (bytes-at b (p + 16) m) (c ∷ l)) (sym n)
+
+-- the number of a name is x, and what is read is told apart from it
+pub by-bits : (h : HelperDef) (f x y : ℕ) {u : Bool} (r : HelperDef) → r ≡ pick (eqb f x) h Unknown → x ≡ y → eqb f y ≡ u → r ≡ pick u h Unknown
+by-bits h f x y r e q k = e ∙ ap (λ (z : ℕ). pick (eqb f z) h Unknown) q ∙ ap (λ (t : Bool). pick t h Unknown) k
 
 -- Digits
 

@@ -1,5 +1,5 @@
 -- What working a parameter out answers: s is the plan, b the bundle, ent the entries of open partials.
-use Prim.Native.Nat.{ℕ, _*_, _≤_}
+use Prim.Native.Nat.{ℕ, _+_, _*_, _≤_}
 use mathlib.Core.Bool.{Bool, false}
 use mathlib.Core.List.{List, [], _∷_}
 use mathlib.Core.Option.{Option, none, some}
@@ -126,6 +126,14 @@ helper-of (some registry.HelperDef.with) = With
 helper-of (some registry.HelperDef.if) = If
 helper-of (some registry.HelperDef.unless) = Unless
 helper-of (some registry.HelperDef.lookup) = Lookup
+
+-- bytes as one number, the first the most significant
+abbrev pub packed-onto : ℕ → Bytes → ℕ
+packed-onto x [] = x
+packed-onto x (c ∷ l) = packed-onto (x * 256 + c) l
+
+abbrev pub packed : Bytes → ℕ
+packed l = packed-onto 0 l
 
 -- what a helper with no bodies writes is nothing
 abbrev pub written : ℕ → Got

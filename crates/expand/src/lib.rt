@@ -3,11 +3,12 @@
 ghost use mathlib.Core.Bool.{true, false};
 ghost use mathlib.Core.Path.{_≡_};
 ghost use mathlib.Core.List.{List};
-ghost use Prim.Native.Nat.{ℕ, _≤_, _<_};
+ghost use Prim.Native.Nat.{ℕ, _+_, _≤_, _<_};
+ghost use lib.Dec.{eqb};
 ghost use lib.ListN.{length};
 ghost use Rattle.rules.specs.Bytes.{pick, same};
 ghost use Rattle.rules.specs.Bits.{bits};
-ghost use Rattle.rules.specs.Layout.{_then_};
+ghost use Rattle.rules.specs.Layout.{field, _then_};
 ghost use Rattle.rules.specs.Bundle.{string, path, param, call-of};
 ghost use Rattle.rules.specs.Value.{render};
 ghost use Rattle.rules.specs.State.{RenderContext};
@@ -24,7 +25,7 @@ ghost use Rattle.meaning.specs.Means.{Means};
 ghost use Rattle.scope.specs.Words.{scopes-of};
 ghost use Rattle.scope.specs.Standing.{ScopesStand};
 ghost use Rattle.context.specs.Evaluated.{present};
-ghost use Rattle.expand.specs.Answers.{Setting, Expands, Names, ExpandsAll, ExpandsHash, IsTemplate, ExpandedHeld, helper-of, written, in-scope, unless-strict, Calls, Finishes, joined, first-of, gathered, bare, with-one, zero-or, GotKnown, Paired};
+ghost use Rattle.expand.specs.Answers.{Setting, Expands, Names, ExpandsAll, ExpandsHash, IsTemplate, ExpandedHeld, helper-of, written, in-scope, unless-strict, Calls, Finishes, joined, first-of, gathered, bare, with-one, zero-or, GotKnown, Paired, packed};
 use calls::Parameter;
 use calls::Short;
 use context::Evaluated;
@@ -120,12 +121,26 @@ fn named_helper(s: &[u8], b: &[u8], t: Text) -> HelperDef
     HelperDef::Unknown
 }
 
-// A helper, where the string at p is its name.
-fn if_at(b: &[u8], p: usize, name: &[u8], helper: HelperDef) -> HelperDef
-    requires { ⌜ p ≤ 524288 ⌝ }
-    ensures { λ r. ⌜ r ≡ pick (same (text-at (bits (now (b .entry))) p) (now (name .entry))) helper HelperDef.Unknown ⌝ }
+// The bytes of a name as one number, the first the most significant. (The compiler works it out where the name is fixed.)
+fn packed(t: &[u8]) -> u64
+    requires { ⌜ length (now t) ≤ 6 ⌝ }
+    ensures { λ r. ⌜ r ≡ packed (now (t .entry)) ⌝ }
 {
-    if parts::text_is(b, p, name) {
+    let mut x: u64 = 0;
+    let mut i: usize = 0;
+    while i < t.len() {
+        x = x * 256 + (t[i] as u64);
+        i += 1;
+    }
+    x
+}
+
+// A helper, where the w bits of the string at p, behind its count, are x: those of its name.
+fn if_bits(b: &[u8], p: usize, w: usize, x: u64, helper: HelperDef) -> HelperDef
+    requires { ⌜ (p ≤ 524288) × (w ≤ 64) ⌝ }
+    ensures { λ r. ⌜ r ≡ pick (eqb (field (bits (now (b .entry))) w (p + 16)) x) helper HelperDef.Unknown ⌝ }
+{
+    if bits::field(b, p + 16, w) == x {
         return helper;
     }
     HelperDef::Unknown
@@ -139,19 +154,19 @@ pub fn helper_at(b: &[u8], p: usize) -> HelperDef
 {
     let x = bits::field(b, p, 24);
     if x == 1125 {
-        return if_at(b, p, b"each", HelperDef::Each);
+        return if_bits(b, p, 32, packed(b"each"), HelperDef::Each);
     }
     if x == 1143 {
-        return if_at(b, p, b"with", HelperDef::With);
+        return if_bits(b, p, 32, packed(b"with"), HelperDef::With);
     }
     if x == 617 {
-        return if_at(b, p, b"if", HelperDef::If);
+        return if_bits(b, p, 16, packed(b"if"), HelperDef::If);
     }
     if x == 1653 {
-        return if_at(b, p, b"unless", HelperDef::Unless);
+        return if_bits(b, p, 48, packed(b"unless"), HelperDef::Unless);
     }
     if x == 1644 {
-        return if_at(b, p, b"lookup", HelperDef::Lookup);
+        return if_bits(b, p, 48, packed(b"lookup"), HelperDef::Lookup);
     }
     HelperDef::Unknown
 }

@@ -1,10 +1,15 @@
 -- `expand::helper_at` meets its contract.
 use lib.Dec.{lit<}
-use mathlib.Core.Path.{refl, sym, _∙_}
+use mathlib.Core.Bool.{Bool}
+use mathlib.Core.List.{[], _∷_}
+use mathlib.Core.Path.{refl, sym, ap, _∙_}
+use Rattle.rules.specs.Bytes.{pick}
 use Rattle.rules.specs.Bits.{bits}
+use Rattle.rules.specs.Layout.{field}
 use Rattle.rules.specs.BundleLaws.{bits-binary}
 use Rattle.layout.specs.Text.{text-at}
-use Rattle.expand.proofs.Naming.{get-each, get-with, get-if, get-unless, get-lookup, text-first, get-elsewhere}
+use Rattle.expand.specs.declared.HelperDef.the-variants.{Each, With, If, Unless, Lookup, Unknown}
+use Rattle.expand.proofs.Naming.{get-each, get-with, get-if, get-unless, get-lookup, text-first, text-packed, get-elsewhere, by-bits}
 use borrow.Author.Needs.{needs}
 use Rattle.expand.proofs.helper_at.Statement.{statement}
 use Rattle.expand.proofs.helper_at.Tie as tie
@@ -12,60 +17,80 @@ use Rattle.expand.proofs.helper_at.Tie as tie
 field-requires : tie.Need-field-requires
 field-requires c κs = search needs
 
-slice-aggregate-if-at : tie.Need-slice-aggregate-if-at
-slice-aggregate-if-at c = search needs
+slice-aggregate-packed : tie.Need-slice-aggregate-packed
+slice-aggregate-packed c = search needs
 
-if-at-requires : tie.Need-if-at-requires
-if-at-requires c κs = search needs
+packed-requires : tie.Need-packed-requires
+packed-requires c κs = search needs
+
+if-bits-requires : tie.Need-if-bits-requires
+if-bits-requires c κs = search needs
 
 returns : tie.Need-returns
 returns c =
-    let a = c .before .before .before .before .before .args in
-    get-each (text-at (bits (a .b .now)) (a .p)) _ 101 (text-first (bits (a .b .now)) (a .p) (bits-binary (a .b .now)) 3 101 (lit< tt) (sym (c .before .before .before .field .ensures) ∙ c .before .before .if1 .taken)) (c .if-at .result) refl (c .if-at .ensures)
+    let a = c .before .before .before .before .before .before .args in
+    get-each (text-at (bits (a .b .now)) (a .p)) _ 101 (text-first (bits (a .b .now)) (a .p) (bits-binary (a .b .now)) 3 101 (lit< tt) (sym (c .before .before .before .before .field .ensures) ∙ c .before .before .before .if1 .taken)) (c .if-bits .result) refl
+    (by-bits Each _ _ _ (c .if-bits .result) (c .if-bits .ensures) (c .before .packed .ensures) (text-packed (bits (a .b .now)) (bits-binary (a .b .now)) (a .p) 101 (97 ∷ 99 ∷ 104 ∷ []) (lit< tt) (sym (c .before .before .before .before .field .ensures) ∙ c .before .before .before .if1 .taken) (lit< tt, (lit< tt, (lit< tt, (lit< tt, tt))))))
 
-slice-aggregate-if-at-2 : tie.Need-slice-aggregate-if-at-2
-slice-aggregate-if-at-2 c = search needs
+slice-aggregate-packed-2 : tie.Need-slice-aggregate-packed-2
+slice-aggregate-packed-2 c = search needs
 
-if-at-requires-2 : tie.Need-if-at-requires-2
-if-at-requires-2 c κs = search needs
+packed-requires-2 : tie.Need-packed-requires-2
+packed-requires-2 c κs = search needs
+
+if-bits-requires-2 : tie.Need-if-bits-requires-2
+if-bits-requires-2 c κs = search needs
 
 returns-2 : tie.Need-returns-2
 returns-2 c =
-    let a = c .before .before .before .before .before .before .args in
-    get-with (text-at (bits (a .b .now)) (a .p)) _ 119 (text-first (bits (a .b .now)) (a .p) (bits-binary (a .b .now)) 3 119 (lit< tt) (sym (c .before .before .before .before .field .ensures) ∙ c .before .before .if2 .taken)) (c .if-at2 .result) refl (c .if-at2 .ensures)
+    let a = c .before .before .before .before .before .before .before .args in
+    get-with (text-at (bits (a .b .now)) (a .p)) _ 119 (text-first (bits (a .b .now)) (a .p) (bits-binary (a .b .now)) 3 119 (lit< tt) (sym (c .before .before .before .before .before .field .ensures) ∙ c .before .before .before .if2 .taken)) (c .if-bits2 .result) refl
+    (by-bits With _ _ _ (c .if-bits2 .result) (c .if-bits2 .ensures) (c .before .packed2 .ensures) (text-packed (bits (a .b .now)) (bits-binary (a .b .now)) (a .p) 119 (105 ∷ 116 ∷ 104 ∷ []) (lit< tt) (sym (c .before .before .before .before .before .field .ensures) ∙ c .before .before .before .if2 .taken) (lit< tt, (lit< tt, (lit< tt, (lit< tt, tt))))))
 
-slice-aggregate-if-at-3 : tie.Need-slice-aggregate-if-at-3
-slice-aggregate-if-at-3 c = search needs
+slice-aggregate-packed-3 : tie.Need-slice-aggregate-packed-3
+slice-aggregate-packed-3 c = search needs
 
-if-at-requires-3 : tie.Need-if-at-requires-3
-if-at-requires-3 c κs = search needs
+packed-requires-3 : tie.Need-packed-requires-3
+packed-requires-3 c κs = search needs
+
+if-bits-requires-3 : tie.Need-if-bits-requires-3
+if-bits-requires-3 c κs = search needs
 
 returns-3 : tie.Need-returns-3
 returns-3 c =
-    let a = c .before .before .before .before .before .before .before .args in
-    get-if (text-at (bits (a .b .now)) (a .p)) _ 105 (text-first (bits (a .b .now)) (a .p) (bits-binary (a .b .now)) 1 105 (lit< tt) (sym (c .before .before .before .before .before .field .ensures) ∙ c .before .before .if3 .taken)) (c .if-at3 .result) refl (c .if-at3 .ensures)
+    let a = c .before .before .before .before .before .before .before .before .args in
+    get-if (text-at (bits (a .b .now)) (a .p)) _ 105 (text-first (bits (a .b .now)) (a .p) (bits-binary (a .b .now)) 1 105 (lit< tt) (sym (c .before .before .before .before .before .before .field .ensures) ∙ c .before .before .before .if3 .taken)) (c .if-bits3 .result) refl
+    (by-bits If _ _ _ (c .if-bits3 .result) (c .if-bits3 .ensures) (c .before .packed3 .ensures) (text-packed (bits (a .b .now)) (bits-binary (a .b .now)) (a .p) 105 (102 ∷ []) (lit< tt) (sym (c .before .before .before .before .before .before .field .ensures) ∙ c .before .before .before .if3 .taken) (lit< tt, (lit< tt, tt))))
 
-slice-aggregate-if-at-4 : tie.Need-slice-aggregate-if-at-4
-slice-aggregate-if-at-4 c = search needs
+slice-aggregate-packed-4 : tie.Need-slice-aggregate-packed-4
+slice-aggregate-packed-4 c = search needs
 
-if-at-requires-4 : tie.Need-if-at-requires-4
-if-at-requires-4 c κs = search needs
+packed-requires-4 : tie.Need-packed-requires-4
+packed-requires-4 c κs = search needs
+
+if-bits-requires-4 : tie.Need-if-bits-requires-4
+if-bits-requires-4 c κs = search needs
 
 returns-4 : tie.Need-returns-4
 returns-4 c =
-    let a = c .before .before .before .before .before .before .before .before .args in
-    get-unless (text-at (bits (a .b .now)) (a .p)) _ 117 (text-first (bits (a .b .now)) (a .p) (bits-binary (a .b .now)) 5 117 (lit< tt) (sym (c .before .before .before .before .before .before .field .ensures) ∙ c .before .before .if4 .taken)) (c .if-at4 .result) refl (c .if-at4 .ensures)
+    let a = c .before .before .before .before .before .before .before .before .before .args in
+    get-unless (text-at (bits (a .b .now)) (a .p)) _ 117 (text-first (bits (a .b .now)) (a .p) (bits-binary (a .b .now)) 5 117 (lit< tt) (sym (c .before .before .before .before .before .before .before .field .ensures) ∙ c .before .before .before .if4 .taken)) (c .if-bits4 .result) refl
+    (by-bits Unless _ _ _ (c .if-bits4 .result) (c .if-bits4 .ensures) (c .before .packed4 .ensures) (text-packed (bits (a .b .now)) (bits-binary (a .b .now)) (a .p) 117 (110 ∷ 108 ∷ 101 ∷ 115 ∷ 115 ∷ []) (lit< tt) (sym (c .before .before .before .before .before .before .before .field .ensures) ∙ c .before .before .before .if4 .taken) (lit< tt, (lit< tt, (lit< tt, (lit< tt, (lit< tt, (lit< tt, tt))))))))
 
-slice-aggregate-if-at-5 : tie.Need-slice-aggregate-if-at-5
-slice-aggregate-if-at-5 c = search needs
+slice-aggregate-packed-5 : tie.Need-slice-aggregate-packed-5
+slice-aggregate-packed-5 c = search needs
 
-if-at-requires-5 : tie.Need-if-at-requires-5
-if-at-requires-5 c κs = search needs
+packed-requires-5 : tie.Need-packed-requires-5
+packed-requires-5 c κs = search needs
+
+if-bits-requires-5 : tie.Need-if-bits-requires-5
+if-bits-requires-5 c κs = search needs
 
 returns-5 : tie.Need-returns-5
 returns-5 c =
-    let a = c .before .before .before .before .before .before .before .before .before .args in
-    get-lookup (text-at (bits (a .b .now)) (a .p)) _ 108 (text-first (bits (a .b .now)) (a .p) (bits-binary (a .b .now)) 5 108 (lit< tt) (sym (c .before .before .before .before .before .before .before .field .ensures) ∙ c .before .before .if5 .taken)) (c .if-at5 .result) refl (c .if-at5 .ensures)
+    let a = c .before .before .before .before .before .before .before .before .before .before .args in
+    get-lookup (text-at (bits (a .b .now)) (a .p)) _ 108 (text-first (bits (a .b .now)) (a .p) (bits-binary (a .b .now)) 5 108 (lit< tt) (sym (c .before .before .before .before .before .before .before .before .field .ensures) ∙ c .before .before .before .if5 .taken)) (c .if-bits5 .result) refl
+    (by-bits Lookup _ _ _ (c .if-bits5 .result) (c .if-bits5 .ensures) (c .before .packed5 .ensures) (text-packed (bits (a .b .now)) (bits-binary (a .b .now)) (a .p) 108 (111 ∷ 111 ∷ 107 ∷ 117 ∷ 112 ∷ []) (lit< tt) (sym (c .before .before .before .before .before .before .before .before .field .ensures) ∙ c .before .before .before .if5 .taken) (lit< tt, (lit< tt, (lit< tt, (lit< tt, (lit< tt, (lit< tt, tt))))))))
 
 returns-6 : tie.Need-returns-6
 returns-6 c =
@@ -77,19 +102,24 @@ helper-at-spec =
     tie.close
     (tie.spec
     field-requires
-    slice-aggregate-if-at
-    if-at-requires
+    slice-aggregate-packed
+    packed-requires
+    if-bits-requires
     returns
-    slice-aggregate-if-at-2
-    if-at-requires-2
+    slice-aggregate-packed-2
+    packed-requires-2
+    if-bits-requires-2
     returns-2
-    slice-aggregate-if-at-3
-    if-at-requires-3
+    slice-aggregate-packed-3
+    packed-requires-3
+    if-bits-requires-3
     returns-3
-    slice-aggregate-if-at-4
-    if-at-requires-4
+    slice-aggregate-packed-4
+    packed-requires-4
+    if-bits-requires-4
     returns-4
-    slice-aggregate-if-at-5
-    if-at-requires-5
+    slice-aggregate-packed-5
+    packed-requires-5
+    if-bits-requires-5
     returns-5
     returns-6)
