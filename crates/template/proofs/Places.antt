@@ -13,7 +13,7 @@ use Rattle.rules.specs.Template as rule
 use Rattle.parts.specs.Holds.{Holds, end}
 use Rattle.parts.specs.HoldsLaws.{moved, Same}
 use Rattle.parts.specs.Views.{maybe-of, maybe-view}
-use Rattle.parts.specs.Parts.{indent-fits, names-none}
+use Rattle.parts.specs.Parts.{indent-fits, indent-none, indent-some, indent-there, names-none}
 use Rattle.parts.specs.declared.Maybe.{Maybe}
 use Rattle.parts.specs.declared.Maybe.the-variants.{At, Nothing}
 use Rattle.template.specs.Views.{flag-at, tail-view, call-end, flagged-view, names-end, template-end, inverse-end, body-end, bodied-view, block-view, kind-view, content-of, content-view, element-view, placed-element-is}
@@ -55,6 +55,48 @@ module _ (b : Bits) (p : ℕ) (H : Holds (indent then flag) b p) (f : ℕ) (hf :
       ap (λ (i : Maybe). record { indent = i; before = g; next = f + 1 }) hi
       ∙ ap (λ (g : Bool). record { indent = maybe-view b p; before = g; next = f + 1 }) hg
       ∙ ap (λ (f : ℕ). record { indent = maybe-view b p; before = flag-at b f; next = f + 1 }) hf
+
+-- by the first two bits
+module _ (b : Bits) (p : ℕ) (H : Holds (indent then flag) b p) (y : ℕ) (hy : y ≡ field b 2 p) where
+  tail-bits : y ≡ field b 1 p * 2 + field b 1 (p + 1)
+  tail-bits = hy ∙ field-append b 1 1 p
+
+  module _ (lt : y < 2) where
+    no-indent : field b 1 p ≡ 0
+    no-indent = omega (arith, tail-bits)
+
+    at-bit : p + 1 ≡ end indent b p
+    at-bit = indent-none b p (tail-indent b p H) no-indent .0
+
+    pub plain-tail-fits : p + 2 ≤ b .size
+    plain-tail-fits = omega (arith, tail-here b p H (p + 1) at-bit .1)
+
+    pub plain-tail-made : _≡_ {A = Tail} (record { indent = Nothing; before = eqb y 1; next = p + 2 }) (tail-view b p)
+    plain-tail-made =
+        let e : p + 2 ≡ p + 1 + 1 = omega arith in
+        let k : y ≡ field b 1 (p + 1) = omega (arith, tail-bits, no-indent) in
+        ap (λ (m : ℕ). record { indent = Nothing; before = eqb y 1; next = m }) e
+        ∙ tail-made b p H (p + 1) at-bit Nothing (sym (ap (maybe-of (p + 1)) no-indent)) (eqb y 1) (ap (λ (m : ℕ). eqb m 1) k)
+
+  module _ (bin : Binary b) (ge : 2 ≤ y) where
+    an-indent : field b 1 p ≡ 1
+    an-indent = indent-there b p (tail-indent b p H) (λ e. omega (arith, tail-bits, e, ge, field-lt b bin 1 (p + 1)))
+
+    pub indented-fits : p + 1 ≤ b .size
+    indented-fits = indent-fits b p (tail-indent b p H)
+
+    pub indented-string : Holds string b (p + 1)
+    indented-string = indent-some b p (tail-indent b p H) an-indent .inner
+
+    module _ (f : ℕ) (hf : f ≡ end string b (p + 1)) where
+      at-last-bit : f ≡ end indent b p
+      at-last-bit = hf ∙ indent-some b p (tail-indent b p H) an-indent .ends
+
+      pub indented-last : f + 1 ≤ b .size
+      indented-last = tail-here b p H f at-last-bit .1
+
+      pub indented-made : (g : Bool) → g ≡ flag-at b f → _≡_ {A = Tail} (record { indent = At (p + 1); before = g; next = f + 1 }) (tail-view b p)
+      indented-made g hg = tail-made b p H f at-last-bit (At (p + 1)) (sym (ap (maybe-of (p + 1)) an-indent)) g hg
 
 -- A call, which ends at q, an indent and a bit
 

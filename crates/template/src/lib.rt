@@ -141,9 +141,18 @@ fn tail_at(b: &[u8], p: usize) -> Tail
     requires { ⌜ (length (now b) ≤ 65536) × Holds (indent then flag) (bits (now b)) p ⌝ }
     ensures { λ r. ⌜ r ≡ tail-view (bits (now (b .entry))) p ⌝ }
 {
-    let f = parts::skip_indent(b, p);
+    // whether there is an indent, and where there is none the last bit
+    let y = bits::field(b, p, 2);
+    if y < 2 {
+        return Tail {
+            indent: Maybe::Nothing,
+            before: y == 1,
+            next: p + 2,
+        };
+    }
+    let f = parts::skip_string(b, p + 1);
     Tail {
-        indent: parts::maybe_at(b, p),
+        indent: Maybe::At(p + 1),
         before: flag_at(b, f),
         next: f + 1,
     }
