@@ -356,6 +356,12 @@ fn name_only(b: &[u8], p: usize, d: usize) -> bool
     requires { ⌜ (length (now b) ≤ 65536) × Holds (call-of (param d)) (bits (now b)) p ⌝ }
     ensures { λ r. ⌜ name-only (call-at d (bits (now (b .entry))) p) ≡ pick r (some (param-at d (bits (now (b .entry))) p)) none ⌝ }
 {
+    // the name's kind, and the count of the string that most are
+    let x = bits::field(b, p, 18);
+    if x <= 65535 {
+        let e = p + 18 + 8 * (x as usize);
+        return bits::field(b, e, 8) == 0;
+    }
     let q = calls::skip_param(b, p, d);
     bits::field(b, q, 8) == 0
 }
