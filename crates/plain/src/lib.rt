@@ -4,10 +4,13 @@
 // stands in an element.
 ghost use mathlib.Core.Bool.{true, false};
 ghost use mathlib.Core.Path.{_≡_};
-ghost use Prim.Native.Nat.{ℕ, _+_, _≤_};
+ghost use Prim.Native.Nat.{ℕ, _+_, _*_, _^_, _≤_, _<_};
 ghost use lib.ListN.{length};
 ghost use Rattle.rules.specs.Bits.{bits};
 ghost use Rattle.rules.specs.Bundle.{param, call-of, element-of, body};
+ghost use Rattle.bits.specs.Packed.{bytes-at};
+ghost use Rattle.output.specs.Outputs.{outputs};
+ghost use Rattle.support.specs.Feed.{fed};
 ghost use Rattle.parts.specs.Holds.{Holds};
 ghost use Rattle.parts.specs.HoldsLaws.{Passed};
 ghost use Rattle.template.specs.Views.{in-body};
@@ -67,6 +70,26 @@ fn full_number(w: Writer) -> u8
     25
 }
 
+// The n bytes of a packed string as a text. Most have up to seven, which are one word and stored from it.
+fn write_text(
+    page: &mut [u8],
+    texts: &mut [u8],
+    indent: &[u8],
+    w: Writer,
+    b: &[u8],
+    p: usize,
+    n: usize,
+) -> Writer
+    requires { ⌜ p + 8 * n < 2 ^ 64 ⌝ }
+    ensures { λ r. ⌜ outputs r (now (page .exit)) (now (texts .exit)) ≡ fed (now (indent .entry)) (bytes-at (bits (now (b .entry))) p n) (outputs w (now (page .entry)) (now (texts .entry))) ⌝ }
+{
+    let x = bits::field(b, p, 56);
+    if writing::is_short(w, page.len(), texts.len(), n, x) {
+        return writing::put_short(page, texts, w, n, x);
+    }
+    writing::write_packed(page, texts, indent, w, b, p, n)
+}
+
 // How far the elements of a body are drawn: the writer, the number of the next one and its place, and the number of its refusal, or 0.
 pub struct Run {
     pub writer: Writer,
@@ -114,7 +137,7 @@ pub fn draw_run(
         let mut next = q;
         match plain_at(b, q, d) {
             Plain::Text(n) => {
-                w = writing::write_packed(page, texts, indent, w, b, q + 20, n);
+                w = write_text(page, texts, indent, w, b, q + 20, n);
                 next = q + 20 + 8 * n;
             }
             Plain::Path(html, e) => {

@@ -28,7 +28,7 @@ use Rattle.helpers.proofs.bare_path.Reads as bare-path-reads
 use Rattle.plain.proofs.full_number.Reads as full-number-reads
 use Rattle.plain.proofs.plain_at.Reads as plain-at-reads
 use Rattle.plain.proofs.run_of.Reads as run-of-reads
-use Rattle.writing.proofs.write_packed.Reads as write-packed-reads
+use Rattle.plain.proofs.write_text.Reads as write-text-reads
 use Rattle.writing.proofs.write_value.Reads as write-value-reads
 
 abbrev Inv-loop : tie.InvT-loop
@@ -72,8 +72,8 @@ plain-at-requires c κs = let z = (c .before .before .before .before .before .be
 enum-known-n : tie.Need-enum-known-n Inv-loop μ-loop
 enum-known-n c = search needs
 
-add-write-packed : tie.Need-add-write-packed Inv-loop μ-loop
-add-write-packed c = let z = (c .before .before .before .before .before .before .before .before .before .before .before .before .before .before .before .before .before) in
+add-write-text : tie.Need-add-write-text Inv-loop μ-loop
+add-write-text c = let z = (c .before .before .before .before .before .before .before .before .before .before .before .before .before .before .before .before .before) in
     let a = z .args in
     let l = (c .before .before .before .before .before .before .before) .loop in
     let D = l .inv .1 none (z .pre .3 .0) (z .pre .3 .1) in
@@ -81,8 +81,8 @@ add-write-packed c = let z = (c .before .before .before .before .before .before 
     let k = string-in (bits (a .b .now)) (l .cur + 16 + 16 + 4) (T .text) in
     omega (arith, k, T .count, z .pre .1, bits-size (a .b .now))
 
-write-packed-requires : tie.Need-write-packed-requires Inv-loop μ-loop
-write-packed-requires c κs = let z = (c .before .before .before .before .before .before .before .before .before .before .before .before .before .before .before .before .before) in
+write-text-requires : tie.Need-write-text-requires Inv-loop μ-loop
+write-text-requires c κs = let z = (c .before .before .before .before .before .before .before .before .before .before .before .before .before .before .before .before .before) in
     let a = z .args in
     let l = (c .before .before .before .before .before .before .before) .loop in
     let D = l .inv .1 none (z .pre .3 .0) (z .pre .3 .1) in
@@ -388,8 +388,8 @@ draw-run-spec =
     add-q-2
     plain-at-requires
     enum-known-n
-    add-write-packed
-    write-packed-requires
+    add-write-text
+    write-text-requires
     add-next
     mul-next
     add-next-2
