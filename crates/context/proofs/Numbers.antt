@@ -25,7 +25,8 @@ use Rattle.value.specs.Numbers.{word-of, place-of, pair-of, decoded}
 use Rattle.meaning.specs.Meaning.{is-missing}
 use Rattle.lookup.specs.Answers.{Held, Led, DataGot}
 use Rattle.lookup.specs.Numbers.{numbered-got, NumberGot}
-use Rattle.context.specs.Evaluated.{present, SteppedOn, Stepped}
+use Rattle.context.specs.Evaluated.{numbered, present, SteppedOn, Stepped}
+use Rattle.context.specs.declared.Evaluated.the-variants.{Is}
 use Rattle.context.specs.declared.Step.the-variants.{On, Nothing}
 use Rattle.context.proofs.Walking.{present-led, stepped-named}
 
@@ -97,3 +98,6 @@ module _ (b : Bytes) (p : ℕ) (H : Holds seg (bits b) p) (x : ℕ) (hx : x ≡ 
         let z : next ≡ p + 2 + 16 + 8 * x = omega arith in
         stepped-named s b ent tab acc (decoded cur) held p (p + 2) next (On (decoded w) next) (name-stands .is) (z ∙ name-stands .next)
         (refl, subst (λ (v : Value). Led s b ent (decoded cur) (text-at (bits b) (p + 2)) v) (sym f) (l .0), ap is-missing f ∙ l .1)
+
+pub some-numbered : (r : ℕ) → (r ≡ 0 → ⊥) → (r ≡ 1 → ⊥) → numbered r ≡ Is (decoded (r - 2))
+some-numbered r n0 n1 = let g : r ≡ suc (suc (r - 2)) = omega arith in ap numbered g

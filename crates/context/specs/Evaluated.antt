@@ -1,5 +1,5 @@
 -- What following a path answers.
-use Prim.Native.Nat.{ℕ}
+use Prim.Native.Nat.{ℕ, zero, suc, _<_}
 use mathlib.Core.List.{List, _∷_}
 use mathlib.Core.Bool.{false}
 use mathlib.Core.Option.{Option, none, some}
@@ -15,6 +15,7 @@ use Rattle.parts.specs.Holds.{end}
 use Rattle.parts.specs.Says.{segment-at, segments-at}
 use Rattle.places.specs.Places.{path-at}
 use Rattle.value.specs.declared.Value.{Value}
+use Rattle.value.specs.Numbers.{decoded}
 use Rattle.value.specs.declared.Value.the-variants.{Missing, Null, False, True, Empty, Context, Place, Literal, Index, IndexText, Name, Text, SaidChar, PackedChar, Merged}
 use Rattle.meaning.specs.Meaning.{context-place, is-missing, json-of, scoped-of}
 use Rattle.meaning.specs.Standing.{Stands}
@@ -36,6 +37,16 @@ Evaluates s b ent t x BadIndex = x ≡ bad invalid-json-index
 -- from v along the names among the n segments at p
 abbrev pub Walked : Bytes → Bytes → List ℕ → Value → ℕ → ℕ → Evaluated → Type 0
 Walked s b ent v p n r = (t : ℕ) → Stands s b ent t v → is-missing v ≡ false → Evaluates s b ent t (walked (path-of s v) (json-of s b ent v) (merge-json-path (segments-at n (bits b) p))) r
+
+-- the same as a number: 1 for what is missing, and two more than a value's number
+abbrev pub numbered : ℕ → Evaluated
+numbered zero = Is Missing
+numbered (suc zero) = Is Missing
+numbered (suc (suc n)) = Is (decoded n)
+
+pub record Quick (s b : Bytes) (ent : List ℕ) (v : Value) (p n r : ℕ) : Type 0 where
+  pub small : r < 4294967298
+  pub told : (r ≡ 0 → ⊥) → Walked s b ent v p n (numbered r)
 
 -- a value that is not missing, with its path where that is known
 pub scoped-is : (s b : Bytes) (ent : List ℕ) (v : Value) → is-missing v ≡ false → with-path (path-of s v) (json-of s b ent v) ≡ scoped-of s b ent v

@@ -28,7 +28,7 @@ ghost use Rattle.scope.specs.Names.{AllReadable, local-at};
 ghost use Rattle.lookup.specs.Answers.{Held};
 ghost use Rattle.context.specs.Walk.{walked};
 ghost use Rattle.context.specs.Recursive.{looked};
-ghost use Rattle.context.specs.Evaluated.{path-of, Evaluates, Walked, present, NamedStep, Stepped, stopped};
+ghost use Rattle.context.specs.Evaluated.{path-of, Evaluates, Walked, Quick, present, NamedStep, Stepped, stopped};
 ghost use Rattle.context.specs.Start.{FirstIs, Based, NameStarts, Starts};
 use lookup::Got;
 use parts::Path;
@@ -232,9 +232,10 @@ fn present_number(n: u32) -> u32
     n
 }
 
-fn quickly(s: &[u8], tab: &[u64], b: &[u8], ent: &[u64], v: u32, p: usize, n: usize) -> Evaluated
+// 0 where it is not told here, 1 where the path leads nowhere, else two more than the number of what it leads to.
+fn quickly(s: &[u8], tab: &[u64], b: &[u8], ent: &[u64], v: u32, p: usize, n: usize) -> u64
     requires { ⌜ Accepted (now s) (now tab) × (length (now b) ≤ 65536) × Held (now s) (now b) (now ent) (decoded v) × Holds (row seg n) (bits (now b)) p ⌝ }
-    ensures { λ r. ⌜ Walked (now (s .entry)) (now (b .entry)) (now (ent .entry)) (decoded v) p n r ⌝ }
+    ensures { λ r. ⌜ Quick (now (s .entry)) (now (b .entry)) (now (ent .entry)) (decoded v) p n r ⌝ }
 {
     let mut cur = v;
     let mut at = p;
@@ -243,20 +244,17 @@ fn quickly(s: &[u8], tab: &[u64], b: &[u8], ent: &[u64], v: u32, p: usize, n: us
         // the kind, and the count of the string that a name is
         let x = bits::field(b, at, 18);
         if 65536 <= x {
-            return by_enums(s, tab, b, ent, cur, at, left);
+            return 0;
         }
         let r = lookup::get_number(s, tab, b, ent, cur, at + 2, x as usize);
-        if r == 0 {
-            return by_enums(s, tab, b, ent, cur, at, left);
-        }
-        if r == 1 {
-            return Evaluated::Is(Value::Missing);
+        if r <= 1 {
+            return r;
         }
         cur = present_number((r - 2) as u32);
         at += 18 + 8 * (x as usize);
         left -= 1;
     }
-    Evaluated::Is(value::decode(cur))
+    2 + (cur as u64)
 }
 
 // Recursive lookup
@@ -337,7 +335,14 @@ fn navigate(
             }
         }
     }
-    quickly(s, tab, b, ent, from.value, from.place, from.left)
+    let r = quickly(s, tab, b, ent, from.value, from.place, from.left);
+    if r == 0 {
+        return by_enums(s, tab, b, ent, from.value, from.place, from.left);
+    }
+    if r == 1 {
+        return Evaluated::Is(Value::Missing);
+    }
+    Evaluated::Is(value::decode((r - 2) as u32))
 }
 
 fn local_value(b: &[u8], sc: &[u64], used: usize, level: usize, p: usize) -> Evaluated
