@@ -214,15 +214,7 @@ fn slowly(s: &[u8], tab: &[u64], b: &[u8], ent: &[u64], v: u32, p: usize, n: usi
     walk(s, tab, b, ent, value::decode(v), p, n)
 }
 
-// (Where a function passes a slice to a call, the compiler stores the slice when the function begins. This one stands between, so that only the few that come here
-// pay for that.)
-fn by_enums(s: &[u8], tab: &[u64], b: &[u8], ent: &[u64], v: u32, p: usize, n: usize) -> Evaluated
-    requires { ⌜ Accepted (now s) (now tab) × (length (now b) ≤ 65536) × Held (now s) (now b) (now ent) (decoded v) × Holds (row seg n) (bits (now b)) p ⌝ }
-    ensures { λ r. ⌜ Walked (now (s .entry)) (now (b .entry)) (now (ent .entry)) (decoded v) p n r ⌝ }
-{
-    slowly(s, tab, b, ent, v, p, n)
-}
-
+// A value that is found is not missing.
 fn present_number(n: u32) -> u32
     ensures { λ r. ⌜ decoded r ≡ present (decoded n) ⌝ }
 {
@@ -337,7 +329,7 @@ fn navigate(
     }
     let r = quickly(s, tab, b, ent, from.value, from.place, from.left);
     if r == 0 {
-        return by_enums(s, tab, b, ent, from.value, from.place, from.left);
+        return slowly(s, tab, b, ent, from.value, from.place, from.left);
     }
     if r == 1 {
         return Evaluated::Is(Value::Missing);

@@ -87,8 +87,8 @@ quickly-requires c κs =
     let h : Held s b ent (decoded (c .before .begin .result .value)) = record { used = z .0; room = z .1 .entries; stands = S .at s (z .0) (z .1) .stands } in
     (c .before .before .before .before .before .before .before .pre .0, c .before .before .before .before .before .before .before .pre .1, h, S .holds)
 
-by-enums-requires : tie.Need-by-enums-requires
-by-enums-requires c κs =
+slowly-requires : tie.Need-slowly-requires
+slowly-requires c κs =
     let s = c .before .before .before .before .before .before .before .before .before .args .s .now in
     let b = c .before .before .before .before .before .before .before .before .before .args .b .now in
     let ent = c .before .before .before .before .before .before .before .before .before .args .ent .now in
@@ -115,10 +115,10 @@ returns-2 c =
     ⊎-elim (λ w. ap context-place (sym (w .3 .ensures)) ∙ no-context (w .3 .result) (w .4 .keys2))
     (⊎-elim (λ w. differ (sym (each .1) ∙ sym (w .1 .ensures) ∙ w .2 .left)) (λ w. differ (sym (each .0) ∙ w .left)))
     (c .before .before .before .if1 .came) in
-    let leads : Walked s b ent (decoded (from .value)) (from .place) (from .left) (c .by-enums .result) = c .by-enums .ensures in
+    let leads : Walked s b ent (decoded (from .value)) (from .place) (from .left) (c .slowly .result) = c .slowly .ensures in
     λ t st.
     let A = c .before .before .before .before .begin .ensures .at s t st in
-    subst (λ (y : Got ScopedJson). Evaluates s b ent t y (c .by-enums .result))
+    subst (λ (y : Got ScopedJson). Evaluates s b ent t y (c .slowly .result))
     (sym (A .leads (json-at s 0) deep ∙ followed-either s b ent tab (c .before .before .before .before .before .before .before .before .before .before .pre .0) (decoded (from .value)) t (A .stands) (merge-json-path (segments-at (from .left) (bits b) (from .place))) deep k))
     (leads t (A .stands) (A .present))
 
@@ -182,4 +182,4 @@ returns-4 c =
     (leads t (A .stands) (A .present))
 
 pub navigate-spec : {M : Type 1} → statement M
-navigate-spec = tie.close (tie.spec begin-requires is-lone-name-requires decode-requires enum-known-v alone-requires returns quickly-requires by-enums-requires returns-2 returns-3 sub-decode cast-decode decode-requires-2 returns-4)
+navigate-spec = tie.close (tie.spec begin-requires is-lone-name-requires decode-requires enum-known-v alone-requires returns quickly-requires slowly-requires returns-2 returns-3 sub-decode cast-decode decode-requires-2 returns-4)
