@@ -6,11 +6,11 @@ use mathlib.Core.Option.{none, some}
 use mathlib.Core.Path.{_≡_, refl, sym, ap, _∙_}
 use native.Mathlib.Nat.{add-zero}
 use native.Mathlib.Omega.{arith}
-use borrow.Author.Tests.{eqb-false, leb-true, not-true}
+use borrow.Author.Tests.{ltb-false, eqb-true, eqb-false, leb-true, not-true}
 use lib.Dec.{eqb, ltb, leb}
 use lib.ListN.{length, getD, take}
-use lib.Seq.{sets, getD-take, length-take-le}
-use Rattle.rules.specs.Bytes.{Bytes, pick}
+use lib.Seq.{sets, getD-take, length-take-le, take-all, take-length}
+use Rattle.rules.specs.Bytes.{Bytes, pick, run}
 use Rattle.rules.specs.Order.{differ}
 use Rattle.rules.specs.Bits.{Bits}
 use Rattle.rules.specs.Layout.{field}
@@ -24,9 +24,9 @@ use Rattle.output.specs.Outputs.{indent-of}
 use Rattle.output.proofs.Steps.{all-put-append}
 use Rattle.output.proofs.Written.{all-put-is, all-put-fits}
 use Rattle.output.proofs.Packed.{take-packed}
-use Rattle.support.specs.Feed.{begun, penned, marked, finished, due, wants-indent, indent-before, all-emitted, fed-text}
-use Rattle.support.specs.Runs.{calm}
-use Rattle.support.proofs.Runs.{run-whole}
+use Rattle.support.specs.Feed.{begun, penned, marked, finished, due, wants-indent, indent-before, all-emitted, fed-text, escaped}
+use Rattle.support.specs.Runs.{calm, quiet-byte, line-length}
+use Rattle.support.proofs.Runs.{run-whole, calm-run, plain-run, line-calm}
 use Rattle.support.proofs.Fed.{after-text, fed-is}
 
 -- a text that is begun, fed and finished; i is the buffer of which the indent is a prefix
@@ -164,3 +164,31 @@ short-length n x h = length-take-le n (number-bytes 7 x) (rw word-length h)
 -- the field of a packed string
 pub short-packed : (b : Bits) (bin : Binary b) (p n x : ℕ) → n ≤ 7 → x ≡ field b 56 p → short-bytes n x ≡ bytes-at b p n
 short-packed b bin p n x h e = ap (take n) (number-packed b bin 7 0 p x e ∙ ap (λ (q : ℕ). bytes-at b q 7) (add-zero p)) ∙ take-packed b p 7 n h
+
+-- whether it is stored at once
+abbrev pub takes-short : Writer → ℕ → ℕ → ℕ → Bool
+takes-short w len n x = pick (ltb 7 n) false (pick (takes w len n) (pick (w .«has_indent») (eqb (line-length true (short-bytes n x)) n) true) false)
+
+pub short-taken : (w : Writer) (len n x : ℕ) → takes-short w len n x ≡ true → (n ≤ 7) × (takes w len n ≡ true) × (calm (w .«has_indent») (short-bytes n x) ≡ true)
+short-taken w len n x = by (ltb 7 n) (takes w len n) (w .«has_indent») refl refl refl
+  where
+    by : (a b c : Bool) → ltb 7 n ≡ a → takes w len n ≡ b → w .«has_indent» ≡ c → pick a false (pick b (pick c (eqb (line-length true (short-bytes n x)) n) true) false) ≡ true
+        → (n ≤ 7) × (takes w len n ≡ true) × (calm (w .«has_indent») (short-bytes n x) ≡ true)
+    by true b c e f g h = differ (sym h)
+    by false false c e f g h = differ (sym h)
+    by false true true e f g h =
+        let few = ltb-false 7 n e in
+        let l : length (short-bytes n x) ≤ line-length true (short-bytes n x) = omega (arith, eqb-true (line-length true (short-bytes n x)) n h, short-length n x few) in
+        (few, f, ap (λ (t : Bool). calm t (short-bytes n x)) g ∙ ap (calm true) (sym (take-all (line-length true (short-bytes n x)) (short-bytes n x) l)) ∙ line-calm true (short-bytes n x))
+    by false true false e f g h = (ltb-false 7 n e, f, ap (λ (t : Bool). calm t (short-bytes n x)) g ∙ ap (calm false) (sym (take-length (short-bytes n x))) ∙ line-calm false (short-bytes n x))
+
+-- Lent bytes that go out as they are: none is escaped, and no line ends inside
+
+abbrev pub plain : Bool → Bool → Bytes → Bool
+plain has e v = eqb (run (quiet-byte has e) v) (length v)
+
+pub plain-means : (has e : Bool) (v : Bytes) → plain has e v ≡ true → (calm has v ≡ true) × (escaped e v ≡ v)
+plain-means has e v h =
+    let n : run (quiet-byte has e) v ≡ length v = eqb-true (run (quiet-byte has e) v) (length v) h in
+    let whole : take (run (quiet-byte has e) v) v ≡ v = ap (λ (k : ℕ). take k v) n ∙ take-length v in
+    (ap (calm has) (sym whole) ∙ calm-run has e v, ap (escaped e) (sym whole) ∙ plain-run has e v ∙ whole)

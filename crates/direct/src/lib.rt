@@ -12,7 +12,7 @@ ghost use Rattle.bits.specs.Packed.{bytes-at, number-bytes};
 ghost use Rattle.output.specs.Writer.{output, over, place-of};
 ghost use Rattle.support.specs.Feed.{finished, begun, all-emitted, escaped};
 ghost use Rattle.support.specs.Runs.{calm, line-length};
-ghost use Rattle.direct.specs.Direct.{takes, behind, leads, written-text, short-bytes};
+ghost use Rattle.direct.specs.Direct.{takes, behind, leads, written-text, short-bytes, takes-short, plain};
 use output::Writer;
 
 // Whether a writer that begins a text of n bytes stores it so in an output of len bytes, if no line ends inside it.
@@ -162,7 +162,7 @@ pub fn write_packed(
 
 // Whether lent bytes go out as they are, where there is an indent, and where they are escaped.
 pub fn is_plain(v: &[u8], has_indent: bool, escape: bool) -> bool
-    ensures { λ r. ⌜ (r ≡ true → (calm «has_indent» (now (v .entry)) ≡ true) × (escaped escape (now (v .entry)) ≡ now (v .entry))) ⌝ }
+    ensures { λ r. ⌜ r ≡ plain «has_indent» escape (now (v .entry)) ⌝ }
 {
     support::quiet(v, 0, has_indent, escape) == v.len()
 }
@@ -226,7 +226,7 @@ fn short_line(x: u64, n: usize) -> usize
 
 // Whether the first n bytes of a word are a text that is stored at once.
 pub fn takes_short(w: Writer, len: usize, n: usize, x: u64) -> bool
-    ensures { λ r. ⌜ (r ≡ true → (n ≤ 7) × (takes w len n ≡ true) × (calm (w .«has_indent») (short-bytes n x) ≡ true)) ⌝ }
+    ensures { λ r. ⌜ r ≡ takes-short w len n x ⌝ }
 {
     if 7 < n {
         return false;

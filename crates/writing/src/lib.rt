@@ -17,7 +17,7 @@ ghost use Rattle.output.specs.Writer.{all-put};
 ghost use Rattle.output.specs.Outputs.{outputs, on};
 ghost use Rattle.support.specs.Feed.{escaped, fed};
 ghost use Rattle.support.specs.Runs.{calm};
-ghost use Rattle.direct.specs.Direct.{takes, short-bytes};
+ghost use Rattle.direct.specs.Direct.{takes, short-bytes, takes-short};
 ghost use Rattle.layout.specs.Text.{text-at};
 ghost use Rattle.parts.specs.Holds.{Holds};
 ghost use Rattle.places.specs.Accepted.{Accepted};
@@ -55,7 +55,7 @@ pub fn write_packed(
 // Whether the first n bytes of a word are a text that is stored at once, in a page or block texts of so many bytes. (A packed
 // string of up to seven bytes is such a word. To ask first keeps the writer of a loop that draws many of them in its place.)
 pub fn is_short(w: Writer, page: usize, texts: usize, n: usize, x: u64) -> bool
-    ensures { λ r. ⌜ (r ≡ true → (n ≤ 7) × (takes w (pick (w .«block_text») texts page) n ≡ true) × (calm (w .«has_indent») (short-bytes n x) ≡ true)) ⌝ }
+    ensures { λ r. ⌜ r ≡ takes-short w (pick (w .«block_text») texts page) n x ⌝ }
 {
     if w.block_text {
         return direct::takes_short(w, texts, n, x);

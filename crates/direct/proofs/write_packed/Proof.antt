@@ -1,4 +1,5 @@
-use Rattle.direct.specs.Direct.{written-text, short-packed}
+use lib.ListN.{length}
+use Rattle.direct.specs.Direct.{written-text, short-packed, short-taken}
 use Rattle.support.specs.Feed.{finished, all-emitted}
 use Rattle.output.specs.Writer.{output, over}
 use Rattle.output.specs.declared.Writer.{Writer}
@@ -6,7 +7,7 @@ use Rattle.bits.specs.Packed.{bytes-at}
 use Rattle.rules.specs.BundleLaws.{bits-binary}
 use Rattle.rules.specs.Bits.{bits}
 use Rattle.rules.specs.Bytes.{Bytes}
-use mathlib.Core.Path.{_≡_, ap, _∙_}
+use mathlib.Core.Path.{_≡_, sym, ap, _∙_}
 use borrow.Author.Needs.{needs}
 use Rattle.direct.proofs.write_packed.Statement.{statement}
 use Rattle.direct.proofs.write_packed.Tie as tie
@@ -36,7 +37,7 @@ takes-short-requires c κs = search needs
 
 -- src/lib.rt:154:9
 put-short-requires : tie.Need-put-short-requires
-put-short-requires c κs = c .before .before .takes-short .ensures (c .before .if1 .taken)
+put-short-requires c κs = let u = c .before .before .before .before .before .before .led-packed in short-taken (u .result) (length (u .last .0)) (c .before .before .before .before .before .before .before .before .before .before .before .args .n) (c .before .before .before .field .result) (sym (c .before .before .takes-short .ensures) ∙ c .before .if1 .taken)
 
 -- src/lib.rt:154:9
 same-length : tie.Need-same-length
@@ -46,7 +47,7 @@ same-length c = search needs
 returns : tie.Need-returns
 returns c =
     let a = c .before .before .before .before .before .before .before .before .before .before .before .before .before .before .args in
-    let d = c .before .before .before .before .before .takes-short .ensures (c .before .before .before .before .if1 .taken) in
+    let d = short-taken (c .before .before .before .before .before .before .before .before .before .led-packed .result) (length (c .before .before .before .before .before .before .before .before .before .led-packed .last .0)) (a .n) (c .before .before .before .before .before .before .field .result) (sym (c .before .before .before .before .before .takes-short .ensures) ∙ c .before .before .before .before .if1 .taken) in
     let u = c .before .before .before .before .before .before .before .before .before .led-packed in
     c .before .before .put-short .ensures (a .indent .now)
     ∙ ap (λ (v : Bytes). written-text (a .indent .now) v (output (u .result) (u .last .0))) (short-packed (bits (a .s .now)) (bits-binary (a .s .now)) (a .p) (a .n) (c .before .before .before .before .before .before .field .result) (d .0) (c .before .before .before .before .before .before .field .ensures))

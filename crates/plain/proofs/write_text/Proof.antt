@@ -1,11 +1,12 @@
 -- `plain::write_text` meets its contract.
-use mathlib.Core.Path.{ap, _∙_}
-use Rattle.rules.specs.Bytes.{Bytes}
+use mathlib.Core.Path.{sym, ap, _∙_}
+use lib.ListN.{length}
+use Rattle.rules.specs.Bytes.{Bytes, pick}
 use Rattle.rules.specs.Bits.{bits}
 use Rattle.rules.specs.BundleLaws.{bits-binary}
 use Rattle.output.specs.Outputs.{outputs}
 use Rattle.support.specs.Feed.{fed}
-use Rattle.direct.specs.Direct.{short-packed}
+use Rattle.direct.specs.Direct.{short-packed, short-taken}
 use borrow.Author.Needs.{needs}
 use Rattle.plain.proofs.write_text.Statement.{statement}
 use Rattle.plain.proofs.write_text.Tie as tie
@@ -23,7 +24,7 @@ is-short-requires : tie.Need-is-short-requires
 is-short-requires c κs = search needs
 
 put-short-requires : tie.Need-put-short-requires
-put-short-requires c κs = (c .before .before .before) .is-short .ensures ((c .before .before) .if1 .taken)
+put-short-requires c κs = let a = (c .before .before .before .before .before .before .before .before .before) .args in short-taken (a .w) (pick (a .w .«block_text») (length (a .texts .now)) (length (a .page .now))) (a .n) ((c .before .before .before .before) .field .result) (sym ((c .before .before .before) .is-short .ensures) ∙ (c .before .before) .if1 .taken)
 
 same-length : tie.Need-same-length
 same-length c = search needs
@@ -33,7 +34,7 @@ same-length-2 c = search needs
 
 returns : tie.Need-returns
 returns c = let a = (c .before .before .before .before .before .before .before .before .before .before .before .before .before .before) .args in
-    let k = (c .before .before .before .before .before .before .before .before) .is-short .ensures ((c .before .before .before .before .before .before .before) .if1 .taken) in
+    let k = short-taken (a .w) (pick (a .w .«block_text») (length (a .texts .now)) (length (a .page .now))) (a .n) ((c .before .before .before .before .before .before .before .before .before) .field .result) (sym ((c .before .before .before .before .before .before .before .before) .is-short .ensures) ∙ (c .before .before .before .before .before .before .before) .if1 .taken) in
     (c .before .before .before .before) .put-short .ensures (a .indent .now)
     ∙ ap (λ (v : Bytes). fed (a .indent .now) v (outputs (a .w) (a .page .now) (a .texts .now))) (short-packed (bits (a .b .now)) (bits-binary (a .b .now)) (a .p) (a .n) ((c .before .before .before .before .before .before .before .before .before) .field .result) (k .0) ((c .before .before .before .before .before .before .before .before .before) .field .ensures))
 

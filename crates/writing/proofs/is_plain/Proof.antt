@@ -1,4 +1,5 @@
 use Rattle.rules.specs.Order.{differ}
+use Rattle.direct.specs.Direct.{plain-means}
 use mathlib.Core.Path.{sym, _∙_}
 use borrow.Author.Needs.{needs}
 use Rattle.writing.proofs.is_plain.Statement.{statement}
@@ -22,7 +23,7 @@ is-plain-requires c κs = search needs
 
 -- src/lib.rt:126:9
 returns-2 : tie.Need-returns-2
-returns-2 c = λ h. let d = c .is-plain .ensures h in (c .before .before .before .if1 .left, sym (c .before .before .takes .ensures) ∙ c .before .if2 .taken, d .0, d .1)
+returns-2 c = λ h. let a = c .before .before .before .before .before .args in let d = plain-means (a .w .«has_indent») (a .escape) (a .v .now) (sym (c .is-plain .ensures) ∙ h) in (c .before .before .before .if1 .left, sym (c .before .before .takes .ensures) ∙ c .before .if2 .taken, d .0, d .1)
 
 -- src/lib.rt:119:1
 returns-3 : tie.Need-returns-3
