@@ -6,7 +6,7 @@ use mathlib.Core.Option.{Option, none, some}
 use mathlib.Core.Path.{_≡_, refl, sym, ap, _∙_, subst}
 use native.Mathlib.Omega.{arith}
 use lib.Dec.{leb}
-use lib.ListN.{length}
+use lib.ListN.{length, replicate}
 use borrow.Author.Tests.{le-leb, leb-true}
 use Rattle.rules.specs.Bytes.{Bytes, pick}
 use Rattle.rules.specs.Bits.{Bits, bits}
@@ -17,6 +17,7 @@ use Rattle.rules.specs.Registry.{Limits, get-template}
 use Rattle.rules.specs.Call.{Answer, Inputs, refused, check, checked, long-enough, scratch-lengths, render-call, render-bytes}
 use Rattle.layout.specs.declared.Verdict.{Verdict}
 use Rattle.layout.specs.declared.Verdict.the-variants.{Accepted, TooLong, PartialContext}
+use Rattle.layout.specs.Listed.{BundleListed}
 use Rattle.layout.specs.Text.{text-at}
 use Rattle.layout.specs.Verdict.{verdict, read-verdict, verdict-number}
 use Rattle.parts.specs.Holds.{Holds}
@@ -24,7 +25,8 @@ use Rattle.parts.specs.HoldsLaws.{value-is, tested-holds}
 use Rattle.template.specs.Views.{template-at}
 use Rattle.registry.specs.declared.Found.{Found}
 use Rattle.registry.specs.declared.Found.the-variants.{Template as Is, Missing}
-use Rattle.registry.specs.Templates.{Standing, templates-at, templates-count, found-view, found-says, FoundHolds, found-stands}
+use Rattle.registry.specs.Index.{Indexed, listed-indexed}
+use Rattle.registry.specs.Templates.{Standing, accepted-holds, templates-at, templates-count, found-view, found-says, FoundHolds, found-stands}
 use Rattle.expand.specs.declared.Options.{Options}
 use Rattle.drawing.specs.Renders.{options-of}
 use Rattle.handlebars.specs.Answers.{both-are}
@@ -52,6 +54,27 @@ goes-on b s o l (At p q) = checked (answer s) (plan s) (λ json. render-call (re
 abbrev pub StartHolds : Bytes → Start → Type 0
 StartHolds b (At p q) = Standing b × Holds string (bits b) p × Holds (body 16 16) (bits b) q
 StartHolds b (Refused k) = Unit {0}
+
+-- a table has the places of a bundle's templates
+abbrev pub Tabled : Bytes → List ℕ → Type 0
+Tabled b l = (length l ≡ 64) × Indexed (body 16 16) (bits b) (field (bits b) 8 8) l
+
+-- it has them where the bundle is accepted, else zeros
+pub record Filled (b : Bytes) (l : List ℕ) : Type 0 where
+  pub accepted : verdict b ≡ Accepted → Tabled b l
+  pub refused : (verdict b ≡ Accepted → ⊥) → l ≡ replicate 64 0
+
+pub filled : (b : Bytes) (k : List ℕ) → length k ≡ 64 → (l : List ℕ) → length l ≡ length k → (r : Verdict) → r ≡ verdict b → (r ≡ Accepted → BundleListed (bits b) l) → ((r ≡ Accepted → ⊥) → l ≡ replicate (length k) 0) → Filled b l
+filled b k e l f r g x y =
+    record {
+      accepted = λ h. (f ∙ e, listed-indexed (bits b) (accepted-holds b h .templates) l (x (g ∙ h)));
+      refused = λ h. y (λ q. h (sym g ∙ q)) ∙ ap (λ (n : ℕ). replicate n 0) e;
+    }
+
+pub standing-accepted : (b : Bytes) → Standing b → verdict b ≡ Accepted
+unfolding verdict
+standing-accepted b h =
+    ap (λ (t : Bool). pick t (read-verdict (bundle b)) TooLong) (le-leb (length b) 65536 (h .small)) ∙ ap read-verdict (h .are) ∙ ap (λ (t : Bool). pick t PartialContext Accepted) (h .plain)
 
 -- r is what the checks 2 to 6 find
 pub record Begins (b n : Bytes) (o : Options) (r : Start) : Type 0 where

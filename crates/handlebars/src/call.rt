@@ -7,7 +7,7 @@ ghost use Rattle.rules.specs.Call.{render-bytes};
 ghost use Rattle.drawing.specs.Renders.{options-of};
 ghost use Rattle.handlebars.specs.declared.start.Start.the-variants.{At};
 ghost use Rattle.handlebars.specs.Answers.{refusal, Shown};
-ghost use Rattle.handlebars.specs.Begins.{Roomy, StartHolds, goes-on};
+ghost use Rattle.handlebars.specs.Begins.{Roomy, StartHolds, Tabled, goes-on};
 ghost use Rattle.handlebars.specs.Calls.{inputs, left, predicted, Emptied};
 use crate::Answer;
 use crate::draw::draw;
@@ -50,6 +50,7 @@ fn clear_lent(
 // Checks 7 to 10, then the drawing of the template whose name stands at the place name and whose body at p.
 fn go_on(
     bundle: &[u8],
+    index: &[u32],
     plan: &[u8],
     options: Options,
     name: usize,
@@ -60,7 +61,7 @@ fn go_on(
     texts: &mut [u8],
     indent: &mut [u8],
 ) -> Answer
-    requires { ⌜ StartHolds (now bundle) (At name p) × Roomy (now places) (now entries) (now texts) (now indent) ⌝ }
+    requires { ⌜ StartHolds (now bundle) (At name p) × Tabled (now bundle) (now index) × Roomy (now places) (now entries) (now texts) (now indent) ⌝ }
     ensures { λ r. ⌜ Shown (now (bundle .entry)) r (now (page .exit)) (goes-on (now (bundle .entry)) (now (plan .entry)) (options-of options) (paper-limits (length (now (page .entry)))) (At name p)) ⌝ }
 {
     let n = json::read_plan(plan, places);
@@ -69,6 +70,7 @@ fn go_on(
     }
     draw(
         bundle,
+        index,
         plan,
         places,
         options,
@@ -98,11 +100,13 @@ fn answer(
     if !long_enough(places.len(), entries.len(), texts.len(), indent.len()) {
         return refused(1);
     }
-    let from = begin(bundle, start, options);
+    let mut index: [u32; 64] = [0; 64];
+    let from = begin(bundle, start, options, &mut index);
     match from {
         Start::Refused(number) => refused(number),
         Start::At(name, p) => go_on(
             bundle,
+            &index,
             plan,
             options,
             name,

@@ -16,6 +16,7 @@ ghost use Rattle.state.specs.Context.{whole};
 ghost use Rattle.state.specs.World.{reason-of};
 ghost use Rattle.drawing.specs.Renders.{registry-of};
 ghost use Rattle.handlebars.specs.Answers.{answer-of, Shown};
+ghost use Rattle.handlebars.specs.Begins.{Tabled};
 use crate::Answer;
 use expand::Options;
 use render::render_template;
@@ -70,6 +71,7 @@ fn answered(rc: RenderContext) -> Answer
 // Draws the template whose name stands at the place name and whose body at p. The text is on the page, its length in the answer.
 pub fn draw(
     b: &[u8],
+    index: &[u32],
     s: &[u8],
     tab: &[u64],
     options: Options,
@@ -80,17 +82,15 @@ pub fn draw(
     texts: &mut [u8],
     indent: &mut [u8],
 ) -> Answer
-    requires { ⌜ Standing (now b) × Accepted (now s) (now tab) × (8192 ≤ length (now entries)) × (16384 ≤ length (now texts)) × (256 ≤ length (now indent)) × Holds string (bits (now b)) name × Holds (body 16 16) (bits (now b)) p ⌝ }
+    requires { ⌜ Standing (now b) × Tabled (now b) (now index) × Accepted (now s) (now tab) × (8192 ≤ length (now entries)) × (16384 ≤ length (now texts)) × (256 ≤ length (now indent)) × Holds string (bits (now b)) name × Holds (body 16 16) (bits (now b)) p ⌝ }
     ensures { λ r. ⌜ Shown (now (b .entry)) r (now (page .exit)) (render-call (registry-of (now (s .entry)) (now (b .entry)) options (length (now (page .entry)))) (text-at (bits (now (b .entry))) name) (template-at 16 16 (bits (now (b .entry))) p)) ⌝ }
 {
-    let mut index: [u32; 64] = [0; 64];
-    registry::index(b, 16, &mut index);
     let mut sc: [u64; 96] = [0; 96];
     let rc = render_template(
         s,
         tab,
         b,
-        &index,
+        index,
         entries,
         page,
         texts,

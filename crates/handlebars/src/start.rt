@@ -1,9 +1,10 @@
 // Checks 1 to 6: what a call needs before it reads the plan.
 ghost use mathlib.Core.List.{[], _∷_};
 ghost use mathlib.Core.Path.{_≡_};
+ghost use lib.ListN.{length};
 ghost use Rattle.rules.specs.Call.{long-enough, scratch-lengths};
 ghost use Rattle.registry.specs.Templates.{Standing};
-ghost use Rattle.handlebars.specs.Begins.{Begins};
+ghost use Rattle.handlebars.specs.Begins.{Begins, Filled};
 use expand::Options;
 use layout::Verdict;
 use registry::Found;
@@ -58,11 +59,12 @@ fn find(b: &[u8], start: &[u8], options: Options) -> Start
     }
 }
 
-// Checks 2 to 6.
-pub fn begin(b: &[u8], start: &[u8], options: Options) -> Start
-    ensures { λ r. ⌜ Begins (now (b .entry)) (now (start .entry)) options r ⌝ }
+// Checks 2 to 6. The table gets the places of the templates where 2, 3 and 4 are passed, else it is zero.
+pub fn begin(b: &[u8], start: &[u8], options: Options, index: &mut [u32]) -> Start
+    requires { ⌜ length (now index) ≡ 64 ⌝ }
+    ensures { λ r. ⌜ Begins (now (b .entry)) (now (start .entry)) options r × Filled (now (b .entry)) (now (index .exit)) ⌝ }
 {
-    let v = layout::check_bundle(b);
+    let v = layout::check_indexed(b, index);
     match v {
         Verdict::Accepted => find(b, start, options),
         Verdict::TooLong => Start::Refused(2),

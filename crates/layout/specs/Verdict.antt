@@ -1,7 +1,9 @@
 -- Checks 2, 3 and 4 of document 01.
-use Prim.Native.Nat.{ℕ}
+use Prim.Native.Nat.{ℕ, _<_}
 use mathlib.Core.List.{List}
 use mathlib.Core.Option.{Option, none, some}
+use mathlib.Core.Path.{_≡_, ap}
+use native.Mathlib.Omega.{arith}
 use lib.Dec.{leb}
 use lib.ListN.{length}
 use Rattle.rules.specs.Bytes.{Bytes, pick}
@@ -23,3 +25,7 @@ verdict-number Accepted = 0
 verdict-number TooLong = 2
 verdict-number BadLayout = 3
 verdict-number PartialContext = 4
+
+-- a verdict with a number accepts nothing
+pub never-accepted : {A : Type 0} (v : Verdict) → 0 < verdict-number v → v ≡ Accepted → A
+never-accepted v h e = let z : verdict-number v ≡ 0 = ap verdict-number e in absurd (omega arith)

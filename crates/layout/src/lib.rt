@@ -2,13 +2,17 @@
 // A place is a bit of the bundle, with a mark that check 4 sets, or that the layout is broken. Each function below takes the place
 // before a part and gives the place behind it; a broken place stays broken, so that a row of parts is a row of calls.
 // They all require what check 2 has found: at most 65,536 bytes.
+ghost use mathlib.Core.Bool.{Bool};
 ghost use mathlib.Core.Path.{_≡_};
 ghost use Prim.Native.Nat.{ℕ, _≤_, _<_};
-ghost use lib.ListN.{length, getD};
+ghost use lib.ListN.{length, getD, replicate};
 ghost use Rattle.rules.specs.Bytes.{same};
 ghost use Rattle.rules.specs.Bits.{bits};
 ghost use Rattle.rules.specs.Bundle.{among, templates, partial-context};
-ghost use Rattle.layout.specs.Walk.{past};
+ghost use Rattle.layout.specs.Walk.{past, ahead, number-at};
+ghost use Rattle.layout.specs.Listed.{Listed, BundleListed};
+ghost use Rattle.layout.specs.declared.Place.the-variants.{At};
+ghost use Rattle.layout.specs.declared.Verdict.the-variants.{Accepted};
 ghost use Rattle.layout.specs.Text.{text-at};
 ghost use Rattle.layout.specs.Names.{seen-at};
 ghost use Rattle.layout.specs.Verdict.{verdict};
@@ -34,24 +38,24 @@ pub fn same_text(b: &[u8], p: usize, q: usize) -> bool
 }
 
 // Whether the string at the bit at is one of those at the first n places.
-fn known(b: &[u8], places: &[usize; 64], n: usize, at: usize) -> bool
-    requires { ⌜ (n ≤ 64) × ((j : ℕ) → j < n → getD (now places) j 0 ≤ 524288) × (at ≤ 524288) ⌝ }
+fn known(b: &[u8], places: &[u32], n: usize, at: usize) -> bool
+    requires { ⌜ (n ≤ length (now places)) × ((j : ℕ) → j < n → getD (now places) j 0 ≤ 524288) × (at ≤ 524288) ⌝ }
     ensures { λ r. ⌜ r ≡ among (text-at (bits (now (b .entry))) at) (seen-at (bits (now (b .entry))) (now (places .entry)) n) ⌝ }
 {
     let mut j = n;
     while 0 < j {
         j -= 1;
-        if same_text(b, places[j], at) {
+        if same_text(b, places[j] as usize, at) {
             return true;
         }
     }
     false
 }
 
-// Template count 1 to 64 (8), each: name, body; names distinct.
-fn templates(b: &[u8], p: Place, w: usize) -> Place
-    requires { ⌜ length (now b) ≤ 65536 ⌝ }
-    ensures { λ r. ⌜ r ≡ past partial-context (templates w) (bits (now (b .entry))) p ⌝ }
+// Template count 1 to 64 (8), each: name, body; names distinct. Fills in the place of each, and zeroes the rest.
+fn templates(b: &[u8], p: Place, w: usize, places: &mut [u32]) -> Place
+    requires { ⌜ (length (now b) ≤ 65536) × (64 ≤ length (now places)) ⌝ }
+    ensures { λ r. ⌜ (r ≡ past partial-context (templates w) (bits (now (b .entry))) p) × (length (now (places .exit)) ≡ length (now (places .entry))) × ((q : ℕ) (m : Bool) → r ≡ At q m → Listed w (bits (now (b .entry))) (ahead (bits (now (b .entry))) 8 p) (number-at (bits (now (b .entry))) 8 p) (now (places .exit))) ⌝ }
 {
     let n = part::number(b, p, 8);
     if n < 1 {
@@ -60,7 +64,7 @@ fn templates(b: &[u8], p: Place, w: usize) -> Place
     if 64 < n {
         return Place::Broken;
     }
-    let mut places = [0usize; 64];
+    clear::clear_u32(places);
     let mut cur = part::ahead(b, p, 8);
     let mut i: usize = 0;
     while i < n {
@@ -71,10 +75,10 @@ fn templates(b: &[u8], p: Place, w: usize) -> Place
         let Place::At(_, _) = template else {
             return Place::Broken;
         };
-        if known(b, &places, i, at) {
+        if known(b, places, i, at) {
             return Place::Broken;
         }
-        places[i] = at;
+        places[i] = at as u32;
         cur = body::body(b, template, w, 16);
         i += 1;
     }
@@ -89,9 +93,10 @@ pub enum Verdict {
     PartialContext,
 }
 
-// Checks 2, 3 and 4 of any bytes.
-pub fn check_bundle(b: &[u8]) -> Verdict
-    ensures { λ r. ⌜ r ≡ verdict (now (b .entry)) ⌝ }
+// Checks 2, 3 and 4, and the places of the templates where all are passed.
+fn checked(b: &[u8], places: &mut [u32]) -> Verdict
+    requires { ⌜ 64 ≤ length (now places) ⌝ }
+    ensures { λ r. ⌜ (r ≡ verdict (now (b .entry))) × (length (now (places .exit)) ≡ length (now (places .entry))) × (r ≡ Accepted → BundleListed (bits (now (b .entry))) (now (places .exit))) ⌝ }
 {
     if 65536 < b.len() {
         return Verdict::TooLong;
@@ -100,7 +105,7 @@ pub fn check_bundle(b: &[u8]) -> Verdict
     if part::number(b, start, 8) != 1 {
         return Verdict::BadLayout;
     }
-    let Place::At(at, context) = templates(b, part::ahead(b, start, 8), 16) else {
+    let Place::At(at, context) = templates(b, part::ahead(b, start, 8), 16, places) else {
         return Verdict::BadLayout;
     };
     let end = 8 * b.len();
@@ -118,4 +123,33 @@ pub fn check_bundle(b: &[u8]) -> Verdict
         return Verdict::PartialContext;
     }
     Verdict::Accepted
+}
+
+// Checks 2, 3 and 4 of any bytes.
+pub fn check_bundle(b: &[u8]) -> Verdict
+    ensures { λ r. ⌜ r ≡ verdict (now (b .entry)) ⌝ }
+{
+    let mut places: [u32; 64] = [0; 64];
+    checked(b, &mut places)
+}
+
+// The same, with the places of the templates in the table, and zero behind them; all zero where a check refuses.
+pub fn check_indexed(b: &[u8], places: &mut [u32]) -> Verdict
+    requires { ⌜ 64 ≤ length (now places) ⌝ }
+    ensures { λ r. ⌜ (r ≡ verdict (now (b .entry))) × (length (now (places .exit)) ≡ length (now (places .entry))) × (r ≡ Accepted → BundleListed (bits (now (b .entry))) (now (places .exit))) × ((r ≡ Accepted → ⊥) → now (places .exit) ≡ replicate (length (now (places .entry))) 0) ⌝ }
+{
+    let r = checked(b, places);
+    match r {
+        Verdict::Accepted => {}
+        Verdict::TooLong => {
+            clear::clear_u32(places);
+        }
+        Verdict::BadLayout => {
+            clear::clear_u32(places);
+        }
+        Verdict::PartialContext => {
+            clear::clear_u32(places);
+        }
+    }
+    r
 }

@@ -4,50 +4,69 @@ use mathlib.Core.Bool.{Bool, true, false}
 use mathlib.Core.List.{List}
 use mathlib.Core.Path.{_≡_, refl, sym, ap, _∙_, subst}
 use native.Mathlib.Omega.{arith}
-use lib.Dec.{eqb}
-use lib.ListN.{length, set, getD, replicate, length-replicate}
-use lib.Seq.{getD-set-same, getD-set-other}
-use borrow.Author.Tests.{eqb-true, eqb-false}
+use lib.ListN.{length, getD}
+use borrow.Author.Tests.{le-leb}
 use Rattle.rules.specs.Template as rule
-use Rattle.rules.specs.Bytes.{Bytes, same}
+use Rattle.rules.specs.Bytes.{Bytes, pick, same}
 use Rattle.rules.specs.Bits.{Bits}
-use Rattle.rules.specs.Layout.{Layout, field}
-use Rattle.rules.specs.Bundle.{string, body, templates, find-template}
+use Rattle.rules.specs.Layout.{Read, read, broken, onward, Layout, field, _then_, counted}
+use Rattle.rules.specs.Bundle.{string, body, body-context, template, templates, templates-allowed, find-template}
 use Rattle.layout.specs.Text.{text-at}
+use Rattle.layout.specs.Walk.{next, past, unmarked, after, ahead, number-at}
+use Rattle.layout.specs.WalkLaws.{next-at}
+use Rattle.layout.specs.Listed.{template-place, count-place, BundleListed, listed-all, never-at}
+use Rattle.layout.specs.declared.Place.{Place}
+use Rattle.layout.specs.declared.Place.the-variants.{At, Broken}
 use Rattle.parts.specs.Holds.{Holds, end}
+use Rattle.parts.specs.HoldsLaws.{end-is, tested-holds, counted-holds}
 use Rattle.registry.specs.declared.Found.{Found}
 use Rattle.registry.specs.declared.Found.the-variants.{Template as Is, Missing}
-use Rattle.registry.specs.Templates.{templates-at, place-of, place-zero, found-view, Searching, search-start, search-here, search-on, search-end, number-at}
+use Rattle.registry.specs.Templates.{templates-at, place-of, place-zero, found-view, Searching, search-start, search-here, search-on, search-end, number-at as template-number-at}
 
 -- those of the first n, and zero behind them
 pub record Indexed (c : Layout rule.Template) (b : Bits) (n : ℕ) (l : List ℕ) : Type 0 where
   pub at : (k : ℕ) → k < n → getD l k 0 ≡ place-of c b k
   pub behind : (k : ℕ) → n ≤ k → getD l k 0 ≡ 0
 
-pub zeroed-length : (m : ℕ) (l : List ℕ) → l ≡ replicate m 0 → length l ≡ m
-zeroed-length m l e = ap length e ∙ length-replicate m 0
+-- What the check lists
 
-pub index-start : (c : Layout rule.Template) (b : Bits) (m : ℕ) (l : List ℕ) → l ≡ replicate m 0 → Indexed c b 0 l
-index-start c b m l e = record { at = λ k lt. absurd (omega arith); behind = λ k le. ap (λ (x : List ℕ). getD x k 0) e ∙ zeros m k }
-  where
-    zeros : (m k : ℕ) → _≡_ {A = ℕ} (getD (replicate m 0) k 0) 0
-    zeros zero k = refl
-    zeros (suc m) zero = refl
-    zeros (suc m) (suc k) = zeros m k
+module _ (b : Bits) where
+  -- a template that was passed ends where the next one begins
+  passed : (p : ℕ) (s : Bool) (x : Read Bytes) → string .dec b p ≡ x → (q : ℕ) (m : Bool) → past body-context (body 16 16) b (next unmarked s x) ≡ At q m
+      → end (string then body 16 16) b p ≡ q
+  passed p s (read a r) e q m h =
+      let y = next-at body-context _ (body 16 16 .dec b r) q m h in
+      end-is {c = string then body 16 16} {b = b} {p = p} (record {
+        found = (a, y .0);
+        behind = q;
+        reads = ap (λ (z : Read Bytes). onward z (λ a r. onward (body 16 16 .dec b r) (λ t r. read (a, t) r))) e ∙ ap (λ (z : Read rule.Template). onward z (λ t r. read (a, t) r)) (y .1);
+      })
+  passed p s broken e q m h = never-at q m h
 
--- one more
-pub index-more : (c : Layout rule.Template) (b : Bits) (n p : ℕ) (l : List ℕ) → n < length l → p ≡ place-of c b n → Indexed c b n l → Indexed c b (n + 1) (set l n p)
-index-more c b n p l lt e x =
-    record {
-      at = λ k h. go k h (eqb k n) refl;
-      behind = λ k h. getD-set-other l n k p 0 (λ q. omega arith) ∙ x .behind k (omega arith);
-    }
-  where
-    go : (k : ℕ) → k < n + 1 → (y : Bool) → eqb k n ≡ y → getD (set l n p) k 0 ≡ place-of c b k
-    go k h true q =
-        let z : k ≡ n = eqb-true k n q in
-        ap (λ (j : ℕ). getD (set l n p) j 0) z ∙ getD-set-same l n p 0 lt ∙ e ∙ ap (place-of c b) (sym z)
-    go k h false q = let ne : k ≡ n → ⊥ = eqb-false k n q in getD-set-other l n k p 0 ne ∙ x .at k (omega arith)
+  place-is : (k q : ℕ) (m : Bool) → template-place 16 b (At 16 false) k ≡ At q m → q ≡ place-of (body 16 16) b k
+  unfolding template-place place-of
+  place-is zero q m h = cc
+  place-is (suc k) q m h = step (λ p s e. place-is k p s e) (template-place 16 b (At 16 false) k) refl h
+    where
+      step : ((p : ℕ) (s : Bool) → template-place 16 b (At 16 false) k ≡ At p s → p ≡ place-of (body 16 16) b k) → (p : Place) → template-place 16 b (At 16 false) k ≡ p
+          → past body-context (body 16 16) b (after string b p) ≡ At q m → q ≡ end (string then body 16 16) b (place-of (body 16 16) b k)
+      step before (At p s) e h = sym (passed p s (string .dec b p) refl q m h) ∙ ap (end (string then body 16 16) b) (before p s e)
+      step before Broken e h = never-at q m h
+
+  module _ (H : Holds (templates 16) b 8) where
+    room : 16 ≤ b .size
+    room = counted-holds 8 (template 16) b 8 (tested-holds templates-allowed (counted 8 (template 16)) b 8 H .inner) .fits
+
+    count-stands : count-place b ≡ At 8 false
+    count-stands = ap (λ (t : Bool). pick t (At 8 false) Broken) (le-leb 8 (b .size) (omega (arith, room)))
+
+    first-stands : ahead b 8 (count-place b) ≡ At 16 false
+    first-stands = ap (ahead b 8) count-stands ∙ ap (λ (t : Bool). pick t (At 16 false) Broken) (le-leb 16 (b .size) room)
+
+    pub listed-indexed : (l : List ℕ) → BundleListed b l → Indexed (body 16 16) b (field b 8 8) l
+    listed-indexed l x =
+        let y = listed-all 16 b _ _ first-stands _ _ _ refl (ap (number-at b 8) count-stands) l x in
+        record { at = λ k h. let z = y .at k h in place-is k (getD l k 0) (z .0) (z .1); behind = y .behind }
 
 -- The template i of the n that are there, by its place in the table
 
@@ -56,7 +75,7 @@ module _ (w : ℕ) (b : Bits) (H : Holds (templates w) b 8) (l : List ℕ) (I : 
   indexed-place = I .at i (omega arith)
 
   pub indexed-name : Holds string b (getD l i 0)
-  indexed-name = number-at w b H i (getD l i 0) indexed-place (omega arith) .name
+  indexed-name = template-number-at w b H i (getD l i 0) indexed-place (omega arith) .name
 
 -- A search by these places that has passed i templates of n
 

@@ -41,22 +41,6 @@ pub fn template_at(b: &[u8], w: usize, k: usize) -> Template
     }
 }
 
-// Fills in the place of each template, and zeroes the rest.
-pub fn index(b: &[u8], w: usize, places: &mut [u32])
-    requires { ⌜ (length (now b) ≤ 65536) × Holds (templates w) (bits (now b)) 8 × (field (bits (now b)) 8 8 ≤ length (now places)) ⌝ }
-    ensures { λ _. ⌜ (length (now (places .exit)) ≡ length (now (places .entry))) × Indexed (body w 16) (bits (now (b .entry))) (field (bits (now (b .entry))) 8 8) (now (places .exit)) ⌝ }
-{
-    clear::clear_u32(places);
-    let n = template_count(b);
-    let mut cur: usize = 16;
-    let mut i: usize = 0;
-    while i < n {
-        places[i] = cur as u32;
-        cur = template::skip_body(b, parts::skip_string(b, cur), w, 16);
-        i += 1;
-    }
-}
-
 // The template number k, by its place.
 pub fn indexed_at(b: &[u8], places: &[u32], k: usize) -> Template
     requires { ⌜ (length (now b) ≤ 65536) × (k < length (now places)) × Holds string (bits (now b)) (getD (now places) k 0) ⌝ }

@@ -1,9 +1,9 @@
 use Rattle.handlebars.specs.declared.start.Start.the-variants.{At}
 use borrow.Author.Tests.{not-true, not-false}
 use Rattle.handlebars.specs.Answers.{Shown}
-use Rattle.handlebars.specs.Begins.{StartHolds, goes-on, short, roomy}
+use Rattle.handlebars.specs.Begins.{StartHolds, standing-accepted, goes-on, short, roomy}
 use Rattle.handlebars.specs.Calls.{refused-shown}
-use mathlib.Core.Path.{sym, ap, _∙_, subst}
+use mathlib.Core.Path.{refl, sym, ap, _∙_, subst}
 use borrow.Author.Needs.{needs}
 use Rattle.handlebars.proofs.call.answer.Statement.{statement}
 use Rattle.handlebars.proofs.call.answer.Tie as tie
@@ -14,81 +14,73 @@ use Rattle.handlebars.proofs.call.refused.Reads as refused-reads
 use Rattle.handlebars.proofs.start.begin.Reads as begin-reads
 use Rattle.handlebars.proofs.start.long_enough.Reads as long-enough-reads
 
--- src/call.rt:98:9
 long-enough-requires : tie.Need-long-enough-requires
 long-enough-requires c κs = search needs
 
--- src/call.rt:99:9
 refused-requires : tie.Need-refused-requires
 refused-requires c κs = search needs
 
--- src/call.rt:99:9
 returns : tie.Need-returns
 returns c =
     let z = c .before .before .before .before .before .before .before .before .before .before .before in
     let y = c .before .before .long-enough in
     refused-shown (z .args .bundle .now) (z .args .page .now) 1 _ _ (c .refused .ensures) (short _ (sym (y .ensures) ∙ not-true _ (c .before .if1 .taken)))
 
--- src/call.rt:101:9
-begin-requires : tie.Need-begin-requires
-begin-requires c κs = search needs
+slice-aggregate-begin : tie.Need-slice-aggregate-begin
+slice-aggregate-begin c = search needs
 
--- src/call.rt:103:24
+begin-requires : tie.Need-begin-requires
+begin-requires c κs = refl
+
 enum-known-from : tie.Need-enum-known-from
 enum-known-from c = search needs
 
--- src/call.rt:103:35
 refused-requires-2 : tie.Need-refused-requires-2
 refused-requires-2 c κs = search needs
 
--- src/call.rt:104:19
 enum-known-from-2 : tie.Need-enum-known-from-2
 enum-known-from-2 c = search needs
 
--- src/call.rt:104:31
+slice-aggregate-go-on : tie.Need-slice-aggregate-go-on
+slice-aggregate-go-on c = search needs
+
 go-on-requires : tie.Need-go-on-requires
 go-on-requires c κs =
-    let z = c .before .before .before .before .before .before .before .before .before .before .before .before .before .before .before .before .before .before .before in
-    let y = c .before .before .before .before .before .before .before .before .before .before .long-enough in
-    let b = c .before .before .before .before .before .before .before .before .begin .ensures in
-    (subst (StartHolds (z .args .bundle .now)) (c .before .before .before .before .before .before .from2 .given .1) (b .parts), roomy _ _ _ _ (sym (y .ensures) ∙ not-false _ (c .before .before .before .before .before .before .before .before .before .if1 .left)))
+    let z = c .before .before .before .before .before .before .before .before .before .before .before .before .before .before .before .before .before .before .before .before .before .before in
+    let y = c .before .before .before .before .before .before .before .before .before .before .before .before .before .long-enough in
+    let b = c .before .before .before .before .before .before .before .before .before .before .begin .ensures in
+    let h = subst (StartHolds (z .args .bundle .now)) (c .before .before .before .before .before .before .before .from2 .given .1) (b .0 .parts) in
+    (h, b .1 .accepted (standing-accepted (z .args .bundle .now) (h .0)), roomy _ _ _ _ (sym (y .ensures) ∙ not-false _ (c .before .before .before .before .before .before .before .before .before .before .before .before .if1 .left)))
 
--- src/call.rt:85:1
 returns-2 : tie.Need-returns-2
 returns-2 c =
-    let z = c .before .before .before .before .before .before .before .before .before .before .before .before .before .before .before in
-    let y = c .before .before .before .before .before .before .long-enough in
-    let b = c .before .before .before .before .begin .ensures in
-    refused-shown (z .args .bundle .now) (z .args .page .now) _ _ _ (c .refused2 .ensures) (b .is _ _ _ (sym (y .ensures) ∙ not-false _ (c .before .before .before .before .before .if1 .left)) ∙ ap (goes-on (z .args .bundle .now) (z .args .plan .now) _ _) (c .before .before .from .given .1))
+    let z = c .before .before .before .before .before .before .before .before .before .before .before .before .before .before .before .before .before in
+    let y = c .before .before .before .before .before .before .before .before .long-enough in
+    let b = c .before .before .before .before .before .begin .ensures .0 in
+    refused-shown (z .args .bundle .now) (z .args .page .now) _ _ _ (c .refused2 .ensures) (b .is _ _ _ (sym (y .ensures) ∙ not-false _ (c .before .before .before .before .before .before .before .if1 .left)) ∙ ap (goes-on (z .args .bundle .now) (z .args .plan .now) _ _) (c .before .before .from .given .1))
 
--- src/call.rt:85:1
 same-length : tie.Need-same-length
 same-length c = search needs
 
--- src/call.rt:85:1
 same-length-2 : tie.Need-same-length-2
 same-length-2 c = search needs
 
--- src/call.rt:85:1
 same-length-3 : tie.Need-same-length-3
 same-length-3 c = search needs
 
--- src/call.rt:85:1
 same-length-4 : tie.Need-same-length-4
 same-length-4 c = search needs
 
--- src/call.rt:85:1
 same-length-5 : tie.Need-same-length-5
 same-length-5 c = search needs
 
--- src/call.rt:85:1
 returns-3 : tie.Need-returns-3
 returns-3 c =
-    let z = c .before .before .before .before .before .before .before .before .before .before .before .before .before .before .before .before .before .before .before .before .before .before .before .before .before .before .before .before .before .before in
-    let y = c .before .before .before .before .before .before .before .before .before .before .before .before .before .before .before .before .before .before .before .before .before .long-enough in
-    let b = c .before .before .before .before .before .before .before .before .before .before .before .before .before .before .before .before .before .before .before .begin .ensures in
-    let f = c .before .before .before .before .before .before .before .before .before .before .before .before .before .before .before .before .before .from2 .given in
-    subst (Shown (z .args .bundle .now) _ _) (sym (b .is _ _ _ (sym (y .ensures) ∙ not-false _ (c .before .before .before .before .before .before .before .before .before .before .before .before .before .before .before .before .before .before .before .before .if1 .left)) ∙ ap (goes-on (z .args .bundle .now) (z .args .plan .now) _ _) (f .1))) (c .before .before .before .before .before .before .before .before .before .before .go-on .ensures)
+    let z = c .before .before .before .before .before .before .before .before .before .before .before .before .before .before .before .before .before .before .before .before .before .before .before .before .before .before .before .before .before .before .before .before .before in
+    let y = c .before .before .before .before .before .before .before .before .before .before .before .before .before .before .before .before .before .before .before .before .before .before .before .before .long-enough in
+    let b = c .before .before .before .before .before .before .before .before .before .before .before .before .before .before .before .before .before .before .before .before .before .begin .ensures .0 in
+    let f = c .before .before .before .before .before .before .before .before .before .before .before .before .before .before .before .before .before .before .from2 .given in
+    subst (Shown (z .args .bundle .now) _ _) (sym (b .is _ _ _ (sym (y .ensures) ∙ not-false _ (c .before .before .before .before .before .before .before .before .before .before .before .before .before .before .before .before .before .before .before .before .before .before .before .if1 .left)) ∙ ap (goes-on (z .args .bundle .now) (z .args .plan .now) _ _) (f .1))) (c .before .before .before .before .before .before .before .before .before .before .go-on .ensures)
 
 pub answer-spec : {M : Type 1} → statement M
 answer-spec =
@@ -97,10 +89,12 @@ answer-spec =
     long-enough-requires
     refused-requires
     returns
+    slice-aggregate-begin
     begin-requires
     enum-known-from
     refused-requires-2
     enum-known-from-2
+    slice-aggregate-go-on
     go-on-requires
     returns-2
     same-length

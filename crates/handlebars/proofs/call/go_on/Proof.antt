@@ -29,16 +29,16 @@ same-length c = search needs
 -- src/call.rt:68:9
 returns : tie.Need-returns
 returns c =
-    let z = c .before .before .before .before .before .before .before .before .before .before .before .before .before in
+    let z = c .before .before .before .before .before .before .before .before .before .before .before .before .before .before in
     let r = c .before .before .before .before .read-plan in
     plan-refused-shown (z .args .bundle .now) (z .args .plan .now) (z .args .page .now) _ _ _ (r .ensures .0) (c .before .if1 .taken) (c .refused .ensures)
 
 -- src/call.rt:70:5
 draw-requires : tie.Need-draw-requires
 draw-requires c κs =
-    let z = c .before .before .before .before .before .before .before .before .before .before .before .before .before .before .before .before .before in
+    let z = c .before .before .before .before .before .before .before .before .before .before .before .before .before .before .before .before .before .before in
     let r = c .before .before .before .before .before .before .before .before .read-plan in
-    (z .pre .0 .0, accepted (z .args .plan .now) _ _ (sym (r .ensures .0) ∙ c .before .before .before .before .before .if1 .left) (r .ensures .1) (z .pre .1 .places), z .pre .1 .entries, z .pre .1 .texts, z .pre .1 .indent, z .pre .0 .1, z .pre .0 .2)
+    (z .pre .0 .0, z .pre .1, accepted (z .args .plan .now) _ _ (sym (r .ensures .0) ∙ c .before .before .before .before .before .if1 .left) (r .ensures .1) (z .pre .2 .places), z .pre .2 .entries, z .pre .2 .texts, z .pre .2 .indent, z .pre .0 .1, z .pre .0 .2)
 
 -- src/call.rt:51:1
 same-length-2 : tie.Need-same-length-2
@@ -63,7 +63,7 @@ same-length-6 c = search needs
 -- src/call.rt:51:1
 returns-2 : tie.Need-returns-2
 returns-2 c =
-    let z = c .before .before .before .before .before .before .before .before .before .before .before .before .before .before .before .before .before .before .before .before .before .before .before .before .before .before in
+    let z = c .before .before .before .before .before .before .before .before .before .before .before .before .before .before .before .before .before .before .before .before .before .before .before .before .before .before .before in
     let r = c .before .before .before .before .before .before .before .before .before .before .before .before .before .before .before .before .before .read-plan in
     drawn-shown (z .args .bundle .now) (z .args .plan .now) _ _ _ (sym (r .ensures .0) ∙ c .before .before .before .before .before .before .before .before .before .before .before .before .before .before .if1 .left) (c .before .before .before .before .before .before .before .before .draw .ensures)
 

@@ -9,23 +9,13 @@ use borrow.Author.Needs.{needs}
 use Rattle.handlebars.proofs.draw.draw.Statement.{statement}
 use Rattle.handlebars.proofs.draw.draw.Tie as tie
 
-slice-aggregate-index : tie.Need-slice-aggregate-index
-slice-aggregate-index c = search needs
-
-index-requires : tie.Need-index-requires
-index-requires c κs = let z = c .before .before .before .before .before .before .before .before in (z .pre .0 .small, z .pre .0 .templates, few-templates (bits (z .args .b .now)) (z .pre .0 .templates))
-
 slice-aggregate-render-template : tie.Need-slice-aggregate-render-template
 slice-aggregate-render-template c = search needs
 
-slice-aggregate-render-template-2 : tie.Need-slice-aggregate-render-template-2
-slice-aggregate-render-template-2 c = search needs
-
 render-template-requires : tie.Need-render-template-requires
 render-template-requires c κs =
-    let z = c .before .before .before .before .before .before .before .before .before .before .before .before .before .before .before .before in
-    let x = c .before .before .before .before .before .before .before .index2 .ensures in
-    (record { plan = z .pre .1; small = z .pre .0 .small; bundle = z .pre .0 .templates; listed = subst (λ (n : ℕ). field (bits (z .args .b .now)) 8 8 ≤ n) (sym (x .0)) (few-templates (bits (z .args .b .now)) (z .pre .0 .templates)); indexed = x .1 }, z .pre .2, z .pre .3, z .pre .4, z .pre .5, z .pre .6, refl)
+    let z = c .before .before .before .before .before .before .before .before .before .before .before .before .before in
+    (record { plan = z .pre .2; small = z .pre .0 .small; bundle = z .pre .0 .templates; listed = subst (λ (n : ℕ). field (bits (z .args .b .now)) 8 8 ≤ n) (sym (z .pre .1 .0)) (few-templates (bits (z .args .b .now)) (z .pre .0 .templates)); indexed = z .pre .1 .1 }, z .pre .3, z .pre .4, z .pre .5, z .pre .6, z .pre .7, refl)
 
 answered-requires : tie.Need-answered-requires
 answered-requires c κs = search needs
@@ -50,10 +40,7 @@ pub draw-spec : {M : Type 1} → statement M
 draw-spec =
     tie.close
     (tie.spec
-    slice-aggregate-index
-    index-requires
     slice-aggregate-render-template
-    slice-aggregate-render-template-2
     render-template-requires
     answered-requires
     same-length
