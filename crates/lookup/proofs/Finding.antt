@@ -1,6 +1,6 @@
 -- What was found, as the answers say it.
 use Prim.Native.Nat.{ℕ, zero, suc, _+_, _-_, _*_, _≤_, _<_}
-use mathlib.Core.Bool.{Bool, true, false}
+use mathlib.Core.Bool.{Bool, true, false, _||_}
 use mathlib.Core.List.{List, [], _∷_}
 use mathlib.Core.Option.{Option, none, some}
 use mathlib.Core.Path.{_≡_, refl, sym, ap, _∙_, subst}
@@ -36,6 +36,8 @@ use Rattle.lookup.proofs.Told.{pathless-json, pathless-stands, pathless
 use Rattle.lookup.specs.Answers.{Held, PlainHeld, pathless, IsFound, Finds, PlainFinds}
 use Rattle.lookup.specs.Keys.{KeyAt, pairs-more}
 use Rattle.lookup.specs.Places.{placed-at, placed}
+use Rattle.lookup.specs.Telling.{stands-object, has-pair, tells}
+use Rattle.lookup.proofs.Telling.{tells-plain, tells-merged}
 use Rattle.lookup.specs.declared.Found.{Found}
 use Rattle.lookup.specs.declared.Found.the-variants.{Is, Nothing}
 
@@ -175,9 +177,10 @@ module _ (s b : Bytes) (ent : List ℕ) (v : Value) (k : Bytes) where
     pub same : get-member (base-map (json-of s b ent v)) k ≡ get-member (base-map (json-of s b ent u)) k
     pub held : Held s b ent u
     pub stands : (t : ℕ) → Stands s b ent t v → Stands s b ent t u
+    pub told : tells s b ent k v ≡ tells s b ent k u
 
   pub inward-start : Held s b ent v → Inward v
-  inward-start h = record { same = refl; held = h; stands = λ t x. x }
+  inward-start h = record { same = refl; held = h; stands = λ t x. x; told = refl }
 
   module _ (u : Value) (w : Inward u) where
     pub inward-plain : merged-of u ≡ none → PlainHeld s b u
@@ -190,6 +193,10 @@ module _ (s b : Bytes) (ent : List ℕ) (v : Value) (k : Bytes) where
       no-path = f .no-path;
     }
     inward-end e Nothing f = w .same ∙ ap (λ (j : Json). get-member (base-map j) k) (plain-is s b ent u e) ∙ f
+
+    -- there it is told where an object of the plan stands
+    pub inward-told : merged-of u ≡ none → tells s b ent k v ≡ stands-object s u
+    inward-told e = w .told ∙ tells-plain s b ent k u e
 
     module _ (h n : ℕ) (e : u ≡ Merged h n) where
       pub inward-merged : MergedStands s b ent (w .held .used) h n
@@ -204,6 +211,13 @@ module _ (s b : Bytes) (ent : List ℕ) (v : Value) (k : Bytes) where
           w .same ∙ ap (λ (x : Value). get-member (base-map (json-of s b ent x)) k) e
           ∙ ap (λ (j : Json). get-member (base-map j) k) (stands-merged-is s b ent h n (inward-merged .base) (inward-merged .values))
           ∙ get-base-merged (json-of s b ent (hash-base ent h)) (pairs b ent (json-of s b ent) h n) k
+
+      told-merged : tells s b ent k v ≡ (has-pair s b ent h n k || tells s b ent k (hash-base ent h))
+      told-merged = w .told ∙ ap (tells s b ent k) e ∙ tells-merged s b ent k h n (stands-rank s b ent h (hash-base ent h) (inward-merged .base))
+
+      -- a pair tells it
+      pub inward-known : (j : Json) → find-last (pairs b ent (json-of s b ent) h n) k ≡ some j → tells s b ent k v ≡ true
+      inward-known j o = told-merged ∙ ap (λ (p : Option Json). maybe p false (λ i. true) || tells s b ent k (hash-base ent h)) o
 
       value-stands : (t i : ℕ) → h ≤ i → i < h + n → Stands s b ent t v → Stands s b ent t (hash-value ent i)
       value-stands t i ge lt z =
@@ -231,6 +245,7 @@ module _ (s b : Bytes) (ent : List ℕ) (v : Value) (k : Bytes) where
           same = in-merged ∙ ap (λ (p : Option Json). maybe p (get-member (base-map (json-of s b ent (hash-base ent h))) k) some) o;
           held = record { used = h; room = omega (arith, inward-room); stands = inward-merged .base };
           stands = λ t z. let m = stands-merged s b ent t u h n (ap merged-of e) (w .stands t z) in stands-later s b ent h t (hash-base ent h) (omega (arith, m .within)) (m .base);
+          told = told-merged ∙ ap (λ (p : Option Json). maybe p false (λ i. true) || tells s b ent k (hash-base ent h)) o;
         })
 
         pub inward-less : rank x < rank u

@@ -1,6 +1,7 @@
 pub mod Ordered
 pub mod Scanning
 pub mod Told
+pub mod Telling
 pub mod Finding
 pub mod Leading
 pub mod Spelling

@@ -1,4 +1,5 @@
 pub mod Answers
 pub mod Places
 pub mod Keys
+pub mod Telling
 pub mod Numbers

@@ -28,7 +28,7 @@ ghost use Rattle.meaning.specs.Standing.{KeysStand};
 ghost use Rattle.meaning.specs.Forms.{Known};
 ghost use Rattle.lookup.specs.Answers.{Held, PlainHeld, Spells, pathless, Finds, PlainFinds, DataGot};
 ghost use Rattle.lookup.specs.Keys.{KeyFound};
-ghost use Rattle.lookup.specs.Numbers.{MemberNumber, placed-number, NumberGot, pair-at, BaseNumber, MergedNumber};
+ghost use Rattle.lookup.specs.Numbers.{MemberNumber, placed-number, NumberGot, pair-at, Inner, Asked};
 ghost use Rattle.lookup.specs.Places.{placed, placed-at, reached-at, list-reached, Reaches, with-path, without-path, from-member};
 use chars::Nth;
 use decimal::Parsed;
@@ -470,51 +470,51 @@ fn pathless_number(n: u32) -> u32
     n
 }
 
-// What a value that is not merged has as an object. Most often an object of the plan stands there.
-fn base_number(s: &[u8], tab: &[u64], b: &[u8], u: u32, q: usize, m: usize) -> u64
-    requires { ⌜ Accepted (now s) (now tab) × (length (now b) ≤ 65536) × PlainHeld (now s) (now b) (decoded u) × Holds string (bits (now b)) q × (m ≡ field (bits (now b)) 16 q) ⌝ }
-    ensures { λ r. ⌜ BaseNumber (now (s .entry)) (now (b .entry)) (decoded u) (text-at (bits (now (b .entry))) q) r ⌝ }
-{
-    let tag = u % 16;
-    if (tag == 5) | (tag == 6) {
-        let r = place_number(s, tab, b, (u / 16) as usize, q, m);
-        return placed_number(r, 6);
-    }
-    0
-}
-
-// What a merged object has: its own pairs come before its base.
-fn merged_number(s: &[u8], tab: &[u64], b: &[u8], ent: &[u64], v: u32, q: usize, m: usize) -> u64
-    requires { ⌜ Accepted (now s) (now tab) × (length (now b) ≤ 65536) × Held (now s) (now b) (now ent) (decoded v) × Holds string (bits (now b)) q × (m ≡ field (bits (now b)) 16 q) ⌝ }
-    ensures { λ r. ⌜ MergedNumber (now (s .entry)) (now (b .entry)) (now (ent .entry)) (decoded v) (text-at (bits (now (b .entry))) q) r ⌝ }
+// Where a name is to be looked for in a merged object: its own pairs come before its base. The number of what a pair has, with 2 ^ 32 added, or that of the base,
+// which is not merged.
+fn inner_number(s: &[u8], b: &[u8], ent: &[u64], v: u32, q: usize, m: usize) -> u64
+    requires { ⌜ (length (now b) ≤ 65536) × Held (now s) (now b) (now ent) (decoded v) × Holds string (bits (now b)) q × (m ≡ field (bits (now b)) 16 q) ⌝ }
+    ensures { λ r. ⌜ Inner (now (s .entry)) (now (b .entry)) (now (ent .entry)) (decoded v) (text-at (bits (now (b .entry))) q) r ⌝ }
 {
     let mut u = v;
     loop {
         let w = value::decode(u);
         let Value::Merged(h, n) = w else {
-            return base_number(s, tab, b, u, q, m);
+            return pathless_number(u) as u64;
         };
         let k = last_pair(b, ent, h, n, q, m);
         if k != 0 {
             let low = entries::low(ent, h + (k - 1));
-            return 2 + (pathless_number(low) as u64);
+            return 4294967296 + (pathless_number(low) as u64);
         }
         u = entries::high(ent, h);
     }
 }
 
-// From the value v along the string at q of m bytes.
+// The same for any value: what is not merged keeps its path.
+fn asked_number(s: &[u8], b: &[u8], ent: &[u64], v: u32, q: usize, m: usize) -> u64
+    requires { ⌜ (length (now b) ≤ 65536) × Held (now s) (now b) (now ent) (decoded v) × Holds string (bits (now b)) q × (m ≡ field (bits (now b)) 16 q) ⌝ }
+    ensures { λ r. ⌜ Asked (now (s .entry)) (now (b .entry)) (now (ent .entry)) (decoded v) (text-at (bits (now (b .entry))) q) r ⌝ }
+{
+    if 14 <= v % 16 {
+        return inner_number(s, b, ent, v, q, m);
+    }
+    v as u64
+}
+
+// From the value v along the string at q of m bytes. There is one call only that follows a name from a place, so that the compiler puts it here.
 pub fn get_number(s: &[u8], tab: &[u64], b: &[u8], ent: &[u64], v: u32, q: usize, m: usize) -> u64
     requires { ⌜ Accepted (now s) (now tab) × (length (now b) ≤ 65536) × Held (now s) (now b) (now ent) (decoded v) × Holds string (bits (now b)) q × (m ≡ field (bits (now b)) 16 q) ⌝ }
     ensures { λ r. ⌜ NumberGot (now (s .entry)) (now (b .entry)) (now (ent .entry)) (decoded v) (text-at (bits (now (b .entry))) q) r ⌝ }
 {
-    let tag = v % 16;
-    if (tag == 5) | (tag == 6) {
-        let r = place_number(s, tab, b, (v / 16) as usize, q, m);
-        return placed_number(r, tag as u64);
+    let u = asked_number(s, b, ent, v, q, m);
+    if 4294967296 <= u {
+        return u - 4294967294;
     }
-    if tag == 14 {
-        return merged_number(s, tab, b, ent, v, q, m);
+    let tag = u % 16;
+    if (tag == 5) | (tag == 6) {
+        let r = place_number(s, tab, b, (u / 16) as usize, q, m);
+        return placed_number(r, tag);
     }
     0
 }

@@ -37,7 +37,7 @@ returns c =
     is-member (a .s .now) (a .tab .now) (z .pre .0) (a .i) (z .pre .2) (text-at (bits (a .b .now)) (a .q)) (c .member-number .result) _ (sym (c .before .before .is-object .ensures) ∙ c .before .if1 .taken) (c .member-number .ensures ∙ ap (λ (n : ℕ). member (a .s .now) (a .i) (bytes-at (bits (a .b .now)) (a .q + 16) n)) (z .pre .4)) refl
 
 returns-2 : tie.Need-returns-2
-returns-2 c = let a = c .before .before .before .before .before .args in no-member (a .s .now) (a .i) (text-at (bits (a .b .now)) (a .q))
+returns-2 c = let a = c .before .before .before .before .before .args in no-member (a .s .now) (a .i) (text-at (bits (a .b .now)) (a .q)) (sym (c .before .is-object .ensures) ∙ c .if1 .left)
 
 pub place-number-spec : {M : Type 1} → statement M
 place-number-spec = tie.close (tie.spec is-object-requires add-member-number member-number-requires add-result returns returns-2)
