@@ -96,14 +96,67 @@ pub fn member_count(s: &[u8], tab: &[u64], b: &[u8], ent: &[u64], v: Value) -> u
     }
 }
 
+// The same where the base is the object at i of the plan, as most are: by numbers, since values would go through memory.
+
+// 1 where it has no member under the string at q.
+fn new_in(s: &[u8], tab: &[u64], b: &[u8], i: usize, q: usize) -> usize
+    requires { ⌜ Accepted (now s) (now tab) × (length (now b) ≤ 65536) × (i < places (now s)) × (json-at (now s) i ≡ jobj (members-of (json-at (now s) i))) × Holds string (bits (now b)) q ⌝ }
+    ensures { λ r. ⌜ (r ≡ one-if-new (get-member (base-map (json-at (now (s .entry)) i)) (text-at (bits (now (b .entry))) q))) × (r ≤ 1) ⌝ }
+{
+    let m = bits::field(b, q, 16) as usize;
+    if places::member_number(s, tab, i, b, q + 16, m) == 0 {
+        return 1;
+    }
+    0
+}
+
+fn object_lacking(
+    s: &[u8],
+    tab: &[u64],
+    b: &[u8],
+    ent: &[u64],
+    i: usize,
+    h: usize,
+    n: usize,
+) -> usize
+    requires { ⌜ Accepted (now s) (now tab) × (length (now b) ≤ 65536) × (i < places (now s)) × (json-at (now s) i ≡ jobj (members-of (json-at (now s) i))) × (2 * (h + n) ≤ length (now ent)) × KeysStand (now b) (now ent) h n ⌝ }
+    ensures { λ r. ⌜ (r ≡ lacking (pairs (now (b .entry)) (now (ent .entry)) (json-of (now (s .entry)) (now (b .entry)) (now (ent .entry))) h n) (base-map (json-at (now (s .entry)) i))) × (r ≤ n) ⌝ }
+{
+    let mut k: usize = 0;
+    let mut r: usize = 0;
+    while k < n {
+        r += new_in(s, tab, b, i, entries::place(ent, h + k));
+        k += 1;
+    }
+    r
+}
+
 // How many members the merged object with n hash pairs from h on has. Limit 22 goes by this number, so only its parts are known to stand.
-pub fn merged_count(s: &[u8], tab: &[u64], b: &[u8], ent: &[u64], h: usize, n: usize) -> usize
+
+fn any_count(s: &[u8], tab: &[u64], b: &[u8], ent: &[u64], h: usize, n: usize) -> usize
     requires { ⌜ Accepted (now s) (now tab) × (length (now b) ≤ 65536) × Parts (now s) (now b) (now ent) h n ⌝ }
     ensures { λ r. ⌜ r ≡ count (base-map (json-of (now (s .entry)) (now (b .entry)) (now (ent .entry)) (Merged h n))) ⌝ }
 {
     let base = value::decode(entries::high(ent, h));
     let new = lacking(s, tab, b, ent, base, h, n);
     new + member_count(s, tab, b, ent, base)
+}
+
+pub fn merged_count(s: &[u8], tab: &[u64], b: &[u8], ent: &[u64], h: usize, n: usize) -> usize
+    requires { ⌜ Accepted (now s) (now tab) × (length (now b) ≤ 65536) × Parts (now s) (now b) (now ent) h n ⌝ }
+    ensures { λ r. ⌜ r ≡ count (base-map (json-of (now (s .entry)) (now (b .entry)) (now (ent .entry)) (Merged h n))) ⌝ }
+{
+    // places are told by the last four bits
+    let u = entries::high(ent, h);
+    let tag = u % 16;
+    if (tag == 5) | (tag == 6) {
+        let i = (u / 16) as usize;
+        if places::is_object(s, tab, i) {
+            let new = object_lacking(s, tab, b, ent, i, h, n);
+            return new + places::members(s, tab, i);
+        }
+    }
+    any_count(s, tab, b, ent, h, n)
 }
 
 // Members by ascending name
