@@ -6,3 +6,4 @@ pub mod Finding
 pub mod Leading
 pub mod Spelling
 mod Numbers
+mod Keyed

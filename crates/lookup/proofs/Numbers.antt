@@ -204,7 +204,7 @@ found-got zero = refl
 found-got (suc zero) = refl
 found-got (suc (suc n)) = refl
 
-found-place : (r : ℕ) → (r ≡ 0 → ⊥) → r ≤ 4096 → placed-at (numbered (r - 1)) ≡ numbered-found (placed-number r 6)
+pub found-place : (r : ℕ) → (r ≡ 0 → ⊥) → r ≤ 4096 → placed-at (numbered (r - 1)) ≡ numbered-found (placed-number r 6)
 found-place zero h le = absurd (h refl)
 found-place (suc zero) h le = refl
 found-place (suc (suc c)) h le =

@@ -3,3 +3,4 @@ pub mod Places
 pub mod Keys
 pub mod Telling
 pub mod Numbers
+pub mod Keyed

@@ -22,13 +22,15 @@ ghost use Rattle.places.specs.Places.{places, json-at, name-at, children, membe
 ghost use Rattle.places.specs.Kinds.{found};
 ghost use Rattle.text.specs.Rest.{rest, Stands};
 ghost use Rattle.value.specs.Numbers.{decoded};
+ghost use Rattle.value.specs.declared.Value.the-variants.{Merged};
 ghost use Rattle.meaning.specs.Entries.{place};
 ghost use Rattle.meaning.specs.Meaning.{plain-json, pairs, context-place, json-of};
 ghost use Rattle.meaning.specs.Standing.{KeysStand};
 ghost use Rattle.meaning.specs.Forms.{Known};
 ghost use Rattle.lookup.specs.Answers.{Held, PlainHeld, Spells, pathless, Finds, PlainFinds, DataGot};
 ghost use Rattle.lookup.specs.Keys.{KeyFound};
-ghost use Rattle.lookup.specs.Numbers.{MemberNumber, placed-number, NumberGot, pair-at, Inner, Asked};
+ghost use Rattle.lookup.specs.Numbers.{MemberNumber, placed-number, NumberGot, pair-at, BaseNumber, MergedNumber};
+ghost use Rattle.lookup.specs.Keyed.{KeyNumber, LookedNumber};
 ghost use Rattle.lookup.specs.Places.{placed, placed-at, reached-at, list-reached, Reaches, with-path, without-path, from-member};
 use chars::Nth;
 use decimal::Parsed;
@@ -555,7 +557,7 @@ fn member_at(s: &[u8], tab: &[u64], b: &[u8], ent: &[u64], v: Value, k: Value) -
     }
 }
 
-pub fn looked_up(s: &[u8], tab: &[u64], b: &[u8], ent: &[u64], v: Value, i: Value) -> Found
+fn looked_any(s: &[u8], tab: &[u64], b: &[u8], ent: &[u64], v: Value, i: Value) -> Found
     requires { ⌜ Accepted (now s) (now tab) × (length (now b) ≤ 65536) × Held (now s) (now b) (now ent) v × Held (now s) (now b) (now ent) i ⌝ }
     ensures { λ r. ⌜ Finds (now (s .entry)) (now (b .entry)) (now (ent .entry)) v (looked-up (json-of (now (s .entry)) (now (b .entry)) (now (ent .entry)) v) (json-of (now (s .entry)) (now (b .entry)) (now (ent .entry)) i)) r ⌝ }
 {
@@ -570,4 +572,77 @@ pub fn looked_up(s: &[u8], tab: &[u64], b: &[u8], ent: &[u64], v: Value, i: Valu
         Form::Object(_) => member_at(s, tab, b, ent, v, i),
         Form::Merged(_, _) => member_at(s, tab, b, ent, v, i),
     }
+}
+
+// By numbers where the second parameter is a string of the bundle and the first an object, as most are: 0 where it is not told so.
+
+// What the object at i has under the string at q of m bytes.
+fn object_key(s: &[u8], tab: &[u64], b: &[u8], i: usize, q: usize, m: usize) -> u64
+    requires { ⌜ Accepted (now s) (now tab) × (length (now b) ≤ 65536) × (i < places (now s)) × Holds string (bits (now b)) q × (m ≡ field (bits (now b)) 16 q) ⌝ }
+    ensures { λ r. ⌜ KeyNumber (now (s .entry)) (now (b .entry)) (json-at (now (s .entry)) i) (text-at (bits (now (b .entry))) q) r ⌝ }
+{
+    placed_number(place_number(s, tab, b, i, q, m), 6)
+}
+
+// The same of the merged object with n pairs from h on. Its base most often is an object of the plan.
+fn merged_key(
+    s: &[u8],
+    tab: &[u64],
+    b: &[u8],
+    ent: &[u64],
+    h: usize,
+    n: usize,
+    q: usize,
+    m: usize,
+) -> u64
+    requires { ⌜ Accepted (now s) (now tab) × (length (now b) ≤ 65536) × Held (now s) (now b) (now ent) (Merged h n) × Holds string (bits (now b)) q × (m ≡ field (bits (now b)) 16 q) ⌝ }
+    ensures { λ r. ⌜ MergedNumber (now (s .entry)) (now (b .entry)) (now (ent .entry)) (Merged h n) (text-at (bits (now (b .entry))) q) r ⌝ }
+{
+    let k = last_pair(b, ent, h, n, q, m);
+    if k != 0 {
+        let low = entries::low(ent, h + (k - 1));
+        return 2 + (pathless_number(low) as u64);
+    }
+    let u = entries::high(ent, h);
+    let tag = u % 16;
+    if (tag == 5) | (tag == 6) {
+        return object_key(s, tab, b, (u / 16) as usize, q, m);
+    }
+    0
+}
+
+// What the value v has under the literal at l.
+fn keyed_number(s: &[u8], tab: &[u64], b: &[u8], ent: &[u64], v: Value, l: usize) -> u64
+    requires { ⌜ Accepted (now s) (now tab) × (length (now b) ≤ 65536) × Held (now s) (now b) (now ent) v × Holds literal (bits (now b)) l ⌝ }
+    ensures { λ r. ⌜ LookedNumber (now (s .entry)) (now (b .entry)) (now (ent .entry)) v (literal-json (literal-at (bits (now (b .entry))) l)) r ⌝ }
+{
+    // the kind of the literal, and the count of the string that 5 is
+    let x = bits::field(b, l, 19);
+    if x < 327680 {
+        return 0;
+    }
+    let m = (x % 65536) as usize;
+    match v {
+        Value::Context(i) => object_key(s, tab, b, i, l + 3, m),
+        Value::Place(i) => object_key(s, tab, b, i, l + 3, m),
+        Value::Merged(h, n) => merged_key(s, tab, b, ent, h, n, l + 3, m),
+        _ => 0,
+    }
+}
+
+pub fn looked_up(s: &[u8], tab: &[u64], b: &[u8], ent: &[u64], v: Value, i: Value) -> Found
+    requires { ⌜ Accepted (now s) (now tab) × (length (now b) ≤ 65536) × Held (now s) (now b) (now ent) v × Held (now s) (now b) (now ent) i ⌝ }
+    ensures { λ r. ⌜ Finds (now (s .entry)) (now (b .entry)) (now (ent .entry)) v (looked-up (json-of (now (s .entry)) (now (b .entry)) (now (ent .entry)) v) (json-of (now (s .entry)) (now (b .entry)) (now (ent .entry)) i)) r ⌝ }
+{
+    let Value::Literal(l) = i else {
+        return looked_any(s, tab, b, ent, v, i);
+    };
+    let r = keyed_number(s, tab, b, ent, v, l);
+    if r == 0 {
+        return looked_any(s, tab, b, ent, v, i);
+    }
+    if r == 1 {
+        return Found::Nothing;
+    }
+    Found::Is(value::decode((r - 2) as u32))
 }

@@ -1,92 +1,77 @@
-use Rattle.lookup.proofs.Leading.{means, held-known, leaf-lookup, list-lookup, object-lookup, held-number, finds-eq}
-use Rattle.meaning.specs.Meaning.{plain-json, json-of}
-use Rattle.rules.specs.Json.{as-u64}
-use Rattle.meaning.specs.declared.Form.the-variants as form
+use Prim.Native.Nat.{_+_, _-_}
+use native.Mathlib.Omega.{arith}
+use mathlib.Core.Path.{_≡_, ap, sym, _∙_, subst}
+use Rattle.rules.specs.HelperLookup.{looked-up}
+use Rattle.value.specs.declared.Value.{Value}
+use Rattle.meaning.specs.Meaning.{json-of}
+use Rattle.lookup.specs.Answers.{Held, Finds}
+use Rattle.lookup.specs.Numbers.{numbered-found}
+use Rattle.lookup.specs.declared.Found.the-variants.{Is}
+use Rattle.lookup.proofs.Keyed.{literal-held, looked-literal}
+use Rattle.lookup.proofs.Numbers.{number-found}
 use borrow.Author.Needs.{needs}
 use Rattle.lookup.proofs.looked_up.Statement.{statement}
 use Rattle.lookup.proofs.looked_up.Tie as tie
 
-form-of-requires : tie.Need-form-of-requires
-form-of-requires c κs = (c .before .before .before .before .pre .0, c .before .before .before .before .pre .1, held-known (c .before .before .before .before .args .s .now) (c .before .before .before .before .args .b .now) (c .before .before .before .before .args .ent .now) (c .before .before .before .before .args .v) (c .before .before .before .before .pre .2))
+enum-known-i : tie.Need-enum-known-i
+enum-known-i c = search needs
 
-enum-told : tie.Need-enum-told
-enum-told c = search needs
-
-enum-told-2 : tie.Need-enum-told-2
-enum-told-2 c = search needs
-
-enum-told-3 : tie.Need-enum-told-3
-enum-told-3 c = search needs
-
-enum-told-4 : tie.Need-enum-told-4
-enum-told-4 c = search needs
-
-enum-told-5 : tie.Need-enum-told-5
-enum-told-5 c = search needs
-
-enum-known-f : tie.Need-enum-known-f
-enum-known-f c = search needs
-
-item-at-requires : tie.Need-item-at-requires
-item-at-requires c κs = (c .before .before .before .before .before .before .before .before .pre .0, c .before .before .before .before .before .before .before .before .pre .1, held-known (c .before .before .before .before .before .before .before .before .args .s .now) (c .before .before .before .before .before .before .before .before .args .b .now) (c .before .before .before .before .before .before .before .before .args .ent .now) (c .before .before .before .before .before .before .before .before .args .i) (c .before .before .before .before .before .before .before .before .pre .3), means (c .before .before .before .before .before .before .before .before .args .s .now) (c .before .before .before .before .before .before .before .before .args .b .now) (c .before .before .before .before .before .before .before .before .args .ent .now) (c .before .before .before .before .before .before .before .before .args .v) (c .before .before .before .before .before .before .before .before .pre .2) (c .before .before .before .form-of .result) (form.List (c .before .f .given .0 .0)) (c .before .before .before .form-of .ensures) (c .before .f .given .1) .within)
-
-enum-told-6 : tie.Need-enum-told-6
-enum-told-6 c = search needs
-
-member-at-requires : tie.Need-member-at-requires
-member-at-requires c κs = search needs
-
-enum-told-7 : tie.Need-enum-told-7
-enum-told-7 c = search needs
-
-member-at-requires-2 : tie.Need-member-at-requires-2
-member-at-requires-2 c κs = search needs
+looked-any-requires : tie.Need-looked-any-requires
+looked-any-requires c κs = search needs
 
 returns : tie.Need-returns
-returns c = leaf-lookup (c .before .before .before .before .before .before .before .args .s .now) (c .before .before .before .before .before .before .before .args .b .now) (json-of (c .before .before .before .before .before .before .before .args .s .now) (c .before .before .before .before .before .before .before .args .b .now) (c .before .before .before .before .before .before .before .args .ent .now) (c .before .before .before .before .before .before .before .args .v)) (form.Null) (means (c .before .before .before .before .before .before .before .args .s .now) (c .before .before .before .before .before .before .before .args .b .now) (c .before .before .before .before .before .before .before .args .ent .now) (c .before .before .before .before .before .before .before .args .v) (c .before .before .before .before .before .before .before .pre .2) (c .before .before .form-of .result) (form.Null) (c .before .before .form-of .ensures) (c .enum-told .given .1)) tt (json-of (c .before .before .before .before .before .before .before .args .s .now) (c .before .before .before .before .before .before .before .args .b .now) (c .before .before .before .before .before .before .before .args .ent .now) (c .before .before .before .before .before .before .before .args .i))
+returns c = c .looked-any .ensures
+
+keyed-number-requires : tie.Need-keyed-number-requires
+keyed-number-requires c κs =
+    let z = c .before .before .before .before .before .before .before in
+    let a = z .args in
+    (z .pre .0, z .pre .1, z .pre .2, literal-held (a .s .now) (a .b .now) (a .ent .now) (a .i) (c .before .i .given .0 .0) (c .before .i .given .1) (z .pre .3))
+
+looked-any-requires-2 : tie.Need-looked-any-requires-2
+looked-any-requires-2 c κs =
+    let z = c .before .before .before .before .before .before .before .before .before in
+    let a = z .args in
+    (z .pre .0, z .pre .1, z .pre .2, subst (Held (a .s .now) (a .b .now) (a .ent .now)) (c .before .before .before .i .given .1) (z .pre .3))
 
 returns-2 : tie.Need-returns-2
-returns-2 c = leaf-lookup (c .before .before .before .before .before .before .before .args .s .now) (c .before .before .before .before .before .before .before .args .b .now) (json-of (c .before .before .before .before .before .before .before .args .s .now) (c .before .before .before .before .before .before .before .args .b .now) (c .before .before .before .before .before .before .before .args .ent .now) (c .before .before .before .before .before .before .before .args .v)) (form.Boolean (c .enum-told2 .given .0 .0)) (means (c .before .before .before .before .before .before .before .args .s .now) (c .before .before .before .before .before .before .before .args .b .now) (c .before .before .before .before .before .before .before .args .ent .now) (c .before .before .before .before .before .before .before .args .v) (c .before .before .before .before .before .before .before .pre .2) (c .before .before .form-of .result) (form.Boolean (c .enum-told2 .given .0 .0)) (c .before .before .form-of .ensures) (c .enum-told2 .given .1)) tt (json-of (c .before .before .before .before .before .before .before .args .s .now) (c .before .before .before .before .before .before .before .args .b .now) (c .before .before .before .before .before .before .before .args .ent .now) (c .before .before .before .before .before .before .before .args .i))
+returns-2 c =
+    let a = c .before .before .before .before .before .before .before .before .before .before .args in
+    subst (λ (j : Value). Finds (a .s .now) (a .b .now) (a .ent .now) (a .v) (looked-up (json-of (a .s .now) (a .b .now) (a .ent .now) (a .v)) (json-of (a .s .now) (a .b .now) (a .ent .now) j)) (c .looked-any2 .result)) (sym (c .before .before .before .before .i .given .1)) (c .looked-any2 .ensures)
 
 returns-3 : tie.Need-returns-3
-returns-3 c = leaf-lookup (c .before .before .before .before .before .before .before .args .s .now) (c .before .before .before .before .before .before .before .args .b .now) (json-of (c .before .before .before .before .before .before .before .args .s .now) (c .before .before .before .before .before .before .before .args .b .now) (c .before .before .before .before .before .before .before .args .ent .now) (c .before .before .before .before .before .before .before .args .v)) (form.Unsigned (c .enum-told3 .given .0 .0)) (means (c .before .before .before .before .before .before .before .args .s .now) (c .before .before .before .before .before .before .before .args .b .now) (c .before .before .before .before .before .before .before .args .ent .now) (c .before .before .before .before .before .before .before .args .v) (c .before .before .before .before .before .before .before .pre .2) (c .before .before .form-of .result) (form.Unsigned (c .enum-told3 .given .0 .0)) (c .before .before .form-of .ensures) (c .enum-told3 .given .1)) tt (json-of (c .before .before .before .before .before .before .before .args .s .now) (c .before .before .before .before .before .before .before .args .b .now) (c .before .before .before .before .before .before .before .args .ent .now) (c .before .before .before .before .before .before .before .args .i))
+returns-3 c =
+    let a = c .before .before .before .before .before .before .before .before .before .before .args in
+    looked-literal (a .s .now) (a .b .now) (a .ent .now) (a .v) (a .i) (c .before .before .before .before .i .given .0 .0) (c .before .before .before .before .i .given .1) (c .before .before .keyed-number .result) (c .before .before .keyed-number .ensures) (c .before .if1 .left) _ (ap numbered-found (sym (c .if2 .taken)))
+
+sub-decode : tie.Need-sub-decode
+sub-decode c = omega (arith, c .before .if1 .left, c .if2 .left)
+
+cast-decode : tie.Need-cast-decode
+cast-decode c = omega (arith, c .before .before .keyed-number .ensures .small)
+
+decode-requires : tie.Need-decode-requires
+decode-requires c κs = search needs
 
 returns-4 : tie.Need-returns-4
-returns-4 c = leaf-lookup (c .before .before .before .before .before .before .before .args .s .now) (c .before .before .before .before .before .before .before .args .b .now) (json-of (c .before .before .before .before .before .before .before .args .s .now) (c .before .before .before .before .before .before .before .args .b .now) (c .before .before .before .before .before .before .before .args .ent .now) (c .before .before .before .before .before .before .before .args .v)) (form.Negative (c .enum-told4 .given .0 .0)) (means (c .before .before .before .before .before .before .before .args .s .now) (c .before .before .before .before .before .before .before .args .b .now) (c .before .before .before .before .before .before .before .args .ent .now) (c .before .before .before .before .before .before .before .args .v) (c .before .before .before .before .before .before .before .pre .2) (c .before .before .form-of .result) (form.Negative (c .enum-told4 .given .0 .0)) (c .before .before .form-of .ensures) (c .enum-told4 .given .1)) tt (json-of (c .before .before .before .before .before .before .before .args .s .now) (c .before .before .before .before .before .before .before .args .b .now) (c .before .before .before .before .before .before .before .args .ent .now) (c .before .before .before .before .before .before .before .args .i))
-
-returns-5 : tie.Need-returns-5
-returns-5 c = leaf-lookup (c .before .before .before .before .before .before .before .args .s .now) (c .before .before .before .before .before .before .before .args .b .now) (json-of (c .before .before .before .before .before .before .before .args .s .now) (c .before .before .before .before .before .before .before .args .b .now) (c .before .before .before .before .before .before .before .args .ent .now) (c .before .before .before .before .before .before .before .args .v)) (form.String (c .enum-told5 .given .0 .0)) (means (c .before .before .before .before .before .before .before .args .s .now) (c .before .before .before .before .before .before .before .args .b .now) (c .before .before .before .before .before .before .before .args .ent .now) (c .before .before .before .before .before .before .before .args .v) (c .before .before .before .before .before .before .before .pre .2) (c .before .before .form-of .result) (form.String (c .enum-told5 .given .0 .0)) (c .before .before .form-of .ensures) (c .enum-told5 .given .1)) tt (json-of (c .before .before .before .before .before .before .before .args .s .now) (c .before .before .before .before .before .before .before .args .b .now) (c .before .before .before .before .before .before .before .args .ent .now) (c .before .before .before .before .before .before .before .args .i))
-
-returns-6 : tie.Need-returns-6
-returns-6 c = rw (c .item-at .ensures) (list-lookup (c .before .before .before .before .before .before .before .before .before .args .s .now) (c .before .before .before .before .before .before .before .before .before .args .b .now) (c .before .before .before .before .before .before .before .before .before .args .ent .now) (c .before .before .before .before .before .before .before .before .before .args .v) (c .before .before .before .before .before .before .before .before .before .args .tab .now) (c .before .before .before .before .before .before .before .before .before .pre .0) (c .before .before .f .given .0 .0) (means (c .before .before .before .before .before .before .before .before .before .args .s .now) (c .before .before .before .before .before .before .before .before .before .args .b .now) (c .before .before .before .before .before .before .before .before .before .args .ent .now) (c .before .before .before .before .before .before .before .before .before .args .v) (c .before .before .before .before .before .before .before .before .before .pre .2) (c .before .before .before .before .form-of .result) (form.List (c .before .before .f .given .0 .0)) (c .before .before .before .before .form-of .ensures) (c .before .before .f .given .1)) (json-of (c .before .before .before .before .before .before .before .before .before .args .s .now) (c .before .before .before .before .before .before .before .before .before .args .b .now) (c .before .before .before .before .before .before .before .before .before .args .ent .now) (c .before .before .before .before .before .before .before .before .before .args .i)) (as-u64 (plain-json (c .before .before .before .before .before .before .before .before .before .args .s .now) (c .before .before .before .before .before .before .before .before .before .args .b .now) (c .before .before .before .before .before .before .before .before .before .args .i))) (held-number (c .before .before .before .before .before .before .before .before .before .args .s .now) (c .before .before .before .before .before .before .before .before .before .args .b .now) (c .before .before .before .before .before .before .before .before .before .args .ent .now) (c .before .before .before .before .before .before .before .before .before .args .i) (c .before .before .before .before .before .before .before .before .before .pre .3)))
-
-returns-7 : tie.Need-returns-7
-returns-7 c = finds-eq (c .before .before .before .before .before .before .before .before .args .s .now) (c .before .before .before .before .before .before .before .before .args .b .now) (c .before .before .before .before .before .before .before .before .args .ent .now) (c .before .before .before .before .before .before .before .before .args .v) _ _ (c .member-at .result) (object-lookup (c .before .before .before .before .before .before .before .before .args .s .now) (c .before .before .before .before .before .before .before .before .args .b .now) (c .before .before .before .before .before .before .before .before .args .ent .now) (c .before .before .before .before .before .before .before .before .args .v) _ (means (c .before .before .before .before .before .before .before .before .args .s .now) (c .before .before .before .before .before .before .before .before .args .b .now) (c .before .before .before .before .before .before .before .before .args .ent .now) (c .before .before .before .before .before .before .before .before .args .v) (c .before .before .before .before .before .before .before .before .pre .2) (c .before .before .before .form-of .result) (form.Object (c .before .enum-told6 .given .0 .0)) (c .before .before .before .form-of .ensures) (c .before .enum-told6 .given .1) .is) (json-of (c .before .before .before .before .before .before .before .before .args .s .now) (c .before .before .before .before .before .before .before .before .args .b .now) (c .before .before .before .before .before .before .before .before .args .ent .now) (c .before .before .before .before .before .before .before .before .args .i))) (c .member-at .ensures)
-
-returns-8 : tie.Need-returns-8
-returns-8 c = finds-eq (c .before .before .before .before .before .before .before .before .args .s .now) (c .before .before .before .before .before .before .before .before .args .b .now) (c .before .before .before .before .before .before .before .before .args .ent .now) (c .before .before .before .before .before .before .before .before .args .v) _ _ (c .member-at2 .result) (object-lookup (c .before .before .before .before .before .before .before .before .args .s .now) (c .before .before .before .before .before .before .before .before .args .b .now) (c .before .before .before .before .before .before .before .before .args .ent .now) (c .before .before .before .before .before .before .before .before .args .v) _ (means (c .before .before .before .before .before .before .before .before .args .s .now) (c .before .before .before .before .before .before .before .before .args .b .now) (c .before .before .before .before .before .before .before .before .args .ent .now) (c .before .before .before .before .before .before .before .before .args .v) (c .before .before .before .before .before .before .before .before .pre .2) (c .before .before .before .form-of .result) (form.Merged (c .before .enum-told7 .given .0 .0) (c .before .enum-told7 .given .0 .1 .0)) (c .before .before .before .form-of .ensures) (c .before .enum-told7 .given .1)) (json-of (c .before .before .before .before .before .before .before .before .args .s .now) (c .before .before .before .before .before .before .before .before .args .b .now) (c .before .before .before .before .before .before .before .before .args .ent .now) (c .before .before .before .before .before .before .before .before .args .i))) (c .member-at2 .ensures)
+returns-4 c =
+    let a = c .before .before .before .before .before .before .before .before .before .before .before .args in
+    let r = c .before .before .before .keyed-number .result in
+    let e : r ≡ 2 + (r - 2) = omega (arith, c .before .before .if1 .left, c .before .if2 .left) in
+    looked-literal (a .s .now) (a .b .now) (a .ent .now) (a .v) (a .i) (c .before .before .before .before .before .i .given .0 .0) (c .before .before .before .before .before .i .given .1) r (c .before .before .before .keyed-number .ensures) (c .before .before .if1 .left) _ (ap Is (c .decode .ensures) ∙ number-found r (r - 2) e)
 
 pub looked-up-spec : {M : Type 1} → statement M
 looked-up-spec =
     tie.close
     (tie.spec
-    form-of-requires
-    enum-told
-    enum-told-2
-    enum-told-3
-    enum-told-4
-    enum-told-5
-    enum-known-f
-    item-at-requires
-    enum-told-6
-    member-at-requires
-    enum-told-7
-    member-at-requires-2
+    enum-known-i
+    looked-any-requires
     returns
+    keyed-number-requires
+    looked-any-requires-2
     returns-2
     returns-3
-    returns-4
-    returns-5
-    returns-6
-    returns-7
-    returns-8)
+    sub-decode
+    cast-decode
+    decode-requires
+    returns-4)
