@@ -68,6 +68,8 @@ struct Row {
     text_bytes: usize,
     library: f64,
     rust: f64,
+    /// The Rust with the bundle read and its templates registered in every call, as the library reads it.
+    rust_whole: f64,
     /// Parts of the library's time, each measured by a call of its own; 0 where it has no such function.
     check_bundle: f64,
     read_plan: f64,
@@ -119,6 +121,9 @@ fn row(series: &str, cabinets: usize, case: &Case, rounds: usize) -> Result<Row,
     let mut rust = || {
         black_box(made.render("main", black_box(&p)));
     };
+    let mut rust_whole = || {
+        black_box(Made::new(black_box(&b)).map(|made| made.render("main", black_box(&p))));
+    };
     let mut clear = || {
         black_box(cleared.clear(black_box(&b), black_box(&p), &start));
     };
@@ -128,13 +133,13 @@ fn row(series: &str, cabinets: usize, case: &Case, rounds: usize) -> Result<Row,
     let mut read_plan = || {
         black_box(library::check_plan(black_box(&mut plan), &mut table));
     };
-    let mut works: Vec<&mut dyn FnMut()> = vec![&mut library, &mut rust, &mut clear];
+    let mut works: Vec<&mut dyn FnMut()> = vec![&mut library, &mut rust, &mut rust_whole, &mut clear];
     if library::HAS_BUNDLE && library::HAS_PLAN {
         works.push(&mut check_bundle);
         works.push(&mut read_plan);
     }
     let mut seconds = beside(&mut works, rounds);
-    seconds.resize(5, 0.0);
+    seconds.resize(6, 0.0);
     Ok(Row {
         series: series.to_owned(),
         cabinets,
@@ -143,9 +148,10 @@ fn row(series: &str, cabinets: usize, case: &Case, rounds: usize) -> Result<Row,
         text_bytes: text.len(),
         library: seconds[0],
         rust: seconds[1],
-        clear: seconds[2],
-        check_bundle: seconds[3],
-        read_plan: seconds[4],
+        rust_whole: seconds[2],
+        clear: seconds[3],
+        check_bundle: seconds[4],
+        read_plan: seconds[5],
     })
 }
 
@@ -164,13 +170,14 @@ fn table(rows: &[Row], rounds: usize) -> String {
         "Sheets per second of processor time, medians of {rounds} rounds in one process, all works in turn in each. Proved: `handlebars_render`\n\
          with the bundle checked, the plan read and all buffers cleared in every call, page of 65,536 bytes. Rust: the core of handlebars 6.4.4\n\
          with a registry made once; in every call serde_json reads the plan into a `Value`, which `render_with_context` takes without a copy.\n\
-         Growth: time of a sheet over that of the first of its series.\n\n\
-         | sheet | cabinets | plan, bytes | text, bytes | proved, sheets/s | Rust, sheets/s | ratio | proved, growth | Rust, growth |\n\
-         |---|---|---|---|---|---|---|---|---|\n"
+         Growth: time of a sheet over that of the first of its series. Last, the same job on both sides: the ratio where the Rust, too, reads\n\
+         the bundle in every call and registers its templates (by the oracle's reader; handlebars itself parses templates from text).\n\n\
+         | sheet | cabinets | plan, bytes | text, bytes | proved, sheets/s | Rust, sheets/s | ratio | proved, growth | Rust, growth | ratio, bundle read by both |\n\
+         |---|---|---|---|---|---|---|---|---|---|\n"
     );
     for r in rows {
         text += &format!(
-            "| {} | {} | {} | {} | {:.0} | {:.0} | {:.2} | {} | {} |\n",
+            "| {} | {} | {} | {} | {:.0} | {:.0} | {:.2} | {} | {} | {:.2} |\n",
             r.series,
             cabinets(r),
             r.plan_bytes,
@@ -180,8 +187,15 @@ fn table(rows: &[Row], rounds: usize) -> String {
             r.rust / r.library,
             growth(rows, r, |r| r.library),
             growth(rows, r, |r| r.rust),
+            r.rust_whole / r.library,
         );
     }
+    let sum = |of: fn(&Row) -> f64| rows.iter().map(of).sum::<f64>();
+    text += &format!(
+        "\nAll sheets of the table one after the other: {:.2} times the Rust, {:.2} times where both read the bundle.\n",
+        sum(|r| r.rust) / sum(|r| r.library),
+        sum(|r| r.rust_whole) / sum(|r| r.library),
+    );
     text
 }
 
@@ -211,9 +225,9 @@ fn parts(rows: &[Row]) -> String {
 }
 
 fn csv(rows: &[Row]) -> String {
-    let mut text = "series,cabinets,bundle_bytes,plan_bytes,text_bytes,library_us,rust_us,bundle_us,plan_us,clear_us\n".to_owned();
+    let mut text = "series,cabinets,bundle_bytes,plan_bytes,text_bytes,library_us,rust_us,rust_whole_us,bundle_us,plan_us,clear_us\n".to_owned();
     for r in rows {
-        let times = [r.library, r.rust, r.check_bundle, r.read_plan, r.clear].map(|s| format!("{:.3}", s * 1e6));
+        let times = [r.library, r.rust, r.rust_whole, r.check_bundle, r.read_plan, r.clear].map(|s| format!("{:.3}", s * 1e6));
         text += &format!(
             "{},{},{},{},{},{}\n",
             r.series,
