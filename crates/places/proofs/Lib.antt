@@ -4,3 +4,4 @@ pub mod Ordered
 mod Walking
 mod Counting
 mod Plain
+mod Short

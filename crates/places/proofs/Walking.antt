@@ -122,10 +122,6 @@ number-pick true zero best r lt e = absurd (omega arith)
 number-pick true (suc c) best r lt e = ap numbered e
 number-pick false c best r lt e = ap numbered e
 
-pub number-is : (c : ℕ) → (c ≡ 0 → ⊥) → some c ≡ numbered c
-number-is zero h = absurd (h refl)
-number-is (suc c) h = refl
-
 -- what was found is a place
 pub in-pick : (s : Bytes) (r old : Found) (t : Bool) (c : ℕ) → found r ≡ pick t (some c) (found old) → c < places s → FoundIn s old → FoundIn s r
 in-pick s Nothing old t c e lt h = tt

@@ -1,8 +1,8 @@
 // The values of an accepted plan by their numbers (its places). Each function takes the plan's text and the table that the reader left.
 // What it answers is said by places; the laws of specs/ say what that means for the rules' values and paths.
 ghost use mathlib.Core.Path.{_≡_};
-ghost use mathlib.Core.Bool.{_&&_};
-ghost use Prim.Native.Nat.{ℕ, suc, _+_, _*_, _/_, _%_, _<_, _≤_};
+ghost use mathlib.Core.Bool.{true, _&&_};
+ghost use Prim.Native.Nat.{ℕ, suc, _+_, _*_, _/_, _%_, _^_, _<_, _≤_};
 ghost use lib.ListN.{length, getElem?, take};
 ghost use mathlib.Core.Option.{some};
 ghost use Rattle.rules.specs.Bytes.{pick, byte-at, same, before};
@@ -12,6 +12,7 @@ ghost use Rattle.rules.specs.Scan.{saying};
 ghost use Rattle.rules.specs.Plan.{name-of};
 ghost use Rattle.bits.specs.Packed.{bytes-at};
 ghost use Rattle.rules.specs.Order.{cmp};
+ghost use Rattle.saying.specs.Said.{Short};
 ghost use Rattle.saying.specs.Compared.{ordering, name-bytes, NameFits};
 ghost use Rattle.places.specs.Places.{start-of, places, tree-at, json-at, name-at, children, member, above, better, one-if-new, next-member};
 ghost use Rattle.places.specs.Kinds.{found, numbered, found-name, FoundIn, kind-of, kind-by, is-other, is-plain, magnitude-of, members-of, is-empty};
@@ -195,18 +196,50 @@ pub fn member(s: &[u8], tab: &[u64], i: usize, w: &[u8], named: Name) -> Found
     best
 }
 
-// The same for the m bytes that are packed into w from the bit place p on, as a number: 0 for none, since place 0 is the whole plan and no member.
+// Whether each of seven bytes is one of 96 to 127, as small letters are. The compiler makes one comparison of it.
+fn are_small(v: u64) -> bool
+    ensures { λ r. ⌜ (r ≡ true → (t : ℕ) → t < 7 → v / 2 ^ (8 * t + 5) % 8 ≡ 3) ⌝ }
+{
+    (v / 32 % 8 == 3)
+        & (v / 8192 % 8 == 3)
+        & (v / 2097152 % 8 == 3)
+        & (v / 536870912 % 8 == 3)
+        & (v / 137438953472 % 8 == 3)
+        & (v / 35184372088832 % 8 == 3)
+        & (v / 9007199254740992 % 8 == 3)
+}
+
+// The first m of the seven bytes x as one number with a quote behind them, where they are such bytes; else 0. Those that are not there are filled with 96.
+fn short_word(x: u64, m: usize) -> u64
+    requires { ⌜ x < 72057594037927936 ⌝ }
+    ensures { λ r. ⌜ Short x m r ⌝ }
+{
+    if 7 < m {
+        return 0;
+    }
+    let k = 8 * m;
+    let n = x >> (56 - k);
+    let fill = (27127564814278752 >> k) << k;
+    if are_small(n + fill) {
+        return n * 256 + 34;
+    }
+    0
+}
+
+// The same for the m bytes that are packed into w from the bit place p on, as a number: 0 for none, since place 0 is the whole plan and no member. (member_packed
+// has a loop of its own, so that the compiler puts this one into its only caller.)
 pub fn member_number(s: &[u8], tab: &[u64], i: usize, w: &[u8], p: usize, m: usize) -> usize
     requires { ⌜ Accepted (now s) (now tab) × (i < places (now s)) × (p + 8 * m < 18446744073709551616) ⌝ }
     ensures { λ r. ⌜ numbered r ≡ member (now (s .entry)) i (bytes-at (bits (now (w .entry))) p m) ⌝ }
 {
     let x = bits::field(w, p, 56);
+    let v = short_word(x, m);
     let e = end(s, tab, i);
     let mut c = i + 1;
     let mut best: usize = 0;
     while c < e {
         let n = name(s, tab, c);
-        best = choose(saying::says_headed(s, n, w, p, m, x), c, best);
+        best = choose(saying::says_short(s, n, w, p, m, x, v), c, best);
         c = end(s, tab, c);
     }
     best
@@ -216,11 +249,16 @@ pub fn member_packed(s: &[u8], tab: &[u64], i: usize, w: &[u8], p: usize, m: usi
     requires { ⌜ Accepted (now s) (now tab) × (i < places (now s)) × (p + 8 * m < 18446744073709551616) ⌝ }
     ensures { λ r. ⌜ found r ≡ member (now (s .entry)) i (bytes-at (bits (now (w .entry))) p m) ⌝ }
 {
-    let c = member_number(s, tab, i, w, p, m);
-    if c == 0 {
-        return Found::Nothing;
+    let head = bits::field(w, p, 56);
+    let e = end(s, tab, i);
+    let mut c = i + 1;
+    let mut best = Found::Nothing;
+    while c < e {
+        let n = name(s, tab, c);
+        best = or(saying::says_headed(s, n, w, p, m, head), c, best);
+        c = end(s, tab, c);
     }
-    Found::At(c)
+    best
 }
 
 // Whether a byte of a string is one of those that stand for themselves: most do.

@@ -5,3 +5,4 @@ pub mod Comparing
 mod Plain
 mod Headed
 mod Chars
+mod Short

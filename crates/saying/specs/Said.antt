@@ -1,6 +1,6 @@
 -- The bytes of a string that are left from a place on.
-use Prim.Native.Nat.{ℕ, suc, _+_, _≤_, _<_}
-use mathlib.Core.Bool.{Bool, _&&_, not}
+use Prim.Native.Nat.{ℕ, suc, _+_, _-_, _*_, _/_, _%_, _^_, _≤_, _<_}
+use mathlib.Core.Bool.{Bool, true, _&&_, not}
 use mathlib.Core.List.{[], _∷_}
 use mathlib.Core.Path.{_≡_}
 use lib.Dec.{eqb, leb}
@@ -31,3 +31,13 @@ is-own c = leb 32 c && (not (eqb c 34) && not (eqb c 92))
 -- the first place from i on that has no such byte
 abbrev pub own-end : Bytes → ℕ → ℕ
 own-end s i = i + run is-own (drop i s)
+
+-- the first n of the seven bytes x stand for themselves, and v is they with a quote behind them
+pub record IsShort (x n v : ℕ) : Type 0 where
+  pub few : n ≤ 7
+  pub own : (j : ℕ) → j < n → is-own (x / 2 ^ (48 - 8 * j) % 256) ≡ true
+  pub is : v ≡ x / 2 ^ (56 - 8 * n) * 256 + 34
+
+-- or v is 0
+abbrev pub Short : ℕ → ℕ → ℕ → Type 0
+Short x n v = (v ≡ 0 → ⊥) → IsShort x n v

@@ -9,7 +9,7 @@ ghost use Rattle.rules.specs.Bits.{bits};
 ghost use Rattle.rules.specs.Layout.{field};
 ghost use Rattle.rules.specs.Order.{cmp};
 ghost use Rattle.rules.specs.Scan.{encoded, code-point, escaped-byte, says, saying};
-ghost use Rattle.saying.specs.Said.{remaining, Inside, Stepped, is-own, own-end};
+ghost use Rattle.saying.specs.Said.{remaining, Inside, Stepped, is-own, own-end, Short};
 ghost use Rattle.bits.specs.Packed.{bytes-at};
 ghost use Rattle.saying.specs.Compared.{ordering, name-bytes, NameFits};
 ghost use Rattle.saying.specs.Characters.{Charred};
@@ -402,6 +402,37 @@ pub fn says_headed(s: &[u8], i: usize, w: &[u8], p: usize, n: usize, x: u64) -> 
         }
     }
     packed_headed(s, i + 1, w, p, n, x)
+}
+
+// The same as packed_headed. (Where a function passes its slices to a call, the compiler stores them on the stack when the function begins. This one stands
+// between, so that only the few names that come here pay for that.)
+fn headed_on(s: &[u8], i: usize, w: &[u8], p: usize, n: usize, x: u64) -> bool
+    requires { ⌜ (length (now s) ≤ 65536) × (i ≤ 65548) × (p + 8 * n < 18446744073709551616) × (x ≡ field (bits (now w)) 56 p) ⌝ }
+    ensures { λ r. ⌜ r ≡ same (remaining (now (s .entry)) i 0) (bytes-at (bits (now (w .entry))) p n) ⌝ }
+{
+    packed_headed(s, i, w, p, n, x)
+}
+
+// The same as says_headed, for a caller that has a short name as one number v: its bytes, at most seven that stand for themselves, and a quote. It is compared with
+// the text at once. Where v is 0, it is not used.
+pub fn says_short(s: &[u8], i: usize, w: &[u8], p: usize, n: usize, x: u64, v: u64) -> bool
+    requires { ⌜ (length (now s) ≤ 65536) × (i ≤ 65536) × (p + 8 * n < 18446744073709551616) × (x ≡ field (bits (now w)) 56 p) × Short x n v ⌝ }
+    ensures { λ r. ⌜ r ≡ same (saying (now (s .entry)) i) (bytes-at (bits (now (w .entry))) p n) ⌝ }
+{
+    let c = byte(s, i + 1);
+    let head = ((x >> 48) % 256) as u8;
+    if head != c {
+        if is_own(c) {
+            return false;
+        }
+    }
+    if v != 0 {
+        let y = bits::field(s, 8 * (i + 1), 64);
+        if y >> (56 - 8 * n) == v {
+            return true;
+        }
+    }
+    headed_on(s, i + 1, w, p, n, x)
 }
 
 // The same for one string.
