@@ -6,7 +6,7 @@ use mathlib.Core.Option.{none, some}
 use mathlib.Core.Path.{_≡_, refl, sym, ap, _∙_}
 use native.Mathlib.Nat.{add-zero}
 use native.Mathlib.Omega.{arith}
-use borrow.Author.Tests.{ltb-false, eqb-true, eqb-false, leb-true, not-true}
+use borrow.Author.Tests.{ltb-false, eqb-true, eqb-false, ne-eqb, leb-true, not-true}
 use lib.Dec.{eqb, ltb, leb}
 use lib.ListN.{length, getD, take}
 use lib.Seq.{sets, getD-take, length-take-le, take-all, take-length}
@@ -21,7 +21,7 @@ use Rattle.bits.specs.Packed.{bytes-at, number-bytes, number-packed}
 use Rattle.output.specs.declared.Writer.{Writer}
 use Rattle.output.specs.Writer.{Output, output, over, advanced, filled, stored, room, place-of, limit-of, all-put, wrote}
 use Rattle.output.specs.Outputs.{indent-of}
-use Rattle.output.proofs.Steps.{all-put-append}
+use Rattle.output.proofs.Steps.{all-put-append, limit-le}
 use Rattle.output.proofs.Written.{all-put-is, all-put-fits}
 use Rattle.output.proofs.Packed.{take-packed}
 use Rattle.support.specs.Feed.{begun, penned, marked, finished, due, wants-indent, indent-before, all-emitted, fed-text, escaped}
@@ -192,3 +192,75 @@ plain-means has e v h =
     let n : run (quiet-byte has e) v ≡ length v = eqb-true (run (quiet-byte has e) v) (length v) h in
     let whole : take (run (quiet-byte has e) v) v ≡ v = ap (λ (k : ℕ). take k v) n ∙ take-length v in
     (ap (calm has) (sym whole) ∙ calm-run has e v, ap (escaped e) (sym whole) ∙ plain-run has e v ∙ whole)
+
+-- What a caller is told who keeps the writer: where bytes were stored, it is behind them
+
+-- 0, or more than that where v was stored
+abbrev pub if-set : ℕ → ℕ → Bytes → Bytes → Bytes
+if-set r at v out = pick (eqb r 0) out (sets out at v)
+
+abbrev pub set-bytes : Writer → ℕ → Bytes → ℕ
+set-bytes w len v = pick (takes w len (length v)) (256 * length v + getD v (length v - 1) 0) 0
+
+abbrev pub set-short : Writer → ℕ → ℕ → ℕ → ℕ
+set-short w len n x = pick (takes-short w len n x) (getD (short-bytes n x) (n - 1) 0 + 1) 0
+
+-- v stands in out′, of which n is the count and c the last byte
+pub record IsSet (v : Bytes) (w : Writer) (out out′ : Bytes) (n c : ℕ) : Type 0 where
+  pub byte : c < 256
+  pub fits : place-of w + n ≤ length out
+  pub is : (i : Bytes) → output (behind n c w) out′ ≡ written-text i v (output w out)
+
+pub none-set : (v out out′ : Bytes) (at r : ℕ) → out′ ≡ if-set r at v out → r ≡ 0 → out′ ≡ out
+none-set v out out′ at r e z = e ∙ ap (λ (k : ℕ). if-set k at v out) z
+
+some-set : (v out out′ : Bytes) (at r : ℕ) → out′ ≡ if-set r at v out → (r ≡ 0 → ⊥) → out′ ≡ sets out at v
+some-set v out out′ at r e z = e ∙ ap (λ (t : Bool). pick t out (sets out at v)) (ne-eqb r 0 z)
+
+pub bytes-set : (v out out′ : Bytes) (w : Writer) (r : ℕ) → r ≡ set-bytes w (length out) v → out′ ≡ if-set r (place-of w) v out → ((r ≡ 0 → ⊥) → getD v (length v - 1) 0 < 256)
+    → calm (w .«has_indent») v ≡ true → (r ≡ 0 → ⊥) → IsSet v w out out′ (r / 256) (r % 256)
+bytes-set v out out′ w r h e g k z = by (takes w (length out) (length v)) refl h
+  where
+    c : ℕ
+    c = getD v (length v - 1) 0
+
+    by : (t : Bool) → takes w (length out) (length v) ≡ t → r ≡ pick t (256 * length v + c) 0 → IsSet v w out out′ (r / 256) (r % 256)
+    by false q m = absurd (z m)
+    by true q m =
+        let n : r / 256 ≡ length v = omega (arith, m, g z) in
+        let l : r % 256 ≡ c = omega (arith, m, g z) in
+        let t = taken w (length out) (length v) q in
+        record {
+          byte = omega (arith, l, g z);
+          fits = omega (arith, n, t .some, t .fits, limit-le w (length out));
+          is = λ i. ap (output (behind (r / 256) (r % 256) w)) (some-set v out out′ (place-of w) r e z)
+              ∙ ap (λ (x : ℕ). output (behind x (r % 256) w) (sets out (place-of w) v)) n ∙ ap (λ (x : ℕ). output (behind (length v) x w) (sets out (place-of w) v)) l ∙ stored-whole i v out w q k;
+        }
+
+pub short-set : (n x : ℕ) (out out′ : Bytes) (w : Writer) (r : ℕ) → r ≡ set-short w (length out) n x → out′ ≡ if-set r (place-of w) (short-bytes n x) out → r ≤ 256 → (r ≡ 0 → ⊥)
+    → (n ≤ 7) × IsSet (short-bytes n x) w out out′ n (r - 1)
+short-set n x out out′ w r h e g z = by (takes-short w (length out) n x) refl h
+  where
+    v : Bytes
+    v = short-bytes n x
+
+    c : ℕ
+    c = getD v (n - 1) 0
+
+    by : (t : Bool) → takes-short w (length out) n x ≡ t → r ≡ pick t (c + 1) 0 → (n ≤ 7) × IsSet v w out out′ n (r - 1)
+    by false q m = absurd (z m)
+    by true q m =
+        let k = short-taken w (length out) n x q in
+        let t = taken w (length out) n (k .1) in
+        let l : r - 1 ≡ c = omega (arith, m) in
+        let s : length v ≡ n = short-length n x (k .0) in (
+          k .0,
+          record {
+            byte = omega (arith, g, z);
+            fits = omega (arith, t .some, t .fits, limit-le w (length out));
+            is = λ i. ap (output (behind n (r - 1) w)) (some-set v out out′ (place-of w) r e z)
+                ∙ ap (λ (y : ℕ). output (behind n y w) (sets out (place-of w) v)) (l ∙ ap (λ (y : ℕ). getD v (y - 1) 0) (sym s))
+                ∙ ap (λ (y : ℕ). output (behind y (getD v (length v - 1) 0) w) (sets out (place-of w) v)) (sym s)
+                ∙ stored-whole i v out w (ap (takes w (length out)) s ∙ k .1) (k .2);
+          },
+        )

@@ -12,7 +12,7 @@ ghost use Rattle.bits.specs.Packed.{bytes-at, number-bytes};
 ghost use Rattle.output.specs.Writer.{output, over, place-of};
 ghost use Rattle.support.specs.Feed.{finished, begun, all-emitted, escaped};
 ghost use Rattle.support.specs.Runs.{calm, line-length};
-ghost use Rattle.direct.specs.Direct.{takes, behind, leads, written-text, short-bytes, takes-short, plain};
+ghost use Rattle.direct.specs.Direct.{takes, behind, leads, written-text, short-bytes, takes-short, plain, set-short, set-bytes, if-set};
 use output::Writer;
 
 // Whether a writer that begins a text of n bytes stores it so in an output of len bytes, if no line ends inside it.
@@ -35,7 +35,7 @@ fn wide(x: u8) -> usize
 }
 
 // The writer behind a text of n bytes whose last one is c.
-fn behind(w: Writer, n: usize, c: u8) -> Writer
+pub fn behind(w: Writer, n: usize, c: u8) -> Writer
     requires { ⌜ place-of w + n < 2 ^ 64 ⌝ }
     ensures { λ r. ⌜ r ≡ behind n c w ⌝ }
 {
@@ -68,6 +68,21 @@ pub fn put_bytes(out: &mut [u8], w: Writer, v: &[u8]) -> Writer
     let at = output::place(w);
     output::copy(out, at, v, n);
     behind(w, n, v[n - 1])
+}
+
+// Lent bytes are stored where they go out at once. 0 where not, else 256 times their count and the last of them: by these a caller moves a writer of its own on with
+// `behind`. (A writer that a call returns is copied whole, field by field.)
+pub fn set_bytes(out: &mut [u8], w: Writer, v: &[u8]) -> usize
+    requires { ⌜ length (now v) ≤ 65536 ⌝ }
+    ensures { λ r. ⌜ (r ≡ set-bytes w (length (now (out .entry))) (now (v .entry))) × (now (out .exit) ≡ if-set r (place-of w) (now (v .entry)) (now (out .entry))) × ((r ≡ 0 → ⊥) → getD (now (v .entry)) (length (now (v .entry)) - 1) 0 < 256) ⌝ }
+{
+    let n = v.len();
+    if takes(w, out.len(), n) {
+        let to = output::place(w);
+        output::copy(out, to, v, n);
+        return 256 * n + wide(v[n - 1]);
+    }
+    0
 }
 
 // Whether an indent comes in front of a text that begins with c.
@@ -248,4 +263,16 @@ pub fn put_short(out: &mut [u8], w: Writer, n: usize, x: u64) -> Writer
     let at = output::place(w);
     store_short(out, at, n, x);
     behind(w, n, short_byte(x, n - 1))
+}
+
+// The same as `set_bytes` for them: one more than the last.
+pub fn set_short(out: &mut [u8], w: Writer, n: usize, x: u64) -> usize
+    ensures { λ r. ⌜ (r ≡ set-short w (length (now (out .entry))) n x) × (now (out .exit) ≡ if-set r (place-of w) (short-bytes n x) (now (out .entry))) × (r ≤ 256) ⌝ }
+{
+    if takes_short(w, out.len(), n, x) {
+        let to = output::place(w);
+        store_short(out, to, n, x);
+        return wide(short_byte(x, n - 1)) + 1;
+    }
+    0
 }

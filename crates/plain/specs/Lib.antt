@@ -1,3 +1,4 @@
 pub mod Plain
 pub mod Reading
 pub mod Laws
+pub mod Put

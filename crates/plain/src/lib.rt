@@ -4,25 +4,27 @@
 // stands in an element.
 ghost use mathlib.Core.Bool.{true, false};
 ghost use mathlib.Core.Path.{_≡_};
-ghost use Prim.Native.Nat.{ℕ, _+_, _*_, _^_, _≤_, _<_};
+ghost use Prim.Native.Nat.{ℕ, _+_, _-_, _*_, _^_, _≤_, _<_};
 ghost use lib.ListN.{length};
+ghost use Rattle.rules.specs.Bytes.{Bytes};
 ghost use Rattle.rules.specs.Bits.{bits};
 ghost use Rattle.rules.specs.Bundle.{param, call-of, element-of, body};
 ghost use Rattle.bits.specs.Packed.{bytes-at};
-ghost use Rattle.output.specs.Outputs.{outputs};
-ghost use Rattle.support.specs.Feed.{fed};
 ghost use Rattle.parts.specs.Holds.{Holds};
 ghost use Rattle.parts.specs.HoldsLaws.{Passed};
 ghost use Rattle.template.specs.Views.{in-body};
 ghost use Rattle.places.specs.Accepted.{Accepted};
+ghost use Rattle.meaning.specs.Forms.{Known};
 ghost use Rattle.state.specs.Context.{whole};
 ghost use Rattle.state.specs.World.{world, Ready};
 ghost use Rattle.plain.specs.Plain.{kept, full-number, PlainIs, run-of};
+ghost use Rattle.plain.specs.Put.{Put, PutPlain, PutValue};
 ghost use Rattle.plain.specs.Plain as plain;
 use expand::Options;
 use helpers::Shows;
 use output::Writer;
 use state::RenderContext;
+use value::Value;
 
 // What an element is, as far as few reads tell.
 enum Plain {
@@ -70,24 +72,50 @@ fn full_number(w: Writer) -> u8
     25
 }
 
-// The n bytes of a packed string as a text. Most have up to seven, which are one word and stored from it.
-fn write_text(
-    page: &mut [u8],
-    texts: &mut [u8],
-    indent: &[u8],
-    w: Writer,
-    b: &[u8],
-    p: usize,
-    n: usize,
-) -> Writer
+// A text that is stored at once moves the writer on by its count and its last byte alone, so the loop keeps its writer in place: one that a call returns is copied
+// whole, field by field. What is told is then 0 where the text has to be written by such a call.
+
+// The n bytes of a packed string: one more than the last of them. Most have up to seven, which are one word and stored from it.
+fn put_text(page: &mut [u8], texts: &mut [u8], w: Writer, b: &[u8], p: usize, n: usize) -> usize
     requires { ⌜ p + 8 * n < 2 ^ 64 ⌝ }
-    ensures { λ r. ⌜ outputs r (now (page .exit)) (now (texts .exit)) ≡ fed (now (indent .entry)) (bytes-at (bits (now (b .entry))) p n) (outputs w (now (page .entry)) (now (texts .entry))) ⌝ }
+    ensures { λ r. ⌜ Put (bytes-at (bits (now (b .entry))) p n) w (now (page .entry)) (now (texts .entry)) (now (page .exit)) (now (texts .exit)) r n (r - 1) ⌝ }
 {
     let x = bits::field(b, p, 56);
-    if writing::is_short(w, page.len(), texts.len(), n, x) {
-        return writing::put_short(page, texts, w, n, x);
+    if w.block_text {
+        return direct::set_short(texts, w, n, x);
     }
-    writing::write_packed(page, texts, indent, w, b, p, n)
+    direct::set_short(page, w, n, x)
+}
+
+// Lent bytes that nothing is escaped of: 256 times their count, and the last of them.
+fn put_bytes(page: &mut [u8], texts: &mut [u8], w: Writer, v: &[u8]) -> usize
+    requires { ⌜ length (now v) ≤ 65536 ⌝ }
+    ensures { λ r. ⌜ PutPlain (now (v .entry)) w (now (page .entry)) (now (texts .entry)) (now (page .exit)) (now (texts .exit)) r ⌝ }
+{
+    if !direct::is_plain(v, w.has_indent, true) {
+        return 0;
+    }
+    if w.block_text {
+        return direct::set_bytes(texts, w, v);
+    }
+    direct::set_bytes(page, w, v)
+}
+
+// What a value prints that stands in the plan so, where no indent is due.
+fn put_value(page: &mut [u8], texts: &mut [u8], w: Writer, s: &[u8], tab: &[u64], v: Value) -> usize
+    requires { ⌜ Accepted (now s) (now tab) × ((b : Bytes) × Known (now s) b v) ⌝ }
+    ensures { λ r. ⌜ PutValue (now (s .entry)) v w (now (page .entry)) (now (texts .entry)) (now (page .exit)) (now (texts .exit)) r ⌝ }
+{
+    if w.has_indent & w.indent_before_write {
+        return 0;
+    }
+    let p = print::value_span(s, tab, v);
+    let at = p.start;
+    let e = p.end;
+    if at < e {
+        return put_bytes(page, texts, w, &s[at..e]);
+    }
+    0
 }
 
 // How far the elements of a body are drawn: the writer, the number of the next one and its place, and the number of its refusal, or 0.
@@ -137,7 +165,12 @@ pub fn draw_run(
         let mut next = q;
         match plain_at(b, q, d) {
             Plain::Text(n) => {
-                w = write_text(page, texts, indent, w, b, q + 20, n);
+                let put = put_text(page, texts, w, b, q + 20, n);
+                if put == 0 {
+                    w = writing::write_packed(page, texts, indent, w, b, q + 20, n);
+                } else {
+                    w = direct::behind(w, n, (put - 1) as u8);
+                }
                 next = q + 20 + 8 * n;
             }
             Plain::Path(html, e) => {
@@ -152,8 +185,13 @@ pub fn draw_run(
                         return run_of(w, k, cur, 0);
                     }
                     Shows::Value(v) => {
-                        let escape = !(html | rc.disable_escape);
-                        w = writing::write_value(page, texts, indent, w, s, tab, b, v, escape);
+                        let put = put_value(page, texts, w, s, tab, v);
+                        if put == 0 {
+                            let escape = !(html | rc.disable_escape);
+                            w = writing::write_value(page, texts, indent, w, s, tab, b, v, escape);
+                        } else {
+                            w = direct::behind(w, put / 256, (put % 256) as u8);
+                        }
                     }
                     Shows::Nothing => {}
                 }

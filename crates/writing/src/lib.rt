@@ -6,7 +6,7 @@ ghost use mathlib.Core.List.{List};
 ghost use mathlib.Core.Path.{_≡_};
 ghost use Prim.Native.Nat.{ℕ, _+_, _*_, _^_, _≤_, _<_};
 ghost use lib.ListN.{length, take, drop};
-ghost use Rattle.rules.specs.Bytes.{Bytes, pick};
+ghost use Rattle.rules.specs.Bytes.{Bytes};
 ghost use Rattle.rules.specs.Bits.{bits};
 ghost use Rattle.rules.specs.Bundle.{string};
 ghost use Rattle.rules.specs.Output.{write, do-escape, indent-aware-write};
@@ -17,7 +17,7 @@ ghost use Rattle.output.specs.Writer.{all-put};
 ghost use Rattle.output.specs.Outputs.{outputs, on};
 ghost use Rattle.support.specs.Feed.{escaped, fed};
 ghost use Rattle.support.specs.Runs.{calm};
-ghost use Rattle.direct.specs.Direct.{takes, short-bytes, takes-short};
+ghost use Rattle.direct.specs.Direct.{takes};
 ghost use Rattle.layout.specs.Text.{text-at};
 ghost use Rattle.parts.specs.Holds.{Holds};
 ghost use Rattle.places.specs.Accepted.{Accepted};
@@ -50,28 +50,6 @@ pub fn write_packed(
         return direct::write_packed(texts, indent, w, b, p, n);
     }
     direct::write_packed(page, indent, w, b, p, n)
-}
-
-// Whether the first n bytes of a word are a text that is stored at once, in a page or block texts of so many bytes. (A packed
-// string of up to seven bytes is such a word. To ask first keeps the writer of a loop that draws many of them in its place.)
-pub fn is_short(w: Writer, page: usize, texts: usize, n: usize, x: u64) -> bool
-    ensures { λ r. ⌜ r ≡ takes-short w (pick (w .«block_text») texts page) n x ⌝ }
-{
-    if w.block_text {
-        return direct::takes_short(w, texts, n, x);
-    }
-    direct::takes_short(w, page, n, x)
-}
-
-// They are.
-pub fn put_short(page: &mut [u8], texts: &mut [u8], w: Writer, n: usize, x: u64) -> Writer
-    requires { ⌜ (n ≤ 7) × (takes w (pick (w .«block_text») (length (now texts)) (length (now page))) n ≡ true) × (calm (w .«has_indent») (short-bytes n x) ≡ true) ⌝ }
-    ensures { λ r. ⌜ ((i : Bytes) → outputs r (now (page .exit)) (now (texts .exit)) ≡ fed i (short-bytes n x) (outputs w (now (page .entry)) (now (texts .entry)))) ⌝ }
-{
-    if w.block_text {
-        return direct::put_short(texts, w, n, x);
-    }
-    direct::put_short(page, w, n, x)
 }
 
 // `RawString`: its text, the string at p, as it is.

@@ -1,7 +1,7 @@
 -- `plain::draw_run` meets its contract.
 use native.Mathlib.Omega.{arith}
-use Prim.Native.Nat.{ℕ, _+_, _-_, _*_, _≤_}
-use mathlib.Core.Bool.{Bool, _&&_}
+use Prim.Native.Nat.{ℕ, _+_, _-_, _*_, _/_, _%_, _≤_}
+use mathlib.Core.Bool.{Bool, _&&_, _||_, not}
 use mathlib.Core.Logic.{⊎-elim}
 use mathlib.Core.Option.{none}
 use mathlib.Core.Path.{_≡_, refl, sym, ap, _∙_, subst}
@@ -9,6 +9,9 @@ use lib.ListN.{length}
 use Rattle.rules.specs.Bits.{bits}
 use Rattle.rules.specs.Bundle.{param, call-of, body}
 use Rattle.rules.specs.BundleLaws.{bits-size}
+use Rattle.bits.specs.Packed.{bytes-at}
+use Rattle.output.specs.declared.Writer.{Writer}
+use Rattle.output.specs.Outputs.{outputs}
 use Rattle.parts.specs.HoldsLaws.{string-in}
 use Rattle.parts.specs.Parts.{path-raw}
 use Rattle.calls.specs.Calls.{call-at}
@@ -19,16 +22,20 @@ use Rattle.expressions.specs.Laws.{expression-known}
 use Rattle.plain.specs.declared.Run as code
 use Rattle.plain.specs.Plain.{kept, full-number, TextIs, PathIs, PlainIs, OneDrawn, Run}
 use Rattle.plain.specs.Laws.{kept-same, full-none, full-bad, one-moved, text-drawn, path-refused, path-number, path-nothing, path-written, drawing-here, Onward, run-left, run-stop, run-more}
+use Rattle.plain.specs.Put.{fed-same, value-same, value-by}
 use borrow.Author.Needs.{needs}
 use Rattle.plain.proofs.draw_run.Statement.{statement}
 use Rattle.plain.proofs.draw_run.Tie as tie
 use Rattle.plain.proofs.draw_run.Reads as reads
 use Rattle.plain.proofs.draw_run.Lts as lts
+use Rattle.direct.proofs.behind.Reads as behind-reads
 use Rattle.helpers.proofs.bare_path.Reads as bare-path-reads
 use Rattle.plain.proofs.full_number.Reads as full-number-reads
 use Rattle.plain.proofs.plain_at.Reads as plain-at-reads
+use Rattle.plain.proofs.put_text.Reads as put-text-reads
+use Rattle.plain.proofs.put_value.Reads as put-value-reads
 use Rattle.plain.proofs.run_of.Reads as run-of-reads
-use Rattle.plain.proofs.write_text.Reads as write-text-reads
+use Rattle.writing.proofs.write_packed.Reads as write-packed-reads
 use Rattle.writing.proofs.write_value.Reads as write-value-reads
 
 abbrev Inv-loop : tie.InvT-loop
@@ -72,8 +79,8 @@ plain-at-requires c κs = let z = (c .before .before .before .before .before .be
 enum-known-n : tie.Need-enum-known-n Inv-loop μ-loop
 enum-known-n c = search needs
 
-add-write-text : tie.Need-add-write-text Inv-loop μ-loop
-add-write-text c = let z = (c .before .before .before .before .before .before .before .before .before .before .before .before .before .before .before .before .before) in
+add-put-text : tie.Need-add-put-text Inv-loop μ-loop
+add-put-text c = let z = (c .before .before .before .before .before .before .before .before .before .before .before .before .before .before .before .before .before) in
     let a = z .args in
     let l = (c .before .before .before .before .before .before .before) .loop in
     let D = l .inv .1 none (z .pre .3 .0) (z .pre .3 .1) in
@@ -81,39 +88,66 @@ add-write-text c = let z = (c .before .before .before .before .before .before .b
     let k = string-in (bits (a .b .now)) (l .cur + 16 + 16 + 4) (T .text) in
     omega (arith, k, T .count, z .pre .1, bits-size (a .b .now))
 
-write-text-requires : tie.Need-write-text-requires Inv-loop μ-loop
-write-text-requires c κs = let z = (c .before .before .before .before .before .before .before .before .before .before .before .before .before .before .before .before .before) in
+put-text-requires : tie.Need-put-text-requires Inv-loop μ-loop
+put-text-requires c κs = let z = (c .before .before .before .before .before .before .before .before .before .before .before .before .before .before .before .before .before) in
     let a = z .args in
     let l = (c .before .before .before .before .before .before .before) .loop in
     let D = l .inv .1 none (z .pre .3 .0) (z .pre .3 .1) in
     let T : TextIs (a .d) (bits (a .b .now)) (l .cur + 16 + 16) ((c .before .before .before) .n .given .0 .0) = subst (PlainIs (a .d) (bits (a .b .now)) (l .cur + 16 + 16)) ((c .before .before .before) .n .given .1) ((c .before .before .before .before .before) .plain-at .ensures) in
     let k = string-in (bits (a .b .now)) (l .cur + 16 + 16 + 4) (T .text) in
     omega (arith, k, T .count, z .pre .1, bits-size (a .b .now))
+
+add-write-packed : tie.Need-add-write-packed Inv-loop μ-loop
+add-write-packed c = let z = (c .before .before .before .before .before .before .before .before .before .before .before .before .before .before .before .before .before .before .before .before .before .before .before .before .before) in
+    let a = z .args in
+    let l = (c .before .before .before .before .before .before .before .before .before .before .before .before .before .before .before) .loop in
+    let D = l .inv .1 none (z .pre .3 .0) (z .pre .3 .1) in
+    let T : TextIs (a .d) (bits (a .b .now)) (l .cur + 16 + 16) ((c .before .before .before .before .before .before .before .before .before .before .before) .n .given .0 .0) = subst (PlainIs (a .d) (bits (a .b .now)) (l .cur + 16 + 16)) ((c .before .before .before .before .before .before .before .before .before .before .before) .n .given .1) ((c .before .before .before .before .before .before .before .before .before .before .before .before .before) .plain-at .ensures) in
+    let k = string-in (bits (a .b .now)) (l .cur + 16 + 16 + 4) (T .text) in
+    omega (arith, k, T .count, z .pre .1, bits-size (a .b .now))
+
+write-packed-requires : tie.Need-write-packed-requires Inv-loop μ-loop
+write-packed-requires c κs = let z = (c .before .before .before .before .before .before .before .before .before .before .before .before .before .before .before .before .before .before .before .before .before .before .before .before .before) in
+    let a = z .args in
+    let l = (c .before .before .before .before .before .before .before .before .before .before .before .before .before .before .before) .loop in
+    let D = l .inv .1 none (z .pre .3 .0) (z .pre .3 .1) in
+    let T : TextIs (a .d) (bits (a .b .now)) (l .cur + 16 + 16) ((c .before .before .before .before .before .before .before .before .before .before .before) .n .given .0 .0) = subst (PlainIs (a .d) (bits (a .b .now)) (l .cur + 16 + 16)) ((c .before .before .before .before .before .before .before .before .before .before .before) .n .given .1) ((c .before .before .before .before .before .before .before .before .before .before .before .before .before) .plain-at .ensures) in
+    let k = string-in (bits (a .b .now)) (l .cur + 16 + 16 + 4) (T .text) in
+    omega (arith, k, T .count, z .pre .1, bits-size (a .b .now))
+
+sub-behind : tie.Need-sub-behind Inv-loop μ-loop
+sub-behind c = omega (arith, c .if1 .left)
+
+cast-behind : tie.Need-cast-behind Inv-loop μ-loop
+cast-behind c = omega (arith, (c .before .before .before .before .before) .put-text .ensures .some (c .if1 .left) .byte)
+
+behind-requires : tie.Need-behind-requires Inv-loop μ-loop
+behind-requires c κs = (c .before .before .before .before .before) .put-text .ensures .some (c .if1 .left) .fits
 
 add-next : tie.Need-add-next Inv-loop μ-loop
-add-next c = let z = (c .before .before .before .before .before .before .before .before .before .before .before .before .before .before .before .before .before .before .before .before .before .before) in
+add-next c = let z = (c .before .before .before .before .before .before .before .before .before .before .before .before .before .before .before .before .before .before .before .before .before .before .before) in
     let a = z .args in
-    let l = (c .before .before .before .before .before .before .before .before .before .before .before .before) .loop in
+    let l = (c .before .before .before .before .before .before .before .before .before .before .before .before .before) .loop in
     let D = l .inv .1 none (z .pre .3 .0) (z .pre .3 .1) in
-    let T : TextIs (a .d) (bits (a .b .now)) (l .cur + 16 + 16) ((c .before .before .before .before .before .before .before .before) .n .given .0 .0) = subst (PlainIs (a .d) (bits (a .b .now)) (l .cur + 16 + 16)) ((c .before .before .before .before .before .before .before .before) .n .given .1) ((c .before .before .before .before .before .before .before .before .before .before) .plain-at .ensures) in
+    let T : TextIs (a .d) (bits (a .b .now)) (l .cur + 16 + 16) ((c .before .before .before .before .before .before .before .before .before) .n .given .0 .0) = subst (PlainIs (a .d) (bits (a .b .now)) (l .cur + 16 + 16)) ((c .before .before .before .before .before .before .before .before .before) .n .given .1) ((c .before .before .before .before .before .before .before .before .before .before .before) .plain-at .ensures) in
     let k = string-in (bits (a .b .now)) (l .cur + 16 + 16 + 4) (T .text) in
     omega (arith, k, T .count, z .pre .1, bits-size (a .b .now))
 
 mul-next : tie.Need-mul-next Inv-loop μ-loop
-mul-next c = let z = (c .before .before .before .before .before .before .before .before .before .before .before .before .before .before .before .before .before .before .before .before .before .before) in
+mul-next c = let z = (c .before .before .before .before .before .before .before .before .before .before .before .before .before .before .before .before .before .before .before .before .before .before .before) in
     let a = z .args in
-    let l = (c .before .before .before .before .before .before .before .before .before .before .before .before) .loop in
+    let l = (c .before .before .before .before .before .before .before .before .before .before .before .before .before) .loop in
     let D = l .inv .1 none (z .pre .3 .0) (z .pre .3 .1) in
-    let T : TextIs (a .d) (bits (a .b .now)) (l .cur + 16 + 16) ((c .before .before .before .before .before .before .before .before) .n .given .0 .0) = subst (PlainIs (a .d) (bits (a .b .now)) (l .cur + 16 + 16)) ((c .before .before .before .before .before .before .before .before) .n .given .1) ((c .before .before .before .before .before .before .before .before .before .before) .plain-at .ensures) in
+    let T : TextIs (a .d) (bits (a .b .now)) (l .cur + 16 + 16) ((c .before .before .before .before .before .before .before .before .before) .n .given .0 .0) = subst (PlainIs (a .d) (bits (a .b .now)) (l .cur + 16 + 16)) ((c .before .before .before .before .before .before .before .before .before) .n .given .1) ((c .before .before .before .before .before .before .before .before .before .before .before) .plain-at .ensures) in
     let k = string-in (bits (a .b .now)) (l .cur + 16 + 16 + 4) (T .text) in
     omega (arith, k, T .count, z .pre .1, bits-size (a .b .now))
 
 add-next-2 : tie.Need-add-next-2 Inv-loop μ-loop
-add-next-2 c = let z = (c .before .before .before .before .before .before .before .before .before .before .before .before .before .before .before .before .before .before .before .before .before .before) in
+add-next-2 c = let z = (c .before .before .before .before .before .before .before .before .before .before .before .before .before .before .before .before .before .before .before .before .before .before .before) in
     let a = z .args in
-    let l = (c .before .before .before .before .before .before .before .before .before .before .before .before) .loop in
+    let l = (c .before .before .before .before .before .before .before .before .before .before .before .before .before) .loop in
     let D = l .inv .1 none (z .pre .3 .0) (z .pre .3 .1) in
-    let T : TextIs (a .d) (bits (a .b .now)) (l .cur + 16 + 16) ((c .before .before .before .before .before .before .before .before) .n .given .0 .0) = subst (PlainIs (a .d) (bits (a .b .now)) (l .cur + 16 + 16)) ((c .before .before .before .before .before .before .before .before) .n .given .1) ((c .before .before .before .before .before .before .before .before .before .before) .plain-at .ensures) in
+    let T : TextIs (a .d) (bits (a .b .now)) (l .cur + 16 + 16) ((c .before .before .before .before .before .before .before .before .before) .n .given .0 .0) = subst (PlainIs (a .d) (bits (a .b .now)) (l .cur + 16 + 16)) ((c .before .before .before .before .before .before .before .before .before) .n .given .1) ((c .before .before .before .before .before .before .before .before .before .before .before) .plain-at .ensures) in
     let k = string-in (bits (a .b .now)) (l .cur + 16 + 16 + 4) (T .text) in
     omega (arith, k, T .count, z .pre .1, bits-size (a .b .now))
 
@@ -180,7 +214,7 @@ returns-2 c = let z = (c .before .before .before .before .before .before .before
     let P : PathIs (a .d) (bits (a .b .now)) (l .cur + 16 + 16) y e = subst (PlainIs (a .d) (bits (a .b .now)) (l .cur + 16 + 16)) ((c .before .before .before .before .before .before .before .before) .html .given .1) ((c .before .before .before .before .before .before .before .before .before .before) .plain-at .ensures) in
     subst (λ (j : code.Run). Run (a .s .now) (a .b .now) (a .options) (a .d) (a .count) (world (whole (a .rc) (a .sc .now)) (a .page .now) (a .texts .now) (a .indent .now) (a .ent .now)) (world (kept (whole (a .rc) (a .sc .now)) (j .writer) (j .bad)) (l .page) (l .texts) (a .indent .now) (a .ent .now)) (a .i) (a .p) (j .i) (j .cur)) (sym (c .run-of2 .ensures))
     (run-stop (a .s .now) (a .b .now) (a .options) (a .d) (a .count) (world (whole (a .rc) (a .sc .now)) (a .page .now) (a .texts .now) (a .indent .now) (a .ent .now)) (world (kept (whole (a .rc) (a .sc .now)) (l .w) 0) (l .page) (l .texts) (a .indent .now) (a .ent .now)) (a .i) (a .p) (l .k) (l .cur) (l .inv .1) ((c .before .before .before .before .before .before .before .before .before .before .before) .loop-test .taken) (world (kept (whole (a .rc) (a .sc .now)) (l .w) ((c .before .before) .n2 .given .0 .0)) (l .page) (l .texts) (a .indent .now) (a .ent .now)) (e + 9)
-    (path-refused (a .s .now) (a .b .now) (a .options) (a .d) (l .cur) (whole (a .rc) (a .sc .now)) (l .w) (l .page) (l .texts) (a .indent .now) (a .ent .now) (D .goes .ready) y e P ((c .before .before .before .before) .bare-path .result) (λ g st j ibw h. (c .before .before .before .before) .bare-path .ensures g st j (a .d) (l .cur + 16 + 16 + 4) ibw h (P .call) (P .named) (P .bare)) (λ k. sym (ap (λ (x : Bool). x && a .rc .«disable_escape») k) ∙ (c .before .before .before .before .before) .if1 .left) ((c .before .before) .n2 .given .0 .0) ((c .before .before) .n2 .given .1)) (l .inv .0)
+    (path-refused (a .s .now) (a .b .now) (a .options) (a .d) (l .cur) (whole (a .rc) (a .sc .now)) (l .w) (l .page) (l .texts) (a .indent .now) (a .ent .now) (D .goes .ready) y e P ((c .before .before .before .before) .bare-path .result) (λ g st j ibw h. (c .before .before .before .before) .bare-path .ensures g st j (a .d) (l .cur + 16 + 16 + 4) ibw h (P .call) (P .named) (P .bare)) (λ k. sym (ap (λ (x : Bool). x && a .rc .«disable_escape») k) ∙ (c .before .before .before .before .before) .if2 .left) ((c .before .before) .n2 .given .0 .0) ((c .before .before) .n2 .given .1)) (l .inv .0)
     (path-number (a .s .now) (a .b .now) (a .options) (a .d) (l .cur) (whole (a .rc) (a .sc .now)) (l .w) (l .page) (l .texts) (a .indent .now) (a .ent .now) (D .goes .ready) y e P ((c .before .before .before .before) .bare-path .result) (λ g st j ibw h. (c .before .before .before .before) .bare-path .ensures g st j (a .d) (l .cur + 16 + 16 + 4) ibw h (P .call) (P .named) (P .bare)) ((c .before .before) .n2 .given .0 .0) ((c .before .before) .n2 .given .1)))
 
 enum-told : tie.Need-enum-told Inv-loop μ-loop
@@ -206,15 +240,31 @@ returns-3 c = let z = (c .before .before .before .before .before .before .before
 enum-known-v : tie.Need-enum-known-v Inv-loop μ-loop
 enum-known-v c = search needs
 
-write-value-requires : tie.Need-write-value-requires Inv-loop μ-loop
-write-value-requires c κs = let z = (c .before .before .before .before .before .before .before .before .before .before .before .before .before .before .before .before .before .before .before .before .before .before .before .before) in
+put-value-requires : tie.Need-put-value-requires Inv-loop μ-loop
+put-value-requires c κs = let z = (c .before .before .before .before .before .before .before .before .before .before .before .before .before .before .before .before .before .before .before .before .before .before .before) in
     let a = z .args in
-    let l = (c .before .before .before .before .before .before .before .before .before .before .before .before .before .before) .loop in
+    let l = (c .before .before .before .before .before .before .before .before .before .before .before .before .before) .loop in
     let D = l .inv .1 none (z .pre .3 .0) (z .pre .3 .1) in
-    let y = (c .before .before .before .before .before .before .before .before .before .before) .html .given .0 .0 in
-    let e = (c .before .before .before .before .before .before .before .before .before .before) .html .given .0 .1 .0 in
-    let P : PathIs (a .d) (bits (a .b .now)) (l .cur + 16 + 16) y e = subst (PlainIs (a .d) (bits (a .b .now)) (l .cur + 16 + 16)) ((c .before .before .before .before .before .before .before .before .before .before) .html .given .1) ((c .before .before .before .before .before .before .before .before .before .before .before .before) .plain-at .ensures) in
-    (z .pre .0, z .pre .1, expression-known (a .s .now) (a .b .now) (a .options) (world (kept (whole (a .rc) (a .sc .now)) (l .w) 0) (l .page) (l .texts) (a .indent .now) (a .ent .now)) (D .goes .ready) (call-at (a .d) (bits (a .b .now)) (l .cur + 16 + 16 + 4)) (P .before) ((c .before .before .before .before .before .before) .bare-path .result) (λ g st j ibw h. (c .before .before .before .before .before .before) .bare-path .ensures g st j (a .d) (l .cur + 16 + 16 + 4) ibw h (P .call) (P .named) (P .bare)) ((c .before .before .before .before) .v .given .0 .0) ((c .before .before .before .before) .v .given .1))
+    let y = (c .before .before .before .before .before .before .before .before .before) .html .given .0 .0 in
+    let e = (c .before .before .before .before .before .before .before .before .before) .html .given .0 .1 .0 in
+    let P : PathIs (a .d) (bits (a .b .now)) (l .cur + 16 + 16) y e = subst (PlainIs (a .d) (bits (a .b .now)) (l .cur + 16 + 16)) ((c .before .before .before .before .before .before .before .before .before) .html .given .1) ((c .before .before .before .before .before .before .before .before .before .before .before) .plain-at .ensures) in
+    (z .pre .0, (a .b .now, expression-known (a .s .now) (a .b .now) (a .options) (world (kept (whole (a .rc) (a .sc .now)) (l .w) 0) (l .page) (l .texts) (a .indent .now) (a .ent .now)) (D .goes .ready) (call-at (a .d) (bits (a .b .now)) (l .cur + 16 + 16 + 4)) (P .before) ((c .before .before .before .before .before) .bare-path .result) (λ g st j ibw h. (c .before .before .before .before .before) .bare-path .ensures g st j (a .d) (l .cur + 16 + 16 + 4) ibw h (P .call) (P .named) (P .bare)) ((c .before .before .before) .v .given .0 .0) ((c .before .before .before) .v .given .1)))
+
+write-value-requires : tie.Need-write-value-requires Inv-loop μ-loop
+write-value-requires c κs = let z = (c .before .before .before .before .before .before .before .before .before .before .before .before .before .before .before .before .before .before .before .before .before .before .before .before .before .before .before .before .before .before .before .before) in
+    let a = z .args in
+    let l = (c .before .before .before .before .before .before .before .before .before .before .before .before .before .before .before .before .before .before .before .before .before .before) .loop in
+    let D = l .inv .1 none (z .pre .3 .0) (z .pre .3 .1) in
+    let y = (c .before .before .before .before .before .before .before .before .before .before .before .before .before .before .before .before .before .before) .html .given .0 .0 in
+    let e = (c .before .before .before .before .before .before .before .before .before .before .before .before .before .before .before .before .before .before) .html .given .0 .1 .0 in
+    let P : PathIs (a .d) (bits (a .b .now)) (l .cur + 16 + 16) y e = subst (PlainIs (a .d) (bits (a .b .now)) (l .cur + 16 + 16)) ((c .before .before .before .before .before .before .before .before .before .before .before .before .before .before .before .before .before .before) .html .given .1) ((c .before .before .before .before .before .before .before .before .before .before .before .before .before .before .before .before .before .before .before .before) .plain-at .ensures) in
+    (z .pre .0, z .pre .1, expression-known (a .s .now) (a .b .now) (a .options) (world (kept (whole (a .rc) (a .sc .now)) (l .w) 0) (l .page) (l .texts) (a .indent .now) (a .ent .now)) (D .goes .ready) (call-at (a .d) (bits (a .b .now)) (l .cur + 16 + 16 + 4)) (P .before) ((c .before .before .before .before .before .before .before .before .before .before .before .before .before .before) .bare-path .result) (λ g st j ibw h. (c .before .before .before .before .before .before .before .before .before .before .before .before .before .before) .bare-path .ensures g st j (a .d) (l .cur + 16 + 16 + 4) ibw h (P .call) (P .named) (P .bare)) ((c .before .before .before .before .before .before .before .before .before .before .before .before) .v .given .0 .0) ((c .before .before .before .before .before .before .before .before .before .before .before .before) .v .given .1))
+
+cast-behind-2 : tie.Need-cast-behind-2 Inv-loop μ-loop
+cast-behind-2 c = omega (arith, (c .before .before .before .before .before) .put-value .ensures .some (c .if3 .left) .byte)
+
+behind-requires-2 : tie.Need-behind-requires-2 Inv-loop μ-loop
+behind-requires-2 c κs = (c .before .before .before .before .before) .put-value .ensures .some (c .if3 .left) .fits
 
 enum-told-2 : tie.Need-enum-told-2 Inv-loop μ-loop
 enum-told-2 c = search needs
@@ -263,9 +313,13 @@ same-length-9 c = let z = (c .before .before .before .before .before .before .be
     let D = l .inv .1 none (z .pre .3 .0) (z .pre .3 .1) in
     let x = (c .before .before .before) .match in
     let e : length (x .page) ≡ length (l .page) =
-    ⊎-elim (λ t. omega (arith, ap length (t .10), t .5 .kept .0))
+    ⊎-elim
+    (λ t. let q = t .10 in
+    let h : length (q .page) ≡ length (l .page) = ⊎-elim (λ v. omega (arith, ap length (v .8), v .3 .kept .0, t .5 .kept .0)) (λ v. omega (arith, ap length (v .2), t .5 .kept .0)) (q .came) in
+    omega (arith, ap length (t .11), h))
     (λ t. let q = t .6 in
-    let h : length (q .page) ≡ length (l .page) = ⊎-elim (λ v. omega (arith, ap length (v .11), v .6 .kept .0)) (λ v. omega (arith, ap length (v .2))) (q .came) in
+    let h : length (q .page) ≡ length (l .page) =
+    ⊎-elim (λ v. omega (arith, ap length (v .19), v .14 .kept .0, v .5 .kept .0)) (⊎-elim (λ v. omega (arith, ap length (v .12), v .5 .kept .0)) (λ v. omega (arith, ap length (v .2)))) (q .came) in
     omega (arith, ap length (t .7), h))
     (x .came) in
     omega (arith, e, D .goes .sizes .page)
@@ -277,9 +331,13 @@ same-length-10 c = let z = (c .before .before .before .before .before .before .b
     let D = l .inv .1 none (z .pre .3 .0) (z .pre .3 .1) in
     let x = (c .before .before .before) .match in
     let e : length (x .texts) ≡ length (l .texts) =
-    ⊎-elim (λ t. omega (arith, ap length (t .11), t .5 .kept .1 .0))
+    ⊎-elim
+    (λ t. let q = t .10 in
+    let h : length (q .texts) ≡ length (l .texts) = ⊎-elim (λ v. omega (arith, ap length (v .9), v .3 .kept .1 .0, t .5 .kept .1 .0)) (λ v. omega (arith, ap length (v .3), t .5 .kept .1 .0)) (q .came) in
+    omega (arith, ap length (t .12), h))
     (λ t. let q = t .6 in
-    let h : length (q .texts) ≡ length (l .texts) = ⊎-elim (λ v. omega (arith, ap length (v .12), v .6 .kept .1 .0)) (λ v. omega (arith, ap length (v .3))) (q .came) in
+    let h : length (q .texts) ≡ length (l .texts) =
+    ⊎-elim (λ v. omega (arith, ap length (v .20), v .14 .kept .1 .0, v .5 .kept .1 .0)) (⊎-elim (λ v. omega (arith, ap length (v .13), v .5 .kept .1 .0)) (λ v. omega (arith, ap length (v .3)))) (q .came) in
     omega (arith, ap length (t .8), h))
     (x .came) in
     omega (arith, e, D .goes .sizes .texts)
@@ -296,9 +354,19 @@ returns-5 c = let z = (c .before .before .before .before .before .before .before
     (λ t.
     let n = t .1 .given .0 .0 in
     let T : TextIs (a .d) (bits (a .b .now)) (l .cur + 16 + 16) n = subst (PlainIs (a .d) (bits (a .b .now)) (l .cur + 16 + 16)) (t .1 .given .1) (f .ensures) in
-    let y = t .5 in
-    one-moved (a .s .now) (a .b .now) (a .options) (a .d) (l .cur) (world (kept (whole (a .rc) (a .sc .now)) (l .w) 0) (l .page) (l .texts) (a .indent .now) (a .ent .now)) (whole (a .rc) (a .sc .now)) (a .indent .now) (a .ent .now) (y .result) (x .w) (y .last .0) (x .page) (y .last .1 .0) (x .texts) (l .cur + 16 + 16 + 20 + 8 * n) (x .next) (t .10) (t .11) (t .12) (t .13)
-    (text-drawn (a .s .now) (a .b .now) (a .options) (a .d) (l .cur) (whole (a .rc) (a .sc .now)) (l .w) (l .page) (l .texts) (a .indent .now) (a .ent .now) (D .goes .ready) n T (y .result) (y .last .0) (y .last .1 .0) (y .ensures)))
+    let g = t .5 in
+    let q = t .10 in
+    one-moved (a .s .now) (a .b .now) (a .options) (a .d) (l .cur) (world (kept (whole (a .rc) (a .sc .now)) (l .w) 0) (l .page) (l .texts) (a .indent .now) (a .ent .now)) (whole (a .rc) (a .sc .now)) (a .indent .now) (a .ent .now) (q .w) (x .w) (q .page) (x .page) (q .texts) (x .texts) (l .cur + 16 + 16 + 20 + 8 * n) (x .next) (t .11) (t .12) (t .13) (t .14)
+    (⊎-elim
+    (λ v.
+    let y = v .3 in
+    one-moved (a .s .now) (a .b .now) (a .options) (a .d) (l .cur) (world (kept (whole (a .rc) (a .sc .now)) (l .w) 0) (l .page) (l .texts) (a .indent .now) (a .ent .now)) (whole (a .rc) (a .sc .now)) (a .indent .now) (a .ent .now) (y .result) (q .w) (y .last .0) (q .page) (y .last .1 .0) (q .texts) (l .cur + 16 + 16 + 20 + 8 * n) (l .cur + 16 + 16 + 20 + 8 * n) (v .8) (v .9) (v .10) refl
+    (text-drawn (a .s .now) (a .b .now) (a .options) (a .d) (l .cur) (whole (a .rc) (a .sc .now)) (l .w) (l .page) (l .texts) (a .indent .now) (a .ent .now) (D .goes .ready) n T (y .result) (y .last .0) (y .last .1 .0) (y .ensures ∙ fed-same (a .indent .now) (bytes-at (bits (a .b .now)) (l .cur + 16 + 16 + 20) n) (l .w) (l .page) (l .texts) (g .last .0) (g .last .1 .0) (g .ensures .none (v .0 .taken)))))
+    (λ v.
+    let y = v .1 in
+    one-moved (a .s .now) (a .b .now) (a .options) (a .d) (l .cur) (world (kept (whole (a .rc) (a .sc .now)) (l .w) 0) (l .page) (l .texts) (a .indent .now) (a .ent .now)) (whole (a .rc) (a .sc .now)) (a .indent .now) (a .ent .now) (y .result) (q .w) (g .last .0) (q .page) (g .last .1 .0) (q .texts) (l .cur + 16 + 16 + 20 + 8 * n) (l .cur + 16 + 16 + 20 + 8 * n) (v .2) (v .3) (v .4) refl
+    (text-drawn (a .s .now) (a .b .now) (a .options) (a .d) (l .cur) (whole (a .rc) (a .sc .now)) (l .w) (l .page) (l .texts) (a .indent .now) (a .ent .now) (D .goes .ready) n T (y .result) (g .last .0) (g .last .1 .0) (ap (λ (u : Writer). outputs u (g .last .0) (g .last .1 .0)) (y .ensures) ∙ g .ensures .some (v .0 .left) .is (a .indent .now))))
+    (q .came)))
     (λ t.
     let h = t .1 .given .0 .0 in
     let e = t .1 .given .0 .1 .0 in
@@ -307,16 +375,26 @@ returns-5 c = let z = (c .before .before .before .before .before .before .before
     one-moved (a .s .now) (a .b .now) (a .options) (a .d) (l .cur) (world (kept (whole (a .rc) (a .sc .now)) (l .w) 0) (l .page) (l .texts) (a .indent .now) (a .ent .now)) (whole (a .rc) (a .sc .now)) (a .indent .now) (a .ent .now) (q .w) (x .w) (q .page) (x .page) (q .texts) (x .texts) (e + 9) (x .next) (t .7) (t .8) (t .9) (t .10)
     (⊎-elim
     (λ v.
-    let y = v .6 in
-    one-moved (a .s .now) (a .b .now) (a .options) (a .d) (l .cur) (world (kept (whole (a .rc) (a .sc .now)) (l .w) 0) (l .page) (l .texts) (a .indent .now) (a .ent .now)) (whole (a .rc) (a .sc .now)) (a .indent .now) (a .ent .now) (y .result) (q .w) (y .last .0) (q .page) (y .last .1 .0) (q .texts) (e + 9) (e + 9) (v .11) (v .12) (v .13) refl
-    (path-written (a .s .now) (a .b .now) (a .options) (a .d) (l .cur) (whole (a .rc) (a .sc .now)) (l .w) (l .page) (l .texts) (a .indent .now) (a .ent .now) (D .goes .ready) h e P (t .5 .result) (λ g st j ibw h. t .5 .ensures g st j (a .d) (l .cur + 16 + 16 + 4) ibw h (P .call) (P .named) (P .bare)) (λ k. sym (ap (λ (x : Bool). x && a .rc .«disable_escape») k) ∙ t .4 .left) (v .1 .given .0 .0) (v .1 .given .1) (y .result) (y .last .0) (y .last .1 .0) (y .ensures)))
+    let y = v .14 in
+    let g = v .5 in
+    one-moved (a .s .now) (a .b .now) (a .options) (a .d) (l .cur) (world (kept (whole (a .rc) (a .sc .now)) (l .w) 0) (l .page) (l .texts) (a .indent .now) (a .ent .now)) (whole (a .rc) (a .sc .now)) (a .indent .now) (a .ent .now) (y .result) (q .w) (y .last .0) (q .page) (y .last .1 .0) (q .texts) (e + 9) (e + 9) (v .19) (v .20) (v .21) refl
+    (path-written (a .s .now) (a .b .now) (a .options) (a .d) (l .cur) (whole (a .rc) (a .sc .now)) (l .w) (l .page) (l .texts) (a .indent .now) (a .ent .now) (D .goes .ready) h e P (t .5 .result) (λ g st j ibw h. t .5 .ensures g st j (a .d) (l .cur + 16 + 16 + 4) ibw h (P .call) (P .named) (P .bare)) (λ k. sym (ap (λ (x : Bool). x && a .rc .«disable_escape») k) ∙ t .4 .left) (v .1 .given .0 .0) (v .1 .given .1) (y .result) (y .last .0) (y .last .1 .0)
+    (value-same (a .s .now) (a .b .now) (v .1 .given .0 .0) (a .indent .now) (not (h || a .rc .«disable_escape»)) (l .w) (y .result) (l .page) (l .texts) (g .last .0) (g .last .1 .0) (y .last .0) (y .last .1 .0) (g .ensures .none (v .10 .taken)) (y .ensures))))
+    (⊎-elim
+    (λ v.
+    let y = v .11 in
+    let g = v .5 in
+    one-moved (a .s .now) (a .b .now) (a .options) (a .d) (l .cur) (world (kept (whole (a .rc) (a .sc .now)) (l .w) 0) (l .page) (l .texts) (a .indent .now) (a .ent .now)) (whole (a .rc) (a .sc .now)) (a .indent .now) (a .ent .now) (y .result) (q .w) (g .last .0) (q .page) (g .last .1 .0) (q .texts) (e + 9) (e + 9) (v .12) (v .13) (v .14) refl
+    (path-written (a .s .now) (a .b .now) (a .options) (a .d) (l .cur) (whole (a .rc) (a .sc .now)) (l .w) (l .page) (l .texts) (a .indent .now) (a .ent .now) (D .goes .ready) h e P (t .5 .result) (λ g st j ibw h. t .5 .ensures g st j (a .d) (l .cur + 16 + 16 + 4) ibw h (P .call) (P .named) (P .bare)) (λ k. sym (ap (λ (x : Bool). x && a .rc .«disable_escape») k) ∙ t .4 .left) (v .1 .given .0 .0) (v .1 .given .1) (y .result) (g .last .0) (g .last .1 .0)
+    (value-by (a .s .now) (a .b .now) (v .1 .given .0 .0) (a .indent .now) (not (h || a .rc .«disable_escape»)) (l .w) (y .result) (l .page) (l .texts) (g .last .0) (g .last .1 .0) (g .result / 256) (g .result % 256) (y .ensures) (g .ensures .some (v .10 .left))
+    (expression-known (a .s .now) (a .b .now) (a .options) (world (kept (whole (a .rc) (a .sc .now)) (l .w) 0) (l .page) (l .texts) (a .indent .now) (a .ent .now)) (D .goes .ready) (call-at (a .d) (bits (a .b .now)) (l .cur + 16 + 16 + 4)) (P .before) (t .5 .result) (λ g st j ibw h. t .5 .ensures g st j (a .d) (l .cur + 16 + 16 + 4) ibw h (P .call) (P .named) (P .bare)) (v .1 .given .0 .0) (v .1 .given .1)))))
     (λ v. one-moved (a .s .now) (a .b .now) (a .options) (a .d) (l .cur) (world (kept (whole (a .rc) (a .sc .now)) (l .w) 0) (l .page) (l .texts) (a .indent .now) (a .ent .now)) (whole (a .rc) (a .sc .now)) (a .indent .now) (a .ent .now) (l .w) (q .w) (l .page) (q .page) (l .texts) (q .texts) (e + 9) (e + 9) (v .2) (v .3) (v .4) refl
-    (path-nothing (a .s .now) (a .b .now) (a .options) (a .d) (l .cur) (whole (a .rc) (a .sc .now)) (l .w) (l .page) (l .texts) (a .indent .now) (a .ent .now) (D .goes .ready) h e P (t .5 .result) (λ g st j ibw h. t .5 .ensures g st j (a .d) (l .cur + 16 + 16 + 4) ibw h (P .call) (P .named) (P .bare)) (λ k. sym (ap (λ (x : Bool). x && a .rc .«disable_escape») k) ∙ t .4 .left) (v .1 .given .1)))
+    (path-nothing (a .s .now) (a .b .now) (a .options) (a .d) (l .cur) (whole (a .rc) (a .sc .now)) (l .w) (l .page) (l .texts) (a .indent .now) (a .ent .now) (D .goes .ready) h e P (t .5 .result) (λ g st j ibw h. t .5 .ensures g st j (a .d) (l .cur + 16 + 16 + 4) ibw h (P .call) (P .named) (P .bare)) (λ k. sym (ap (λ (x : Bool). x && a .rc .«disable_escape») k) ∙ t .4 .left) (v .1 .given .1))))
     (q .came)))
     (x .came) in
     subst (λ (j : code.Run). Run (a .s .now) (a .b .now) (a .options) (a .d) (a .count) (world (whole (a .rc) (a .sc .now)) (a .page .now) (a .texts .now) (a .indent .now) (a .ent .now)) (world (kept (whole (a .rc) (a .sc .now)) (j .writer) (j .bad)) (x .page) (x .texts) (a .indent .now) (a .ent .now)) (a .i) (a .p) (j .i) (j .cur)) (sym (c .run-of5 .ensures))
     (subst (λ (n : ℕ). Run (a .s .now) (a .b .now) (a .options) (a .d) (a .count) (world (whole (a .rc) (a .sc .now)) (a .page .now) (a .texts .now) (a .indent .now) (a .ent .now)) (world (kept (whole (a .rc) (a .sc .now)) (x .w) n) (x .page) (x .texts) (a .indent .now) (a .ent .now)) (a .i) (a .p) (l .k) (l .cur)) (sym ((c .before) .full-number .ensures))
-    (run-stop (a .s .now) (a .b .now) (a .options) (a .d) (a .count) (world (whole (a .rc) (a .sc .now)) (a .page .now) (a .texts .now) (a .indent .now) (a .ent .now)) (world (kept (whole (a .rc) (a .sc .now)) (l .w) 0) (l .page) (l .texts) (a .indent .now) (a .ent .now)) (a .i) (a .p) (l .k) (l .cur) (l .inv .1) ((c .before .before .before .before .before) .loop-test .taken) (world (kept (whole (a .rc) (a .sc .now)) (x .w) (full-number (x .w))) (x .page) (x .texts) (a .indent .now) (a .ent .now)) (x .next) O (l .inv .0) (full-bad (x .w) ((c .before .before) .if2 .taken))))
+    (run-stop (a .s .now) (a .b .now) (a .options) (a .d) (a .count) (world (whole (a .rc) (a .sc .now)) (a .page .now) (a .texts .now) (a .indent .now) (a .ent .now)) (world (kept (whole (a .rc) (a .sc .now)) (l .w) 0) (l .page) (l .texts) (a .indent .now) (a .ent .now)) (a .i) (a .p) (l .k) (l .cur) (l .inv .1) ((c .before .before .before .before .before) .loop-test .taken) (world (kept (whole (a .rc) (a .sc .now)) (x .w) (full-number (x .w))) (x .page) (x .texts) (a .indent .now) (a .ent .now)) (x .next) O (l .inv .0) (full-bad (x .w) ((c .before .before) .if4 .taken))))
 
 add-k : tie.Need-add-k Inv-loop μ-loop
 add-k c = omega (arith, (c .before .before .before) .loop-test .taken, (c .before .before .before .before .before .before .before .before .before .before .before .before .before .before) .good .1 .1 .1 .1 .1 .1 .1 .1 .1 .0)
@@ -336,9 +414,19 @@ loop-again c = let z = (c .before .before .before .before .before .before .befor
     (λ t.
     let n = t .1 .given .0 .0 in
     let T : TextIs (a .d) (bits (a .b .now)) (l .cur + 16 + 16) n = subst (PlainIs (a .d) (bits (a .b .now)) (l .cur + 16 + 16)) (t .1 .given .1) (f .ensures) in
-    let y = t .5 in
-    one-moved (a .s .now) (a .b .now) (a .options) (a .d) (l .cur) (world (kept (whole (a .rc) (a .sc .now)) (l .w) 0) (l .page) (l .texts) (a .indent .now) (a .ent .now)) (whole (a .rc) (a .sc .now)) (a .indent .now) (a .ent .now) (y .result) (x .w) (y .last .0) (x .page) (y .last .1 .0) (x .texts) (l .cur + 16 + 16 + 20 + 8 * n) (x .next) (t .10) (t .11) (t .12) (t .13)
-    (text-drawn (a .s .now) (a .b .now) (a .options) (a .d) (l .cur) (whole (a .rc) (a .sc .now)) (l .w) (l .page) (l .texts) (a .indent .now) (a .ent .now) (D .goes .ready) n T (y .result) (y .last .0) (y .last .1 .0) (y .ensures)))
+    let g = t .5 in
+    let q = t .10 in
+    one-moved (a .s .now) (a .b .now) (a .options) (a .d) (l .cur) (world (kept (whole (a .rc) (a .sc .now)) (l .w) 0) (l .page) (l .texts) (a .indent .now) (a .ent .now)) (whole (a .rc) (a .sc .now)) (a .indent .now) (a .ent .now) (q .w) (x .w) (q .page) (x .page) (q .texts) (x .texts) (l .cur + 16 + 16 + 20 + 8 * n) (x .next) (t .11) (t .12) (t .13) (t .14)
+    (⊎-elim
+    (λ v.
+    let y = v .3 in
+    one-moved (a .s .now) (a .b .now) (a .options) (a .d) (l .cur) (world (kept (whole (a .rc) (a .sc .now)) (l .w) 0) (l .page) (l .texts) (a .indent .now) (a .ent .now)) (whole (a .rc) (a .sc .now)) (a .indent .now) (a .ent .now) (y .result) (q .w) (y .last .0) (q .page) (y .last .1 .0) (q .texts) (l .cur + 16 + 16 + 20 + 8 * n) (l .cur + 16 + 16 + 20 + 8 * n) (v .8) (v .9) (v .10) refl
+    (text-drawn (a .s .now) (a .b .now) (a .options) (a .d) (l .cur) (whole (a .rc) (a .sc .now)) (l .w) (l .page) (l .texts) (a .indent .now) (a .ent .now) (D .goes .ready) n T (y .result) (y .last .0) (y .last .1 .0) (y .ensures ∙ fed-same (a .indent .now) (bytes-at (bits (a .b .now)) (l .cur + 16 + 16 + 20) n) (l .w) (l .page) (l .texts) (g .last .0) (g .last .1 .0) (g .ensures .none (v .0 .taken)))))
+    (λ v.
+    let y = v .1 in
+    one-moved (a .s .now) (a .b .now) (a .options) (a .d) (l .cur) (world (kept (whole (a .rc) (a .sc .now)) (l .w) 0) (l .page) (l .texts) (a .indent .now) (a .ent .now)) (whole (a .rc) (a .sc .now)) (a .indent .now) (a .ent .now) (y .result) (q .w) (g .last .0) (q .page) (g .last .1 .0) (q .texts) (l .cur + 16 + 16 + 20 + 8 * n) (l .cur + 16 + 16 + 20 + 8 * n) (v .2) (v .3) (v .4) refl
+    (text-drawn (a .s .now) (a .b .now) (a .options) (a .d) (l .cur) (whole (a .rc) (a .sc .now)) (l .w) (l .page) (l .texts) (a .indent .now) (a .ent .now) (D .goes .ready) n T (y .result) (g .last .0) (g .last .1 .0) (ap (λ (u : Writer). outputs u (g .last .0) (g .last .1 .0)) (y .ensures) ∙ g .ensures .some (v .0 .left) .is (a .indent .now))))
+    (q .came)))
     (λ t.
     let h = t .1 .given .0 .0 in
     let e = t .1 .given .0 .1 .0 in
@@ -347,14 +435,24 @@ loop-again c = let z = (c .before .before .before .before .before .before .befor
     one-moved (a .s .now) (a .b .now) (a .options) (a .d) (l .cur) (world (kept (whole (a .rc) (a .sc .now)) (l .w) 0) (l .page) (l .texts) (a .indent .now) (a .ent .now)) (whole (a .rc) (a .sc .now)) (a .indent .now) (a .ent .now) (q .w) (x .w) (q .page) (x .page) (q .texts) (x .texts) (e + 9) (x .next) (t .7) (t .8) (t .9) (t .10)
     (⊎-elim
     (λ v.
-    let y = v .6 in
-    one-moved (a .s .now) (a .b .now) (a .options) (a .d) (l .cur) (world (kept (whole (a .rc) (a .sc .now)) (l .w) 0) (l .page) (l .texts) (a .indent .now) (a .ent .now)) (whole (a .rc) (a .sc .now)) (a .indent .now) (a .ent .now) (y .result) (q .w) (y .last .0) (q .page) (y .last .1 .0) (q .texts) (e + 9) (e + 9) (v .11) (v .12) (v .13) refl
-    (path-written (a .s .now) (a .b .now) (a .options) (a .d) (l .cur) (whole (a .rc) (a .sc .now)) (l .w) (l .page) (l .texts) (a .indent .now) (a .ent .now) (D .goes .ready) h e P (t .5 .result) (λ g st j ibw h. t .5 .ensures g st j (a .d) (l .cur + 16 + 16 + 4) ibw h (P .call) (P .named) (P .bare)) (λ k. sym (ap (λ (x : Bool). x && a .rc .«disable_escape») k) ∙ t .4 .left) (v .1 .given .0 .0) (v .1 .given .1) (y .result) (y .last .0) (y .last .1 .0) (y .ensures)))
+    let y = v .14 in
+    let g = v .5 in
+    one-moved (a .s .now) (a .b .now) (a .options) (a .d) (l .cur) (world (kept (whole (a .rc) (a .sc .now)) (l .w) 0) (l .page) (l .texts) (a .indent .now) (a .ent .now)) (whole (a .rc) (a .sc .now)) (a .indent .now) (a .ent .now) (y .result) (q .w) (y .last .0) (q .page) (y .last .1 .0) (q .texts) (e + 9) (e + 9) (v .19) (v .20) (v .21) refl
+    (path-written (a .s .now) (a .b .now) (a .options) (a .d) (l .cur) (whole (a .rc) (a .sc .now)) (l .w) (l .page) (l .texts) (a .indent .now) (a .ent .now) (D .goes .ready) h e P (t .5 .result) (λ g st j ibw h. t .5 .ensures g st j (a .d) (l .cur + 16 + 16 + 4) ibw h (P .call) (P .named) (P .bare)) (λ k. sym (ap (λ (x : Bool). x && a .rc .«disable_escape») k) ∙ t .4 .left) (v .1 .given .0 .0) (v .1 .given .1) (y .result) (y .last .0) (y .last .1 .0)
+    (value-same (a .s .now) (a .b .now) (v .1 .given .0 .0) (a .indent .now) (not (h || a .rc .«disable_escape»)) (l .w) (y .result) (l .page) (l .texts) (g .last .0) (g .last .1 .0) (y .last .0) (y .last .1 .0) (g .ensures .none (v .10 .taken)) (y .ensures))))
+    (⊎-elim
+    (λ v.
+    let y = v .11 in
+    let g = v .5 in
+    one-moved (a .s .now) (a .b .now) (a .options) (a .d) (l .cur) (world (kept (whole (a .rc) (a .sc .now)) (l .w) 0) (l .page) (l .texts) (a .indent .now) (a .ent .now)) (whole (a .rc) (a .sc .now)) (a .indent .now) (a .ent .now) (y .result) (q .w) (g .last .0) (q .page) (g .last .1 .0) (q .texts) (e + 9) (e + 9) (v .12) (v .13) (v .14) refl
+    (path-written (a .s .now) (a .b .now) (a .options) (a .d) (l .cur) (whole (a .rc) (a .sc .now)) (l .w) (l .page) (l .texts) (a .indent .now) (a .ent .now) (D .goes .ready) h e P (t .5 .result) (λ g st j ibw h. t .5 .ensures g st j (a .d) (l .cur + 16 + 16 + 4) ibw h (P .call) (P .named) (P .bare)) (λ k. sym (ap (λ (x : Bool). x && a .rc .«disable_escape») k) ∙ t .4 .left) (v .1 .given .0 .0) (v .1 .given .1) (y .result) (g .last .0) (g .last .1 .0)
+    (value-by (a .s .now) (a .b .now) (v .1 .given .0 .0) (a .indent .now) (not (h || a .rc .«disable_escape»)) (l .w) (y .result) (l .page) (l .texts) (g .last .0) (g .last .1 .0) (g .result / 256) (g .result % 256) (y .ensures) (g .ensures .some (v .10 .left))
+    (expression-known (a .s .now) (a .b .now) (a .options) (world (kept (whole (a .rc) (a .sc .now)) (l .w) 0) (l .page) (l .texts) (a .indent .now) (a .ent .now)) (D .goes .ready) (call-at (a .d) (bits (a .b .now)) (l .cur + 16 + 16 + 4)) (P .before) (t .5 .result) (λ g st j ibw h. t .5 .ensures g st j (a .d) (l .cur + 16 + 16 + 4) ibw h (P .call) (P .named) (P .bare)) (v .1 .given .0 .0) (v .1 .given .1)))))
     (λ v. one-moved (a .s .now) (a .b .now) (a .options) (a .d) (l .cur) (world (kept (whole (a .rc) (a .sc .now)) (l .w) 0) (l .page) (l .texts) (a .indent .now) (a .ent .now)) (whole (a .rc) (a .sc .now)) (a .indent .now) (a .ent .now) (l .w) (q .w) (l .page) (q .page) (l .texts) (q .texts) (e + 9) (e + 9) (v .2) (v .3) (v .4) refl
-    (path-nothing (a .s .now) (a .b .now) (a .options) (a .d) (l .cur) (whole (a .rc) (a .sc .now)) (l .w) (l .page) (l .texts) (a .indent .now) (a .ent .now) (D .goes .ready) h e P (t .5 .result) (λ g st j ibw h. t .5 .ensures g st j (a .d) (l .cur + 16 + 16 + 4) ibw h (P .call) (P .named) (P .bare)) (λ k. sym (ap (λ (x : Bool). x && a .rc .«disable_escape») k) ∙ t .4 .left) (v .1 .given .1)))
+    (path-nothing (a .s .now) (a .b .now) (a .options) (a .d) (l .cur) (whole (a .rc) (a .sc .now)) (l .w) (l .page) (l .texts) (a .indent .now) (a .ent .now) (D .goes .ready) h e P (t .5 .result) (λ g st j ibw h. t .5 .ensures g st j (a .d) (l .cur + 16 + 16 + 4) ibw h (P .call) (P .named) (P .bare)) (λ k. sym (ap (λ (x : Bool). x && a .rc .«disable_escape») k) ∙ t .4 .left) (v .1 .given .1))))
     (q .came)))
     (x .came) in
-    let e = full-none (x .w) (c .if2 .left) in (
+    let e = full-none (x .w) (c .if4 .left) in (
       omega (arith, l .inv .0),
       subst (λ (n : ℕ). Onward (a .s .now) (a .b .now) (a .options) (a .d) (a .count) (world (whole (a .rc) (a .sc .now)) (a .page .now) (a .texts .now) (a .indent .now) (a .ent .now)) (world (kept (whole (a .rc) (a .sc .now)) (x .w) n) (x .page) (x .texts) (a .indent .now) (a .ent .now)) (a .i) (a .p) (l .k + 1) (x .next)) e
           (run-more (a .s .now) (a .b .now) (a .options) (a .d) (a .count) (world (whole (a .rc) (a .sc .now)) (a .page .now) (a .texts .now) (a .indent .now) (a .ent .now)) (world (kept (whole (a .rc) (a .sc .now)) (l .w) 0) (l .page) (l .texts) (a .indent .now) (a .ent .now)) (a .i) (a .p) (l .k) (l .cur) (l .inv .1) ((c .before .before .before) .loop-test .taken) (world (kept (whole (a .rc) (a .sc .now)) (x .w) (full-number (x .w))) (x .page) (x .texts) (a .indent .now) (a .ent .now)) (x .next) O e),
@@ -388,8 +486,13 @@ draw-run-spec =
     add-q-2
     plain-at-requires
     enum-known-n
-    add-write-text
-    write-text-requires
+    add-put-text
+    put-text-requires
+    add-write-packed
+    write-packed-requires
+    sub-behind
+    cast-behind
+    behind-requires
     add-next
     mul-next
     add-next-2
@@ -411,7 +514,10 @@ draw-run-spec =
     same-length-6
     returns-3
     enum-known-v
+    put-value-requires
     write-value-requires
+    cast-behind-2
+    behind-requires-2
     enum-told-2
     add-next-3
     enum-told-3
