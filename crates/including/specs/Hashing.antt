@@ -129,6 +129,11 @@ reason-some rule.page-limit e = omega arith
 pub refusal-works : {A : Type 0} (P : A → Type 0) (x : rule.Got A) (n : ℕ) → Refuses x n → Works P x n
 refusal-works P x n r = record { fine = λ e. absurd (reason-some (r .reason) (r .by-number ∙ e)); refused = λ e. r }
 
+-- 0 for what is refused
+abbrev unless-bad : {A : Type 0} → rule.Got A → ℕ → ℕ
+unless-bad (got a) n = n
+unless-bad (bad r) n = 0
+
 module _ (b : Bytes) (d p : ℕ) (g : Registry) (st : RenderContext) where
   -- the value of the i-th pair
   abbrev value-of : ℕ → rule.Got ScopedJson
@@ -140,6 +145,36 @@ module _ (b : Bytes) (d p : ℕ) (g : Registry) (st : RenderContext) where
 
   pub none-worked : WorkedOut 0
   none-worked i lt = absurd (omega arith)
+
+  -- how many of the n from the i-th on are, up to the first that is refused
+  abbrev pub worked : ℕ → ℕ → ℕ
+  worked zero i = 0
+  worked (suc n) i = unless-bad (value-of i) (suc (worked n (suc i)))
+
+  all-counted : (n i m : ℕ) → i + n ≤ m → WorkedOut m → worked n i ≡ n
+  all-counted zero i m le w = refl
+  all-counted (suc n) i m le w =
+      let v = w i (omega arith) in
+      ap (λ (x : rule.Got ScopedJson). unless-bad x (suc (worked n (suc i)))) (v .1) ∙ ap suc (all-counted n (suc i) m (omega arith) w)
+
+  pub counted-all : (n : ℕ) → WorkedOut n → worked n 0 ≡ n
+  counted-all n w = all-counted n 0 n (omega arith) w
+
+  some-counted : (n i m k : ℕ) → i ≤ m → m < i + n → WorkedOut m → Refuses (value-of m) k → i + worked n i ≡ m
+  some-counted zero i m k le lt w r = absurd (omega arith)
+  some-counted (suc n) i m k le lt w r = go (eqb i m) refl (λ h. some-counted n (suc i) m k (omega arith) (omega arith) w r)
+    where
+      go : (y : Bool) → eqb i m ≡ y → (i < m → suc i + worked n (suc i) ≡ m) → i + worked (suc n) i ≡ m
+      go true q f =
+          let e = ap (λ (x : rule.Got ScopedJson). unless-bad x (suc (worked n (suc i)))) (ap value-of (eqb-true i m q) ∙ r .is) in
+          omega (arith, e, eqb-true i m q)
+      go false q f =
+          let before : i < m = omega (arith, eqb-false i m q) in
+          let e = ap (λ (x : rule.Got ScopedJson). unless-bad x (suc (worked n (suc i)))) (w i before .1) in
+          omega (arith, e, f before)
+
+  pub counted-some : (n m k : ℕ) → m < n → WorkedOut m → Refuses (value-of m) k → worked n 0 ≡ m
+  counted-some n m k lt w r = omega (arith, some-counted n 0 m k (omega arith) (omega arith) w r)
 
   pub one-worked : (m : ℕ) → WorkedOut m → (v : ScopedJson) → value-of m ≡ got v → WorkedOut (suc m)
   one-worked m w v e i lt = go (eqb i m) refl

@@ -28,7 +28,7 @@ ghost use Rattle.including.specs.Values.{number-of, GotFits, HashValues}
 ghost use Rattle.including.specs.Pairs.{with-pairs};
 ghost use Rattle.including.specs.Starting.{StartsPartial};
 ghost use Rattle.including.specs.Included.{included, entries-of};
-ghost use Rattle.including.specs.Hashing.{plain-pairs};
+ghost use Rattle.including.specs.Hashing.{plain-pairs, worked};
 use expand::Expanded;
 use expand::Got;
 use expand::Options;
@@ -186,7 +186,7 @@ pub struct Hashed {
     pub bad: u8,
 }
 
-// The values of the n hash pairs at p, one by one up to the first that is refused.
+// The values of the n hash pairs at p, one by one up to the first that is refused; from there on they are 0.
 pub fn hash_all(
     s: &[u8],
     tab: &[u64],
@@ -200,7 +200,7 @@ pub fn hash_all(
     d: usize,
 ) -> Hashed
     requires { ⌜ Accepted (now s) (now tab) × (length (now b) ≤ 65536) × (0 < used) × (used ≤ 32) × ((t : ℕ) × ScopesStand (now s) (now b) (now ent) (scopes-of (now sc)) used t × (t ≤ 4096)) × (n < 16) × Holds (row (string then param d) n) (bits (now b)) p × (length (now sc) ≡ 96) ⌝ }
-    ensures { λ r. ⌜ ((g : Registry) (st : RenderContext) (t : ℕ) → Setting (now (s .entry)) (now (b .entry)) (now (ent .entry)) (scopes-of (now (sc .entry))) used options g st t → Works (λ _. HashValues (now (s .entry)) (now (b .entry)) (now (ent .entry)) t d p n g st (r .values)) (rules.expand-hash g st (hash-at d n (bits (now (b .entry))) p)) (r .bad)) ⌝ }
+    ensures { λ r. ⌜ ((g : Registry) (st : RenderContext) (t : ℕ) → Setting (now (s .entry)) (now (b .entry)) (now (ent .entry)) (scopes-of (now (sc .entry))) used options g st t → Works (λ _. HashValues (now (s .entry)) (now (b .entry)) (now (ent .entry)) t d p n g st (r .values)) (rules.expand-hash g st (hash-at d n (bits (now (b .entry))) p)) (r .bad)) × ((g : Registry) (st : RenderContext) (t : ℕ) → Setting (now (s .entry)) (now (b .entry)) (now (ent .entry)) (scopes-of (now (sc .entry))) used options g st t → HashValues (now (s .entry)) (now (b .entry)) (now (ent .entry)) t d p (worked (now (b .entry)) d p g st n 0) g st (r .values)) ⌝ }
 {
     let mut r: [u32; 15] = [0; 15];
     let mut at = p;

@@ -72,8 +72,8 @@ returns : tie.Need-returns
 returns c =
     let a = (c .before .before .before .before .before .before .before .before .before .before .before .before .before .before .before .before .before .args) in
     let w : World = world (whole (a .rc) (a .sc .now)) (a .page .now) (a .texts .now) (a .indent .now) (a .ent .now) in
-    let x = named-call (a .s .now) (a .b .now) (a .options) w (a .d) (a .p) (a .k) (c .before .before .before .before .before .before .before .skip-string .result + 8) (c .before .before .before .before .hash-all .result) (c .before .before .before .before .before .before .before .before .before .before .before .before .before .before .before .before .before .pre .1) (c .before .before .before .before .before .before .before .before .before .before .before .before .before .before .before .before .before .pre .3) (c .before .before .before .before .before .before .before .before .before .before .before .before .before .before .before .before .before .pre .7) (c .before .before .before .before .before .before .before .before .before .before .before .before .before .before .before .before .before .pre .8) (ap (λ (v : ℕ). v + 8) (c .before .before .before .before .before .before .before .skip-string .ensures)) (c .before .before .before .before .hash-all .ensures) in
-    let k = named-worked (a .s .now) (a .b .now) (a .options) w (a .d) (a .p) (a .k) (c .before .before .before .before .before .before .before .skip-string .result + 8) (c .before .before .before .before .hash-all .result) (c .before .before .before .before .before .before .before .before .before .before .before .before .before .before .before .before .before .pre .1) (c .before .before .before .before .before .before .before .before .before .before .before .before .before .before .before .before .before .pre .3) (c .before .before .before .before .before .before .before .before .before .before .before .before .before .before .before .before .before .pre .7) (c .before .before .before .before .before .before .before .before .before .before .before .before .before .before .before .before .before .pre .8) (ap (λ (v : ℕ). v + 8) (c .before .before .before .before .before .before .before .skip-string .ensures)) (c .before .before .before .before .hash-all .ensures) in
+    let x = named-call (a .s .now) (a .b .now) (a .options) w (a .d) (a .p) (a .k) (c .before .before .before .before .before .before .before .skip-string .result + 8) (c .before .before .before .before .hash-all .result) (c .before .before .before .before .before .before .before .before .before .before .before .before .before .before .before .before .before .pre .1) (c .before .before .before .before .before .before .before .before .before .before .before .before .before .before .before .before .before .pre .3) (c .before .before .before .before .before .before .before .before .before .before .before .before .before .before .before .before .before .pre .7) (c .before .before .before .before .before .before .before .before .before .before .before .before .before .before .before .before .before .pre .8) (ap (λ (v : ℕ). v + 8) (c .before .before .before .before .before .before .before .skip-string .ensures)) (c .before .before .before .before .hash-all .ensures .0) in
+    let k = named-worked (a .s .now) (a .b .now) (a .options) w (a .d) (a .p) (a .k) (c .before .before .before .before .before .before .before .skip-string .result + 8) (c .before .before .before .before .hash-all .result) (c .before .before .before .before .before .before .before .before .before .before .before .before .before .before .before .before .before .pre .1) (c .before .before .before .before .before .before .before .before .before .before .before .before .before .before .before .before .before .pre .3) (c .before .before .before .before .before .before .before .before .before .before .before .before .before .before .before .before .before .pre .7) (c .before .before .before .before .before .before .before .before .before .before .before .before .before .before .before .before .before .pre .8) (ap (λ (v : ℕ). v + 8) (c .before .before .before .before .before .before .before .skip-string .ensures)) (c .before .before .before .before .hash-all .ensures .0) in
     subst (λ (y : Begun). PartialBegun (a .s .now) (a .b .now) (a .options) w (over (y .rc) w) (a .d) (partial-rule (a .b .now) (a .d) (a .p) (a .own) (a .at) (a .before)) (a .own) (a .at) (y .next)) (sym ((c .done) .ensures (a .sc .now) ∙ ap done ((c .before .failed) .ensures (a .sc .now))))
     (begun-stop (a .s .now) (a .b .now) (a .options) w (a .d) (a .p) (a .own) (a .at) (a .before) ((c .before .before .before .before .before .before .before .before .before .before .before .before .before .before .before .before .before .pre) .1) x k ((c .before .before .if1) .taken))
 
@@ -96,8 +96,8 @@ returns-2 : tie.Need-returns-2
 returns-2 c =
     let a = (c .before .before .before .before .before .before .before .before .before .before .before .before .before .before .before .before .before .before .before .before .args) in
     let w : World = world (whole (a .rc) (a .sc .now)) (a .page .now) (a .texts .now) (a .indent .now) (a .ent .now) in
-    let x = named-call (a .s .now) (a .b .now) (a .options) w (a .d) (a .p) (a .k) (c .before .before .before .before .before .before .before .before .before .before .skip-string .result + 8) (c .before .before .before .before .before .before .before .hash-all .result) (c .before .before .before .before .before .before .before .before .before .before .before .before .before .before .before .before .before .before .before .before .pre .1) (c .before .before .before .before .before .before .before .before .before .before .before .before .before .before .before .before .before .before .before .before .pre .3) (c .before .before .before .before .before .before .before .before .before .before .before .before .before .before .before .before .before .before .before .before .pre .7) (c .before .before .before .before .before .before .before .before .before .before .before .before .before .before .before .before .before .before .before .before .pre .8) (ap (λ (v : ℕ). v + 8) (c .before .before .before .before .before .before .before .before .before .before .skip-string .ensures)) (c .before .before .before .before .before .before .before .hash-all .ensures) in
-    let k = named-worked (a .s .now) (a .b .now) (a .options) w (a .d) (a .p) (a .k) (c .before .before .before .before .before .before .before .before .before .before .skip-string .result + 8) (c .before .before .before .before .before .before .before .hash-all .result) (c .before .before .before .before .before .before .before .before .before .before .before .before .before .before .before .before .before .before .before .before .pre .1) (c .before .before .before .before .before .before .before .before .before .before .before .before .before .before .before .before .before .before .before .before .pre .3) (c .before .before .before .before .before .before .before .before .before .before .before .before .before .before .before .before .before .before .before .before .pre .7) (c .before .before .before .before .before .before .before .before .before .before .before .before .before .before .before .before .before .before .before .before .pre .8) (ap (λ (v : ℕ). v + 8) (c .before .before .before .before .before .before .before .before .before .before .skip-string .ensures)) (c .before .before .before .before .before .before .before .hash-all .ensures) in
+    let x = named-call (a .s .now) (a .b .now) (a .options) w (a .d) (a .p) (a .k) (c .before .before .before .before .before .before .before .before .before .before .skip-string .result + 8) (c .before .before .before .before .before .before .before .hash-all .result) (c .before .before .before .before .before .before .before .before .before .before .before .before .before .before .before .before .before .before .before .before .pre .1) (c .before .before .before .before .before .before .before .before .before .before .before .before .before .before .before .before .before .before .before .before .pre .3) (c .before .before .before .before .before .before .before .before .before .before .before .before .before .before .before .before .before .before .before .before .pre .7) (c .before .before .before .before .before .before .before .before .before .before .before .before .before .before .before .before .before .before .before .before .pre .8) (ap (λ (v : ℕ). v + 8) (c .before .before .before .before .before .before .before .before .before .before .skip-string .ensures)) (c .before .before .before .before .before .before .before .hash-all .ensures .0) in
+    let k = named-worked (a .s .now) (a .b .now) (a .options) w (a .d) (a .p) (a .k) (c .before .before .before .before .before .before .before .before .before .before .skip-string .result + 8) (c .before .before .before .before .before .before .before .hash-all .result) (c .before .before .before .before .before .before .before .before .before .before .before .before .before .before .before .before .before .before .before .before .pre .1) (c .before .before .before .before .before .before .before .before .before .before .before .before .before .before .before .before .before .before .before .before .pre .3) (c .before .before .before .before .before .before .before .before .before .before .before .before .before .before .before .before .before .before .before .before .pre .7) (c .before .before .before .before .before .before .before .before .before .before .before .before .before .before .before .before .before .before .before .before .pre .8) (ap (λ (v : ℕ). v + 8) (c .before .before .before .before .before .before .before .before .before .before .skip-string .ensures)) (c .before .before .before .before .before .before .before .hash-all .ensures .0) in
     let long = sym (fits-is (a .s .now) (a .b .now) (a .options) w (a .at) ((c .before .before .before .before .before .before .before .before .before .before .before .before .before .before .before .before .before .before .before .before .pre) .1) ((c .before .before .before .indent-fits) .result) ((c .before .before .before .indent-fits) .ensures)) ∙ not-true _ ((c .before .before .if2) .taken) in
     subst (λ (y : Begun). PartialBegun (a .s .now) (a .b .now) (a .options) w (over (y .rc) w) (a .d) (partial-rule (a .b .now) (a .d) (a .p) (a .own) (a .at) (a .before)) (a .own) (a .at) (y .next)) (sym ((c .done2) .ensures (a .sc .now) ∙ ap done ((c .before .failed2) .ensures (a .sc .now))))
     (begun-long (a .s .now) (a .b .now) (a .options) w (a .d) (a .p) (a .own) (a .at) (a .before) ((c .before .before .before .before .before .before .before .before .before .before .before .before .before .before .before .before .before .before .before .before .pre) .1) x k ((c .before .before .before .before .before .if1) .left) long)
@@ -118,15 +118,15 @@ expand-named-requires : tie.Need-expand-named-requires
 expand-named-requires c κs =
     let a = (c .before .before .before .before .before .before .before .before .before .before .before .before .before .before .before .before .before .before .before .before .before .before .args) in
     let w : World = world (whole (a .rc) (a .sc .now)) (a .page .now) (a .texts .now) (a .indent .now) (a .ent .now) in
-    let x = named-call (a .s .now) (a .b .now) (a .options) w (a .d) (a .p) (a .k) (c .before .before .before .before .before .before .before .before .before .before .before .before .skip-string .result + 8) (c .before .before .before .before .before .before .before .before .before .hash-all .result) (c .before .before .before .before .before .before .before .before .before .before .before .before .before .before .before .before .before .before .before .before .before .before .pre .1) (c .before .before .before .before .before .before .before .before .before .before .before .before .before .before .before .before .before .before .before .before .before .before .pre .3) (c .before .before .before .before .before .before .before .before .before .before .before .before .before .before .before .before .before .before .before .before .before .before .pre .7) (c .before .before .before .before .before .before .before .before .before .before .before .before .before .before .before .before .before .before .before .before .before .before .pre .8) (ap (λ (v : ℕ). v + 8) (c .before .before .before .before .before .before .before .before .before .before .before .before .skip-string .ensures)) (c .before .before .before .before .before .before .before .before .before .hash-all .ensures) in
-    let k = named-worked (a .s .now) (a .b .now) (a .options) w (a .d) (a .p) (a .k) (c .before .before .before .before .before .before .before .before .before .before .before .before .skip-string .result + 8) (c .before .before .before .before .before .before .before .before .before .hash-all .result) (c .before .before .before .before .before .before .before .before .before .before .before .before .before .before .before .before .before .before .before .before .before .before .pre .1) (c .before .before .before .before .before .before .before .before .before .before .before .before .before .before .before .before .before .before .before .before .before .before .pre .3) (c .before .before .before .before .before .before .before .before .before .before .before .before .before .before .before .before .before .before .before .before .before .before .pre .7) (c .before .before .before .before .before .before .before .before .before .before .before .before .before .before .before .before .before .before .before .before .before .before .pre .8) (ap (λ (v : ℕ). v + 8) (c .before .before .before .before .before .before .before .before .before .before .before .before .skip-string .ensures)) (c .before .before .before .before .before .before .before .before .before .hash-all .ensures) in
+    let x = named-call (a .s .now) (a .b .now) (a .options) w (a .d) (a .p) (a .k) (c .before .before .before .before .before .before .before .before .before .before .before .before .skip-string .result + 8) (c .before .before .before .before .before .before .before .before .before .hash-all .result) (c .before .before .before .before .before .before .before .before .before .before .before .before .before .before .before .before .before .before .before .before .before .before .pre .1) (c .before .before .before .before .before .before .before .before .before .before .before .before .before .before .before .before .before .before .before .before .before .before .pre .3) (c .before .before .before .before .before .before .before .before .before .before .before .before .before .before .before .before .before .before .before .before .before .before .pre .7) (c .before .before .before .before .before .before .before .before .before .before .before .before .before .before .before .before .before .before .before .before .before .before .pre .8) (ap (λ (v : ℕ). v + 8) (c .before .before .before .before .before .before .before .before .before .before .before .before .skip-string .ensures)) (c .before .before .before .before .before .before .before .before .before .hash-all .ensures .0) in
+    let k = named-worked (a .s .now) (a .b .now) (a .options) w (a .d) (a .p) (a .k) (c .before .before .before .before .before .before .before .before .before .before .before .before .skip-string .result + 8) (c .before .before .before .before .before .before .before .before .before .hash-all .result) (c .before .before .before .before .before .before .before .before .before .before .before .before .before .before .before .before .before .before .before .before .before .before .pre .1) (c .before .before .before .before .before .before .before .before .before .before .before .before .before .before .before .before .before .before .before .before .before .before .pre .3) (c .before .before .before .before .before .before .before .before .before .before .before .before .before .before .before .before .before .before .before .before .before .before .pre .7) (c .before .before .before .before .before .before .before .before .before .before .before .before .before .before .before .before .before .before .before .before .before .before .pre .8) (ap (λ (v : ℕ). v + 8) (c .before .before .before .before .before .before .before .before .before .before .before .before .skip-string .ensures)) (c .before .before .before .before .before .before .before .before .before .hash-all .ensures .0) in
     let fits = sym (fits-is (a .s .now) (a .b .now) (a .options) w (a .at) ((c .before .before .before .before .before .before .before .before .before .before .before .before .before .before .before .before .before .before .before .before .before .before .pre) .1) ((c .before .before .before .before .before .indent-fits) .result) ((c .before .before .before .before .before .indent-fits) .ensures)) ∙ not-false _ ((c .before .before .before .before .if2) .left) in
     let q : whole (c .before .before .begin-aware .result) (a .sc .now) ≡ marked (whole (a .rc) (a .sc .now)) (before-partial (a .rc .writer) (a .at) (a .before)) = (c .before .before .begin-aware) .ensures (a .sc .now) ∙ ap (marked (whole (a .rc) (a .sc .now))) ((c .before .before .before .before-partial) .ensures) in
     let w₁ : World = over (marked (whole (a .rc) (a .sc .now)) (before-partial (a .rc .writer) (a .at) (a .before))) w in
     let r₁ : Ready (a .s .now) (a .b .now) w₁ = marks-ready (a .s .now) (a .b .now) (a .options) w (a .d) (a .p) (a .own) (a .at) (a .before) ((c .before .before .before .before .before .before .before .before .before .before .before .before .before .before .before .before .before .before .before .before .before .before .pre) .1) x k ((c .before .before .before .before .before .before .before .if1) .left) in
     let g = c .before .before .before .before .before .before .before .before .before .before .before .before .before .before .before .before .before .before .before .before .before .before .good .1 .1 .1 .1 .1 .1 .0 in
     let near : a .rc .writer .high + sizes-of (scopes-of (a .sc .now)) (a .rc .used) < 2 ^ 64 = omega (arith, (c .before .before .before .before .before .before .before .before .before .before .before .before .before .before .before .before .before .before .before .before .before .before .pre) .1 .texts, g) in
-    ((c .before .before .before .before .before .before .before .before .before .before .before .before .before .before .before .before .before .before .before .before .before .before .pre) .0, subst (λ (v : RenderContext). SomeReady (a .s .now) (a .b .now) v (a .ent .now)) (sym q) (record { page = a .page .now; texts = a .texts .now; indent = a .indent .now; ready = r₁ }), (c .before .before .before .before .before .before .before .before .before .before .before .before .before .before .before .before .before .before .before .before .before .before .pre) .2, (c .before .before .before .before .before .before .before .before .before .before .before .before .before .before .before .before .before .before .before .before .before .before .pre) .4, named-held (a .s .now) (a .b .now) (a .options) w (a .d) (a .p) (a .k) (c .before .before .before .before .before .before .before .before .before .before .before .before .skip-string .result + 8) (c .before .before .before .before .before .before .before .before .before .hash-all .result) (c .before .before .before .before .before .before .before .before .before .before .before .before .before .before .before .before .before .before .before .before .before .before .pre .1) (c .before .before .before .before .before .before .before .before .before .before .before .before .before .before .before .before .before .before .before .before .before .before .pre .3) (c .before .before .before .before .before .before .before .before .before .before .before .before .before .before .before .before .before .before .before .before .before .before .pre .7) (c .before .before .before .before .before .before .before .before .before .before .before .before .before .before .before .before .before .before .before .before .before .before .pre .8) (ap (λ (v : ℕ). v + 8) (c .before .before .before .before .before .before .before .before .before .before .before .before .skip-string .ensures)) (c .before .before .before .before .before .before .before .before .before .hash-all .ensures), subst (λ (v : RenderContext). v .writer .high + sizes-of (v .scopes) (v .used) < 2 ^ 64) (sym q) near, (c .before .before .before .before .before .before .before .before .before .before .before .before .before .before .before .before .before .before .before .before .before .before .pre) .6)
+    ((c .before .before .before .before .before .before .before .before .before .before .before .before .before .before .before .before .before .before .before .before .before .before .pre) .0, subst (λ (v : RenderContext). SomeReady (a .s .now) (a .b .now) v (a .ent .now)) (sym q) (record { page = a .page .now; texts = a .texts .now; indent = a .indent .now; ready = r₁ }), (c .before .before .before .before .before .before .before .before .before .before .before .before .before .before .before .before .before .before .before .before .before .before .pre) .2, (c .before .before .before .before .before .before .before .before .before .before .before .before .before .before .before .before .before .before .before .before .before .before .pre) .4, named-held (a .s .now) (a .b .now) (a .options) w (a .d) (a .p) (a .k) (c .before .before .before .before .before .before .before .before .before .before .before .before .skip-string .result + 8) (c .before .before .before .before .before .before .before .before .before .hash-all .result) (c .before .before .before .before .before .before .before .before .before .before .before .before .before .before .before .before .before .before .before .before .before .before .pre .1) (c .before .before .before .before .before .before .before .before .before .before .before .before .before .before .before .before .before .before .before .before .before .before .pre .3) (c .before .before .before .before .before .before .before .before .before .before .before .before .before .before .before .before .before .before .before .before .before .before .pre .7) (c .before .before .before .before .before .before .before .before .before .before .before .before .before .before .before .before .before .before .before .before .before .before .pre .8) (ap (λ (v : ℕ). v + 8) (c .before .before .before .before .before .before .before .before .before .before .before .before .skip-string .ensures)) (c .before .before .before .before .before .before .before .before .before .hash-all .ensures .0), subst (λ (v : RenderContext). v .writer .high + sizes-of (v .scopes) (v .used) < 2 ^ 64) (sym q) near, (c .before .before .before .before .before .before .before .before .before .before .before .before .before .before .before .before .before .before .before .before .before .before .pre) .6)
 
 enum-known-n : tie.Need-enum-known-n
 enum-known-n c = search needs
@@ -144,8 +144,8 @@ partial-block-text-requires : tie.Need-partial-block-text-requires
 partial-block-text-requires c κs =
     let a = (c .before .before .before .before .before .before .before .before .before .before .before .before .before .before .before .before .before .before .before .before .before .before .before .before .before .before .before .before .args) in
     let w : World = world (whole (a .rc) (a .sc .now)) (a .page .now) (a .texts .now) (a .indent .now) (a .ent .now) in
-    let x = named-call (a .s .now) (a .b .now) (a .options) w (a .d) (a .p) (a .k) (c .before .before .before .before .before .before .before .before .before .before .before .before .before .before .before .before .before .before .skip-string .result + 8) (c .before .before .before .before .before .before .before .before .before .before .before .before .before .before .before .hash-all .result) (c .before .before .before .before .before .before .before .before .before .before .before .before .before .before .before .before .before .before .before .before .before .before .before .before .before .before .before .before .pre .1) (c .before .before .before .before .before .before .before .before .before .before .before .before .before .before .before .before .before .before .before .before .before .before .before .before .before .before .before .before .pre .3) (c .before .before .before .before .before .before .before .before .before .before .before .before .before .before .before .before .before .before .before .before .before .before .before .before .before .before .before .before .pre .7) (c .before .before .before .before .before .before .before .before .before .before .before .before .before .before .before .before .before .before .before .before .before .before .before .before .before .before .before .before .pre .8) (ap (λ (v : ℕ). v + 8) (c .before .before .before .before .before .before .before .before .before .before .before .before .before .before .before .before .before .before .skip-string .ensures)) (c .before .before .before .before .before .before .before .before .before .before .before .before .before .before .before .hash-all .ensures) in
-    let k = named-worked (a .s .now) (a .b .now) (a .options) w (a .d) (a .p) (a .k) (c .before .before .before .before .before .before .before .before .before .before .before .before .before .before .before .before .before .before .skip-string .result + 8) (c .before .before .before .before .before .before .before .before .before .before .before .before .before .before .before .hash-all .result) (c .before .before .before .before .before .before .before .before .before .before .before .before .before .before .before .before .before .before .before .before .before .before .before .before .before .before .before .before .pre .1) (c .before .before .before .before .before .before .before .before .before .before .before .before .before .before .before .before .before .before .before .before .before .before .before .before .before .before .before .before .pre .3) (c .before .before .before .before .before .before .before .before .before .before .before .before .before .before .before .before .before .before .before .before .before .before .before .before .before .before .before .before .pre .7) (c .before .before .before .before .before .before .before .before .before .before .before .before .before .before .before .before .before .before .before .before .before .before .before .before .before .before .before .before .pre .8) (ap (λ (v : ℕ). v + 8) (c .before .before .before .before .before .before .before .before .before .before .before .before .before .before .before .before .before .before .skip-string .ensures)) (c .before .before .before .before .before .before .before .before .before .before .before .before .before .before .before .hash-all .ensures) in
+    let x = named-call (a .s .now) (a .b .now) (a .options) w (a .d) (a .p) (a .k) (c .before .before .before .before .before .before .before .before .before .before .before .before .before .before .before .before .before .before .skip-string .result + 8) (c .before .before .before .before .before .before .before .before .before .before .before .before .before .before .before .hash-all .result) (c .before .before .before .before .before .before .before .before .before .before .before .before .before .before .before .before .before .before .before .before .before .before .before .before .before .before .before .before .pre .1) (c .before .before .before .before .before .before .before .before .before .before .before .before .before .before .before .before .before .before .before .before .before .before .before .before .before .before .before .before .pre .3) (c .before .before .before .before .before .before .before .before .before .before .before .before .before .before .before .before .before .before .before .before .before .before .before .before .before .before .before .before .pre .7) (c .before .before .before .before .before .before .before .before .before .before .before .before .before .before .before .before .before .before .before .before .before .before .before .before .before .before .before .before .pre .8) (ap (λ (v : ℕ). v + 8) (c .before .before .before .before .before .before .before .before .before .before .before .before .before .before .before .before .before .before .skip-string .ensures)) (c .before .before .before .before .before .before .before .before .before .before .before .before .before .before .before .hash-all .ensures .0) in
+    let k = named-worked (a .s .now) (a .b .now) (a .options) w (a .d) (a .p) (a .k) (c .before .before .before .before .before .before .before .before .before .before .before .before .before .before .before .before .before .before .skip-string .result + 8) (c .before .before .before .before .before .before .before .before .before .before .before .before .before .before .before .hash-all .result) (c .before .before .before .before .before .before .before .before .before .before .before .before .before .before .before .before .before .before .before .before .before .before .before .before .before .before .before .before .pre .1) (c .before .before .before .before .before .before .before .before .before .before .before .before .before .before .before .before .before .before .before .before .before .before .before .before .before .before .before .before .pre .3) (c .before .before .before .before .before .before .before .before .before .before .before .before .before .before .before .before .before .before .before .before .before .before .before .before .before .before .before .before .pre .7) (c .before .before .before .before .before .before .before .before .before .before .before .before .before .before .before .before .before .before .before .before .before .before .before .before .before .before .before .before .pre .8) (ap (λ (v : ℕ). v + 8) (c .before .before .before .before .before .before .before .before .before .before .before .before .before .before .before .before .before .before .skip-string .ensures)) (c .before .before .before .before .before .before .before .before .before .before .before .before .before .before .before .hash-all .ensures .0) in
     let fits = sym (fits-is (a .s .now) (a .b .now) (a .options) w (a .at) ((c .before .before .before .before .before .before .before .before .before .before .before .before .before .before .before .before .before .before .before .before .before .before .before .before .before .before .before .before .pre) .1) ((c .before .before .before .before .before .before .before .before .before .before .before .indent-fits) .result) ((c .before .before .before .before .before .before .before .before .before .before .before .indent-fits) .ensures)) ∙ not-false _ ((c .before .before .before .before .before .before .before .before .before .before .if2) .left) in
     let q : whole (c .before .before .before .before .before .before .before .before .begin-aware .result) (a .sc .now) ≡ marked (whole (a .rc) (a .sc .now)) (before-partial (a .rc .writer) (a .at) (a .before)) = (c .before .before .before .before .before .before .before .before .begin-aware) .ensures (a .sc .now) ∙ ap (marked (whole (a .rc) (a .sc .now))) ((c .before .before .before .before .before .before .before .before .before .before-partial) .ensures) in
     let w₁ : World = over (marked (whole (a .rc) (a .sc .now)) (before-partial (a .rc .writer) (a .at) (a .before))) w in
@@ -171,8 +171,8 @@ enter-named-requires : tie.Need-enter-named-requires
 enter-named-requires c κs =
     let a = (c .before .before .before .before .before .before .before .before .before .before .before .before .before .before .before .before .before .before .before .before .before .before .before .before .before .before .before .before .before .before .args) in
     let w : World = world (whole (a .rc) (a .sc .now)) (a .page .now) (a .texts .now) (a .indent .now) (a .ent .now) in
-    let x = named-call (a .s .now) (a .b .now) (a .options) w (a .d) (a .p) (a .k) (c .before .before .before .before .before .before .before .before .before .before .before .before .before .before .before .before .before .before .before .before .skip-string .result + 8) (c .before .before .before .before .before .before .before .before .before .before .before .before .before .before .before .before .before .hash-all .result) (c .before .before .before .before .before .before .before .before .before .before .before .before .before .before .before .before .before .before .before .before .before .before .before .before .before .before .before .before .before .before .pre .1) (c .before .before .before .before .before .before .before .before .before .before .before .before .before .before .before .before .before .before .before .before .before .before .before .before .before .before .before .before .before .before .pre .3) (c .before .before .before .before .before .before .before .before .before .before .before .before .before .before .before .before .before .before .before .before .before .before .before .before .before .before .before .before .before .before .pre .7) (c .before .before .before .before .before .before .before .before .before .before .before .before .before .before .before .before .before .before .before .before .before .before .before .before .before .before .before .before .before .before .pre .8) (ap (λ (v : ℕ). v + 8) (c .before .before .before .before .before .before .before .before .before .before .before .before .before .before .before .before .before .before .before .before .skip-string .ensures)) (c .before .before .before .before .before .before .before .before .before .before .before .before .before .before .before .before .before .hash-all .ensures) in
-    let k = named-worked (a .s .now) (a .b .now) (a .options) w (a .d) (a .p) (a .k) (c .before .before .before .before .before .before .before .before .before .before .before .before .before .before .before .before .before .before .before .before .skip-string .result + 8) (c .before .before .before .before .before .before .before .before .before .before .before .before .before .before .before .before .before .hash-all .result) (c .before .before .before .before .before .before .before .before .before .before .before .before .before .before .before .before .before .before .before .before .before .before .before .before .before .before .before .before .before .before .pre .1) (c .before .before .before .before .before .before .before .before .before .before .before .before .before .before .before .before .before .before .before .before .before .before .before .before .before .before .before .before .before .before .pre .3) (c .before .before .before .before .before .before .before .before .before .before .before .before .before .before .before .before .before .before .before .before .before .before .before .before .before .before .before .before .before .before .pre .7) (c .before .before .before .before .before .before .before .before .before .before .before .before .before .before .before .before .before .before .before .before .before .before .before .before .before .before .before .before .before .before .pre .8) (ap (λ (v : ℕ). v + 8) (c .before .before .before .before .before .before .before .before .before .before .before .before .before .before .before .before .before .before .before .before .skip-string .ensures)) (c .before .before .before .before .before .before .before .before .before .before .before .before .before .before .before .before .before .hash-all .ensures) in
+    let x = named-call (a .s .now) (a .b .now) (a .options) w (a .d) (a .p) (a .k) (c .before .before .before .before .before .before .before .before .before .before .before .before .before .before .before .before .before .before .before .before .skip-string .result + 8) (c .before .before .before .before .before .before .before .before .before .before .before .before .before .before .before .before .before .hash-all .result) (c .before .before .before .before .before .before .before .before .before .before .before .before .before .before .before .before .before .before .before .before .before .before .before .before .before .before .before .before .before .before .pre .1) (c .before .before .before .before .before .before .before .before .before .before .before .before .before .before .before .before .before .before .before .before .before .before .before .before .before .before .before .before .before .before .pre .3) (c .before .before .before .before .before .before .before .before .before .before .before .before .before .before .before .before .before .before .before .before .before .before .before .before .before .before .before .before .before .before .pre .7) (c .before .before .before .before .before .before .before .before .before .before .before .before .before .before .before .before .before .before .before .before .before .before .before .before .before .before .before .before .before .before .pre .8) (ap (λ (v : ℕ). v + 8) (c .before .before .before .before .before .before .before .before .before .before .before .before .before .before .before .before .before .before .before .before .skip-string .ensures)) (c .before .before .before .before .before .before .before .before .before .before .before .before .before .before .before .before .before .hash-all .ensures .0) in
+    let k = named-worked (a .s .now) (a .b .now) (a .options) w (a .d) (a .p) (a .k) (c .before .before .before .before .before .before .before .before .before .before .before .before .before .before .before .before .before .before .before .before .skip-string .result + 8) (c .before .before .before .before .before .before .before .before .before .before .before .before .before .before .before .before .before .hash-all .result) (c .before .before .before .before .before .before .before .before .before .before .before .before .before .before .before .before .before .before .before .before .before .before .before .before .before .before .before .before .before .before .pre .1) (c .before .before .before .before .before .before .before .before .before .before .before .before .before .before .before .before .before .before .before .before .before .before .before .before .before .before .before .before .before .before .pre .3) (c .before .before .before .before .before .before .before .before .before .before .before .before .before .before .before .before .before .before .before .before .before .before .before .before .before .before .before .before .before .before .pre .7) (c .before .before .before .before .before .before .before .before .before .before .before .before .before .before .before .before .before .before .before .before .before .before .before .before .before .before .before .before .before .before .pre .8) (ap (λ (v : ℕ). v + 8) (c .before .before .before .before .before .before .before .before .before .before .before .before .before .before .before .before .before .before .before .before .skip-string .ensures)) (c .before .before .before .before .before .before .before .before .before .before .before .before .before .before .before .before .before .hash-all .ensures .0) in
     let fits = sym (fits-is (a .s .now) (a .b .now) (a .options) w (a .at) ((c .before .before .before .before .before .before .before .before .before .before .before .before .before .before .before .before .before .before .before .before .before .before .before .before .before .before .before .before .before .before .pre) .1) ((c .before .before .before .before .before .before .before .before .before .before .before .before .before .indent-fits) .result) ((c .before .before .before .before .before .before .before .before .before .before .before .before .before .indent-fits) .ensures)) ∙ not-false _ ((c .before .before .before .before .before .before .before .before .before .before .before .before .if2) .left) in
     let q : whole (c .before .before .before .before .before .before .before .before .before .before .begin-aware .result) (a .sc .now) ≡ marked (whole (a .rc) (a .sc .now)) (before-partial (a .rc .writer) (a .at) (a .before)) = (c .before .before .before .before .before .before .before .before .before .before .begin-aware) .ensures (a .sc .now) ∙ ap (marked (whole (a .rc) (a .sc .now))) ((c .before .before .before .before .before .before .before .before .before .before .before .before-partial) .ensures) in
     let w₁ : World = over (marked (whole (a .rc) (a .sc .now)) (before-partial (a .rc .writer) (a .at) (a .before))) w in
@@ -180,7 +180,7 @@ enter-named-requires c κs =
     let W = worked-there (a .s .now) (a .b .now) (a .options) w (a .d) (a .p) (a .own) (a .at) (a .before) ((c .before .before .before .before .before .before .before .before .before .before .before .before .before .before .before .before .before .before .before .before .before .before .before .before .before .before .before .before .before .before .pre) .1) x k ((c .before .before .before .before .before .before .before .before .before .before .before .before .before .before .before .if1) .left) in
     let y =
     subst (λ (v : RenderContext). EnterableBy (a .s .now) (a .tab .now) (a .b .now) (a .ent .now) (a .indent .now) v (a .d) (c .before .before .before .before .before .before .before .before .before .before .before .before .before .before .before .before .before .before .before .before .skip-string .result + 8) (a .k) (c .before .before .before .before .before .before .before .before .before .before .before .before .before .before .before .before .before .hash-all .result .values) ((c .before .before .before .before .before .t2) .given .0 .0) ((c .before .before .before .before .before .t2) .given .0 .1 .0) ((c .before .before .before .before .before .t2) .given .0 .1 .1 .0) ((c .before .before .before .before .before .t2) .given .0 .1 .1 .1 .0) (a .at)) (sym q)
-    (record { o = a .options; p = a .p; x = x; so = named-plainly (a .s .now) (a .b .now) (a .options) w (a .d) (a .p) (a .k) (c .before .before .before .before .before .before .before .before .before .before .before .before .before .before .before .before .before .before .before .before .skip-string .result + 8) (c .before .before .before .before .before .before .before .before .before .before .before .before .before .before .before .before .before .hash-all .result) (c .before .before .before .before .before .before .before .before .before .before .before .before .before .before .before .before .before .before .before .before .before .before .before .before .before .before .before .before .before .before .pre .1) (c .before .before .before .before .before .before .before .before .before .before .before .before .before .before .before .before .before .before .before .before .before .before .before .before .before .before .before .before .before .before .pre .3) (c .before .before .before .before .before .before .before .before .before .before .before .before .before .before .before .before .before .before .before .before .before .before .before .before .before .before .before .before .before .before .pre .7) (c .before .before .before .before .before .before .before .before .before .before .before .before .before .before .before .before .before .before .before .before .before .before .before .before .before .before .before .before .before .before .pre .8) (ap (λ (v : ℕ). v + 8) (c .before .before .before .before .before .before .before .before .before .before .before .before .before .before .before .before .before .before .before .before .skip-string .ensures)) (c .before .before .before .before .before .before .before .before .before .before .before .before .before .before .before .before .before .hash-all .ensures) (before-partial (a .rc .writer) (a .at) (a .before)) (c .before .before .before .before .before .before .before .before .before .before .before .before .before .before .before .if1 .left); enterable = record { plan = (c .before .before .before .before .before .before .before .before .before .before .before .before .before .before .before .before .before .before .before .before .before .before .before .before .before .before .before .before .before .before .pre) .0 .plan; small = (c .before .before .before .before .before .before .before .before .before .before .before .before .before .before .before .before .before .before .before .before .before .before .before .before .before .before .before .before .before .before .pre) .0 .small; page = a .page .now; texts = a .texts .now; ready = marks-ready (a .s .now) (a .b .now) (a .options) w (a .d) (a .p) (a .own) (a .at) (a .before) ((c .before .before .before .before .before .before .before .before .before .before .before .before .before .before .before .before .before .before .before .before .before .before .before .before .before .before .before .before .before .before .pre) .1) x k ((c .before .before .before .before .before .before .before .before .before .before .before .before .before .before .before .if1) .left); expanded = _; worked = W; call = (c .before .before .before .before .before .before .before .before .before .before .before .before .before .before .before .before .before .before .before .before .before .before .before .before .before .before .before .before .before .before .pre) .3; held = (c .before .before .before .before .before .before .before .before .before .before .before .before .before .before .before .before .before .before .before .before .before .before .before .before .before .before .before .before .before .before .pre) .5; joins = joins } }) in
+    (record { o = a .options; p = a .p; x = x; so = named-plainly (a .s .now) (a .b .now) (a .options) w (a .d) (a .p) (a .k) (c .before .before .before .before .before .before .before .before .before .before .before .before .before .before .before .before .before .before .before .before .skip-string .result + 8) (c .before .before .before .before .before .before .before .before .before .before .before .before .before .before .before .before .before .hash-all .result) (c .before .before .before .before .before .before .before .before .before .before .before .before .before .before .before .before .before .before .before .before .before .before .before .before .before .before .before .before .before .before .pre .1) (c .before .before .before .before .before .before .before .before .before .before .before .before .before .before .before .before .before .before .before .before .before .before .before .before .before .before .before .before .before .before .pre .3) (c .before .before .before .before .before .before .before .before .before .before .before .before .before .before .before .before .before .before .before .before .before .before .before .before .before .before .before .before .before .before .pre .7) (c .before .before .before .before .before .before .before .before .before .before .before .before .before .before .before .before .before .before .before .before .before .before .before .before .before .before .before .before .before .before .pre .8) (ap (λ (v : ℕ). v + 8) (c .before .before .before .before .before .before .before .before .before .before .before .before .before .before .before .before .before .before .before .before .skip-string .ensures)) (c .before .before .before .before .before .before .before .before .before .before .before .before .before .before .before .before .before .hash-all .ensures .0) (before-partial (a .rc .writer) (a .at) (a .before)) (c .before .before .before .before .before .before .before .before .before .before .before .before .before .before .before .if1 .left); enterable = record { plan = (c .before .before .before .before .before .before .before .before .before .before .before .before .before .before .before .before .before .before .before .before .before .before .before .before .before .before .before .before .before .before .pre) .0 .plan; small = (c .before .before .before .before .before .before .before .before .before .before .before .before .before .before .before .before .before .before .before .before .before .before .before .before .before .before .before .before .before .before .pre) .0 .small; page = a .page .now; texts = a .texts .now; ready = marks-ready (a .s .now) (a .b .now) (a .options) w (a .d) (a .p) (a .own) (a .at) (a .before) ((c .before .before .before .before .before .before .before .before .before .before .before .before .before .before .before .before .before .before .before .before .before .before .before .before .before .before .before .before .before .before .pre) .1) x k ((c .before .before .before .before .before .before .before .before .before .before .before .before .before .before .before .if1) .left); expanded = _; worked = W; call = (c .before .before .before .before .before .before .before .before .before .before .before .before .before .before .before .before .before .before .before .before .before .before .before .before .before .before .before .before .before .before .pre) .3; held = (c .before .before .before .before .before .before .before .before .before .before .before .before .before .before .before .before .before .before .before .before .before .before .before .before .before .before .before .before .before .before .pre) .5; joins = joins } }) in
     (y, (c .before .before .before .before .before .before .before .before .before .before .before .before .before .before .before .before .before .before .before .before .before .before .before .before .before .before .before .before .before .before .pre) .6)
 
 same-length-5 : tie.Need-same-length-5
@@ -193,8 +193,8 @@ returns-3 : tie.Need-returns-3
 returns-3 c =
     let a = (c .before .before .before .before .before .before .before .before .before .before .before .before .before .before .before .before .before .before .before .before .before .before .before .before .before .before .before .before .args) in
     let w : World = world (whole (a .rc) (a .sc .now)) (a .page .now) (a .texts .now) (a .indent .now) (a .ent .now) in
-    let x = named-call (a .s .now) (a .b .now) (a .options) w (a .d) (a .p) (a .k) (c .before .before .before .before .before .before .before .before .before .before .before .before .before .before .before .before .before .before .skip-string .result + 8) (c .before .before .before .before .before .before .before .before .before .before .before .before .before .before .before .hash-all .result) (c .before .before .before .before .before .before .before .before .before .before .before .before .before .before .before .before .before .before .before .before .before .before .before .before .before .before .before .before .pre .1) (c .before .before .before .before .before .before .before .before .before .before .before .before .before .before .before .before .before .before .before .before .before .before .before .before .before .before .before .before .pre .3) (c .before .before .before .before .before .before .before .before .before .before .before .before .before .before .before .before .before .before .before .before .before .before .before .before .before .before .before .before .pre .7) (c .before .before .before .before .before .before .before .before .before .before .before .before .before .before .before .before .before .before .before .before .before .before .before .before .before .before .before .before .pre .8) (ap (λ (v : ℕ). v + 8) (c .before .before .before .before .before .before .before .before .before .before .before .before .before .before .before .before .before .before .skip-string .ensures)) (c .before .before .before .before .before .before .before .before .before .before .before .before .before .before .before .hash-all .ensures) in
-    let k = named-worked (a .s .now) (a .b .now) (a .options) w (a .d) (a .p) (a .k) (c .before .before .before .before .before .before .before .before .before .before .before .before .before .before .before .before .before .before .skip-string .result + 8) (c .before .before .before .before .before .before .before .before .before .before .before .before .before .before .before .hash-all .result) (c .before .before .before .before .before .before .before .before .before .before .before .before .before .before .before .before .before .before .before .before .before .before .before .before .before .before .before .before .pre .1) (c .before .before .before .before .before .before .before .before .before .before .before .before .before .before .before .before .before .before .before .before .before .before .before .before .before .before .before .before .pre .3) (c .before .before .before .before .before .before .before .before .before .before .before .before .before .before .before .before .before .before .before .before .before .before .before .before .before .before .before .before .pre .7) (c .before .before .before .before .before .before .before .before .before .before .before .before .before .before .before .before .before .before .before .before .before .before .before .before .before .before .before .before .pre .8) (ap (λ (v : ℕ). v + 8) (c .before .before .before .before .before .before .before .before .before .before .before .before .before .before .before .before .before .before .skip-string .ensures)) (c .before .before .before .before .before .before .before .before .before .before .before .before .before .before .before .hash-all .ensures) in
+    let x = named-call (a .s .now) (a .b .now) (a .options) w (a .d) (a .p) (a .k) (c .before .before .before .before .before .before .before .before .before .before .before .before .before .before .before .before .before .before .skip-string .result + 8) (c .before .before .before .before .before .before .before .before .before .before .before .before .before .before .before .hash-all .result) (c .before .before .before .before .before .before .before .before .before .before .before .before .before .before .before .before .before .before .before .before .before .before .before .before .before .before .before .before .pre .1) (c .before .before .before .before .before .before .before .before .before .before .before .before .before .before .before .before .before .before .before .before .before .before .before .before .before .before .before .before .pre .3) (c .before .before .before .before .before .before .before .before .before .before .before .before .before .before .before .before .before .before .before .before .before .before .before .before .before .before .before .before .pre .7) (c .before .before .before .before .before .before .before .before .before .before .before .before .before .before .before .before .before .before .before .before .before .before .before .before .before .before .before .before .pre .8) (ap (λ (v : ℕ). v + 8) (c .before .before .before .before .before .before .before .before .before .before .before .before .before .before .before .before .before .before .skip-string .ensures)) (c .before .before .before .before .before .before .before .before .before .before .before .before .before .before .before .hash-all .ensures .0) in
+    let k = named-worked (a .s .now) (a .b .now) (a .options) w (a .d) (a .p) (a .k) (c .before .before .before .before .before .before .before .before .before .before .before .before .before .before .before .before .before .before .skip-string .result + 8) (c .before .before .before .before .before .before .before .before .before .before .before .before .before .before .before .hash-all .result) (c .before .before .before .before .before .before .before .before .before .before .before .before .before .before .before .before .before .before .before .before .before .before .before .before .before .before .before .before .pre .1) (c .before .before .before .before .before .before .before .before .before .before .before .before .before .before .before .before .before .before .before .before .before .before .before .before .before .before .before .before .pre .3) (c .before .before .before .before .before .before .before .before .before .before .before .before .before .before .before .before .before .before .before .before .before .before .before .before .before .before .before .before .pre .7) (c .before .before .before .before .before .before .before .before .before .before .before .before .before .before .before .before .before .before .before .before .before .before .before .before .before .before .before .before .pre .8) (ap (λ (v : ℕ). v + 8) (c .before .before .before .before .before .before .before .before .before .before .before .before .before .before .before .before .before .before .skip-string .ensures)) (c .before .before .before .before .before .before .before .before .before .before .before .before .before .before .before .hash-all .ensures .0) in
     let fits = sym (fits-is (a .s .now) (a .b .now) (a .options) w (a .at) ((c .before .before .before .before .before .before .before .before .before .before .before .before .before .before .before .before .before .before .before .before .before .before .before .before .before .before .before .before .pre) .1) ((c .before .before .before .before .before .before .before .before .before .before .before .indent-fits) .result) ((c .before .before .before .before .before .before .before .before .before .before .before .indent-fits) .ensures)) ∙ not-false _ ((c .before .before .before .before .before .before .before .before .before .before .if2) .left) in
     let q : whole (c .before .before .before .before .before .before .before .before .begin-aware .result) (a .sc .now) ≡ marked (whole (a .rc) (a .sc .now)) (before-partial (a .rc .writer) (a .at) (a .before)) = (c .before .before .before .before .before .before .before .before .begin-aware) .ensures (a .sc .now) ∙ ap (marked (whole (a .rc) (a .sc .now))) ((c .before .before .before .before .before .before .before .before .before .before-partial) .ensures) in
     let w₁ : World = over (marked (whole (a .rc) (a .sc .now)) (before-partial (a .rc .writer) (a .at) (a .before))) w in
@@ -218,8 +218,8 @@ returns-4 : tie.Need-returns-4
 returns-4 c =
     let a = (c .before .before .before .before .before .before .before .before .before .before .before .before .before .before .before .before .before .before .before .before .before .before .before .before .before .before .before .before .before .before .before .before .before .before .before .args) in
     let w : World = world (whole (a .rc) (a .sc .now)) (a .page .now) (a .texts .now) (a .indent .now) (a .ent .now) in
-    let x = named-call (a .s .now) (a .b .now) (a .options) w (a .d) (a .p) (a .k) (c .before .before .before .before .before .before .before .before .before .before .before .before .before .before .before .before .before .before .before .before .before .before .before .before .before .skip-string .result + 8) (c .before .before .before .before .before .before .before .before .before .before .before .before .before .before .before .before .before .before .before .before .before .before .hash-all .result) (c .before .before .before .before .before .before .before .before .before .before .before .before .before .before .before .before .before .before .before .before .before .before .before .before .before .before .before .before .before .before .before .before .before .before .before .pre .1) (c .before .before .before .before .before .before .before .before .before .before .before .before .before .before .before .before .before .before .before .before .before .before .before .before .before .before .before .before .before .before .before .before .before .before .before .pre .3) (c .before .before .before .before .before .before .before .before .before .before .before .before .before .before .before .before .before .before .before .before .before .before .before .before .before .before .before .before .before .before .before .before .before .before .before .pre .7) (c .before .before .before .before .before .before .before .before .before .before .before .before .before .before .before .before .before .before .before .before .before .before .before .before .before .before .before .before .before .before .before .before .before .before .before .pre .8) (ap (λ (v : ℕ). v + 8) (c .before .before .before .before .before .before .before .before .before .before .before .before .before .before .before .before .before .before .before .before .before .before .before .before .before .skip-string .ensures)) (c .before .before .before .before .before .before .before .before .before .before .before .before .before .before .before .before .before .before .before .before .before .before .hash-all .ensures) in
-    let k = named-worked (a .s .now) (a .b .now) (a .options) w (a .d) (a .p) (a .k) (c .before .before .before .before .before .before .before .before .before .before .before .before .before .before .before .before .before .before .before .before .before .before .before .before .before .skip-string .result + 8) (c .before .before .before .before .before .before .before .before .before .before .before .before .before .before .before .before .before .before .before .before .before .before .hash-all .result) (c .before .before .before .before .before .before .before .before .before .before .before .before .before .before .before .before .before .before .before .before .before .before .before .before .before .before .before .before .before .before .before .before .before .before .before .pre .1) (c .before .before .before .before .before .before .before .before .before .before .before .before .before .before .before .before .before .before .before .before .before .before .before .before .before .before .before .before .before .before .before .before .before .before .before .pre .3) (c .before .before .before .before .before .before .before .before .before .before .before .before .before .before .before .before .before .before .before .before .before .before .before .before .before .before .before .before .before .before .before .before .before .before .before .pre .7) (c .before .before .before .before .before .before .before .before .before .before .before .before .before .before .before .before .before .before .before .before .before .before .before .before .before .before .before .before .before .before .before .before .before .before .before .pre .8) (ap (λ (v : ℕ). v + 8) (c .before .before .before .before .before .before .before .before .before .before .before .before .before .before .before .before .before .before .before .before .before .before .before .before .before .skip-string .ensures)) (c .before .before .before .before .before .before .before .before .before .before .before .before .before .before .before .before .before .before .before .before .before .before .hash-all .ensures) in
+    let x = named-call (a .s .now) (a .b .now) (a .options) w (a .d) (a .p) (a .k) (c .before .before .before .before .before .before .before .before .before .before .before .before .before .before .before .before .before .before .before .before .before .before .before .before .before .skip-string .result + 8) (c .before .before .before .before .before .before .before .before .before .before .before .before .before .before .before .before .before .before .before .before .before .before .hash-all .result) (c .before .before .before .before .before .before .before .before .before .before .before .before .before .before .before .before .before .before .before .before .before .before .before .before .before .before .before .before .before .before .before .before .before .before .before .pre .1) (c .before .before .before .before .before .before .before .before .before .before .before .before .before .before .before .before .before .before .before .before .before .before .before .before .before .before .before .before .before .before .before .before .before .before .before .pre .3) (c .before .before .before .before .before .before .before .before .before .before .before .before .before .before .before .before .before .before .before .before .before .before .before .before .before .before .before .before .before .before .before .before .before .before .before .pre .7) (c .before .before .before .before .before .before .before .before .before .before .before .before .before .before .before .before .before .before .before .before .before .before .before .before .before .before .before .before .before .before .before .before .before .before .before .pre .8) (ap (λ (v : ℕ). v + 8) (c .before .before .before .before .before .before .before .before .before .before .before .before .before .before .before .before .before .before .before .before .before .before .before .before .before .skip-string .ensures)) (c .before .before .before .before .before .before .before .before .before .before .before .before .before .before .before .before .before .before .before .before .before .before .hash-all .ensures .0) in
+    let k = named-worked (a .s .now) (a .b .now) (a .options) w (a .d) (a .p) (a .k) (c .before .before .before .before .before .before .before .before .before .before .before .before .before .before .before .before .before .before .before .before .before .before .before .before .before .skip-string .result + 8) (c .before .before .before .before .before .before .before .before .before .before .before .before .before .before .before .before .before .before .before .before .before .before .hash-all .result) (c .before .before .before .before .before .before .before .before .before .before .before .before .before .before .before .before .before .before .before .before .before .before .before .before .before .before .before .before .before .before .before .before .before .before .before .pre .1) (c .before .before .before .before .before .before .before .before .before .before .before .before .before .before .before .before .before .before .before .before .before .before .before .before .before .before .before .before .before .before .before .before .before .before .before .pre .3) (c .before .before .before .before .before .before .before .before .before .before .before .before .before .before .before .before .before .before .before .before .before .before .before .before .before .before .before .before .before .before .before .before .before .before .before .pre .7) (c .before .before .before .before .before .before .before .before .before .before .before .before .before .before .before .before .before .before .before .before .before .before .before .before .before .before .before .before .before .before .before .before .before .before .before .pre .8) (ap (λ (v : ℕ). v + 8) (c .before .before .before .before .before .before .before .before .before .before .before .before .before .before .before .before .before .before .before .before .before .before .before .before .before .skip-string .ensures)) (c .before .before .before .before .before .before .before .before .before .before .before .before .before .before .before .before .before .before .before .before .before .before .hash-all .ensures .0) in
     let fits = sym (fits-is (a .s .now) (a .b .now) (a .options) w (a .at) ((c .before .before .before .before .before .before .before .before .before .before .before .before .before .before .before .before .before .before .before .before .before .before .before .before .before .before .before .before .before .before .before .before .before .before .before .pre) .1) ((c .before .before .before .before .before .before .before .before .before .before .before .before .before .before .before .before .before .before .indent-fits) .result) ((c .before .before .before .before .before .before .before .before .before .before .before .before .before .before .before .before .before .before .indent-fits) .ensures)) ∙ not-false _ ((c .before .before .before .before .before .before .before .before .before .before .before .before .before .before .before .before .before .if2) .left) in
     let q : whole (c .before .before .before .before .before .before .before .before .before .before .before .before .before .before .before .begin-aware .result) (a .sc .now) ≡ marked (whole (a .rc) (a .sc .now)) (before-partial (a .rc .writer) (a .at) (a .before)) = (c .before .before .before .before .before .before .before .before .before .before .before .before .before .before .before .begin-aware) .ensures (a .sc .now) ∙ ap (marked (whole (a .rc) (a .sc .now))) ((c .before .before .before .before .before .before .before .before .before .before .before .before .before .before .before .before .before-partial) .ensures) in
     let w₁ : World = over (marked (whole (a .rc) (a .sc .now)) (before-partial (a .rc .writer) (a .at) (a .before))) w in
@@ -243,8 +243,8 @@ returns-5 : tie.Need-returns-5
 returns-5 c =
     let a = (c .before .before .before .before .before .before .before .before .before .before .before .before .before .before .before .before .before .before .before .before .before .before .before .before .before .before .before .args) in
     let w : World = world (whole (a .rc) (a .sc .now)) (a .page .now) (a .texts .now) (a .indent .now) (a .ent .now) in
-    let x = named-call (a .s .now) (a .b .now) (a .options) w (a .d) (a .p) (a .k) (c .before .before .before .before .before .before .before .before .before .before .before .before .before .before .before .before .before .skip-string .result + 8) (c .before .before .before .before .before .before .before .before .before .before .before .before .before .before .hash-all .result) (c .before .before .before .before .before .before .before .before .before .before .before .before .before .before .before .before .before .before .before .before .before .before .before .before .before .before .before .pre .1) (c .before .before .before .before .before .before .before .before .before .before .before .before .before .before .before .before .before .before .before .before .before .before .before .before .before .before .before .pre .3) (c .before .before .before .before .before .before .before .before .before .before .before .before .before .before .before .before .before .before .before .before .before .before .before .before .before .before .before .pre .7) (c .before .before .before .before .before .before .before .before .before .before .before .before .before .before .before .before .before .before .before .before .before .before .before .before .before .before .before .pre .8) (ap (λ (v : ℕ). v + 8) (c .before .before .before .before .before .before .before .before .before .before .before .before .before .before .before .before .before .skip-string .ensures)) (c .before .before .before .before .before .before .before .before .before .before .before .before .before .before .hash-all .ensures) in
-    let k = named-worked (a .s .now) (a .b .now) (a .options) w (a .d) (a .p) (a .k) (c .before .before .before .before .before .before .before .before .before .before .before .before .before .before .before .before .before .skip-string .result + 8) (c .before .before .before .before .before .before .before .before .before .before .before .before .before .before .hash-all .result) (c .before .before .before .before .before .before .before .before .before .before .before .before .before .before .before .before .before .before .before .before .before .before .before .before .before .before .before .pre .1) (c .before .before .before .before .before .before .before .before .before .before .before .before .before .before .before .before .before .before .before .before .before .before .before .before .before .before .before .pre .3) (c .before .before .before .before .before .before .before .before .before .before .before .before .before .before .before .before .before .before .before .before .before .before .before .before .before .before .before .pre .7) (c .before .before .before .before .before .before .before .before .before .before .before .before .before .before .before .before .before .before .before .before .before .before .before .before .before .before .before .pre .8) (ap (λ (v : ℕ). v + 8) (c .before .before .before .before .before .before .before .before .before .before .before .before .before .before .before .before .before .skip-string .ensures)) (c .before .before .before .before .before .before .before .before .before .before .before .before .before .before .hash-all .ensures) in
+    let x = named-call (a .s .now) (a .b .now) (a .options) w (a .d) (a .p) (a .k) (c .before .before .before .before .before .before .before .before .before .before .before .before .before .before .before .before .before .skip-string .result + 8) (c .before .before .before .before .before .before .before .before .before .before .before .before .before .before .hash-all .result) (c .before .before .before .before .before .before .before .before .before .before .before .before .before .before .before .before .before .before .before .before .before .before .before .before .before .before .before .pre .1) (c .before .before .before .before .before .before .before .before .before .before .before .before .before .before .before .before .before .before .before .before .before .before .before .before .before .before .before .pre .3) (c .before .before .before .before .before .before .before .before .before .before .before .before .before .before .before .before .before .before .before .before .before .before .before .before .before .before .before .pre .7) (c .before .before .before .before .before .before .before .before .before .before .before .before .before .before .before .before .before .before .before .before .before .before .before .before .before .before .before .pre .8) (ap (λ (v : ℕ). v + 8) (c .before .before .before .before .before .before .before .before .before .before .before .before .before .before .before .before .before .skip-string .ensures)) (c .before .before .before .before .before .before .before .before .before .before .before .before .before .before .hash-all .ensures .0) in
+    let k = named-worked (a .s .now) (a .b .now) (a .options) w (a .d) (a .p) (a .k) (c .before .before .before .before .before .before .before .before .before .before .before .before .before .before .before .before .before .skip-string .result + 8) (c .before .before .before .before .before .before .before .before .before .before .before .before .before .before .hash-all .result) (c .before .before .before .before .before .before .before .before .before .before .before .before .before .before .before .before .before .before .before .before .before .before .before .before .before .before .before .pre .1) (c .before .before .before .before .before .before .before .before .before .before .before .before .before .before .before .before .before .before .before .before .before .before .before .before .before .before .before .pre .3) (c .before .before .before .before .before .before .before .before .before .before .before .before .before .before .before .before .before .before .before .before .before .before .before .before .before .before .before .pre .7) (c .before .before .before .before .before .before .before .before .before .before .before .before .before .before .before .before .before .before .before .before .before .before .before .before .before .before .before .pre .8) (ap (λ (v : ℕ). v + 8) (c .before .before .before .before .before .before .before .before .before .before .before .before .before .before .before .before .before .skip-string .ensures)) (c .before .before .before .before .before .before .before .before .before .before .before .before .before .before .hash-all .ensures .0) in
     let fits = sym (fits-is (a .s .now) (a .b .now) (a .options) w (a .at) ((c .before .before .before .before .before .before .before .before .before .before .before .before .before .before .before .before .before .before .before .before .before .before .before .before .before .before .before .pre) .1) ((c .before .before .before .before .before .before .before .before .before .before .indent-fits) .result) ((c .before .before .before .before .before .before .before .before .before .before .indent-fits) .ensures)) ∙ not-false _ ((c .before .before .before .before .before .before .before .before .before .if2) .left) in
     let q : whole (c .before .before .before .before .before .before .before .begin-aware .result) (a .sc .now) ≡ marked (whole (a .rc) (a .sc .now)) (before-partial (a .rc .writer) (a .at) (a .before)) = (c .before .before .before .before .before .before .before .begin-aware) .ensures (a .sc .now) ∙ ap (marked (whole (a .rc) (a .sc .now))) ((c .before .before .before .before .before .before .before .before .before-partial) .ensures) in
     let w₁ : World = over (marked (whole (a .rc) (a .sc .now)) (before-partial (a .rc .writer) (a .at) (a .before))) w in
@@ -265,14 +265,14 @@ returns-6 : tie.Need-returns-6
 returns-6 c =
     let a = (c .before .before .before .before .before .before .before .before .before .before .before .before .before .before .before .before .before .before .before .before .before .before .before .before .before .before .before .before .before .before .before .before .before .before .before .before .before .args) in
     let w : World = world (whole (a .rc) (a .sc .now)) (a .page .now) (a .texts .now) (a .indent .now) (a .ent .now) in
-    let x = named-call (a .s .now) (a .b .now) (a .options) w (a .d) (a .p) (a .k) (c .before .before .before .before .before .before .before .before .before .before .before .before .before .before .before .before .before .before .before .before .before .before .before .before .before .before .before .skip-string .result + 8) (c .before .before .before .before .before .before .before .before .before .before .before .before .before .before .before .before .before .before .before .before .before .before .before .before .hash-all .result) (c .before .before .before .before .before .before .before .before .before .before .before .before .before .before .before .before .before .before .before .before .before .before .before .before .before .before .before .before .before .before .before .before .before .before .before .before .before .pre .1) (c .before .before .before .before .before .before .before .before .before .before .before .before .before .before .before .before .before .before .before .before .before .before .before .before .before .before .before .before .before .before .before .before .before .before .before .before .before .pre .3) (c .before .before .before .before .before .before .before .before .before .before .before .before .before .before .before .before .before .before .before .before .before .before .before .before .before .before .before .before .before .before .before .before .before .before .before .before .before .pre .7) (c .before .before .before .before .before .before .before .before .before .before .before .before .before .before .before .before .before .before .before .before .before .before .before .before .before .before .before .before .before .before .before .before .before .before .before .before .before .pre .8) (ap (λ (v : ℕ). v + 8) (c .before .before .before .before .before .before .before .before .before .before .before .before .before .before .before .before .before .before .before .before .before .before .before .before .before .before .before .skip-string .ensures)) (c .before .before .before .before .before .before .before .before .before .before .before .before .before .before .before .before .before .before .before .before .before .before .before .before .hash-all .ensures) in
-    let k = named-worked (a .s .now) (a .b .now) (a .options) w (a .d) (a .p) (a .k) (c .before .before .before .before .before .before .before .before .before .before .before .before .before .before .before .before .before .before .before .before .before .before .before .before .before .before .before .skip-string .result + 8) (c .before .before .before .before .before .before .before .before .before .before .before .before .before .before .before .before .before .before .before .before .before .before .before .before .hash-all .result) (c .before .before .before .before .before .before .before .before .before .before .before .before .before .before .before .before .before .before .before .before .before .before .before .before .before .before .before .before .before .before .before .before .before .before .before .before .before .pre .1) (c .before .before .before .before .before .before .before .before .before .before .before .before .before .before .before .before .before .before .before .before .before .before .before .before .before .before .before .before .before .before .before .before .before .before .before .before .before .pre .3) (c .before .before .before .before .before .before .before .before .before .before .before .before .before .before .before .before .before .before .before .before .before .before .before .before .before .before .before .before .before .before .before .before .before .before .before .before .before .pre .7) (c .before .before .before .before .before .before .before .before .before .before .before .before .before .before .before .before .before .before .before .before .before .before .before .before .before .before .before .before .before .before .before .before .before .before .before .before .before .pre .8) (ap (λ (v : ℕ). v + 8) (c .before .before .before .before .before .before .before .before .before .before .before .before .before .before .before .before .before .before .before .before .before .before .before .before .before .before .before .skip-string .ensures)) (c .before .before .before .before .before .before .before .before .before .before .before .before .before .before .before .before .before .before .before .before .before .before .before .before .hash-all .ensures) in
+    let x = named-call (a .s .now) (a .b .now) (a .options) w (a .d) (a .p) (a .k) (c .before .before .before .before .before .before .before .before .before .before .before .before .before .before .before .before .before .before .before .before .before .before .before .before .before .before .before .skip-string .result + 8) (c .before .before .before .before .before .before .before .before .before .before .before .before .before .before .before .before .before .before .before .before .before .before .before .before .hash-all .result) (c .before .before .before .before .before .before .before .before .before .before .before .before .before .before .before .before .before .before .before .before .before .before .before .before .before .before .before .before .before .before .before .before .before .before .before .before .before .pre .1) (c .before .before .before .before .before .before .before .before .before .before .before .before .before .before .before .before .before .before .before .before .before .before .before .before .before .before .before .before .before .before .before .before .before .before .before .before .before .pre .3) (c .before .before .before .before .before .before .before .before .before .before .before .before .before .before .before .before .before .before .before .before .before .before .before .before .before .before .before .before .before .before .before .before .before .before .before .before .before .pre .7) (c .before .before .before .before .before .before .before .before .before .before .before .before .before .before .before .before .before .before .before .before .before .before .before .before .before .before .before .before .before .before .before .before .before .before .before .before .before .pre .8) (ap (λ (v : ℕ). v + 8) (c .before .before .before .before .before .before .before .before .before .before .before .before .before .before .before .before .before .before .before .before .before .before .before .before .before .before .before .skip-string .ensures)) (c .before .before .before .before .before .before .before .before .before .before .before .before .before .before .before .before .before .before .before .before .before .before .before .before .hash-all .ensures .0) in
+    let k = named-worked (a .s .now) (a .b .now) (a .options) w (a .d) (a .p) (a .k) (c .before .before .before .before .before .before .before .before .before .before .before .before .before .before .before .before .before .before .before .before .before .before .before .before .before .before .before .skip-string .result + 8) (c .before .before .before .before .before .before .before .before .before .before .before .before .before .before .before .before .before .before .before .before .before .before .before .before .hash-all .result) (c .before .before .before .before .before .before .before .before .before .before .before .before .before .before .before .before .before .before .before .before .before .before .before .before .before .before .before .before .before .before .before .before .before .before .before .before .before .pre .1) (c .before .before .before .before .before .before .before .before .before .before .before .before .before .before .before .before .before .before .before .before .before .before .before .before .before .before .before .before .before .before .before .before .before .before .before .before .before .pre .3) (c .before .before .before .before .before .before .before .before .before .before .before .before .before .before .before .before .before .before .before .before .before .before .before .before .before .before .before .before .before .before .before .before .before .before .before .before .before .pre .7) (c .before .before .before .before .before .before .before .before .before .before .before .before .before .before .before .before .before .before .before .before .before .before .before .before .before .before .before .before .before .before .before .before .before .before .before .before .before .pre .8) (ap (λ (v : ℕ). v + 8) (c .before .before .before .before .before .before .before .before .before .before .before .before .before .before .before .before .before .before .before .before .before .before .before .before .before .before .before .skip-string .ensures)) (c .before .before .before .before .before .before .before .before .before .before .before .before .before .before .before .before .before .before .before .before .before .before .before .before .hash-all .ensures .0) in
     let fits = sym (fits-is (a .s .now) (a .b .now) (a .options) w (a .at) ((c .before .before .before .before .before .before .before .before .before .before .before .before .before .before .before .before .before .before .before .before .before .before .before .before .before .before .before .before .before .before .before .before .before .before .before .before .before .pre) .1) ((c .before .before .before .before .before .before .before .before .before .before .before .before .before .before .before .before .before .before .before .before .indent-fits) .result) ((c .before .before .before .before .before .before .before .before .before .before .before .before .before .before .before .before .before .before .before .before .indent-fits) .ensures)) ∙ not-false _ ((c .before .before .before .before .before .before .before .before .before .before .before .before .before .before .before .before .before .before .before .if2) .left) in
     let q : whole (c .before .before .before .before .before .before .before .before .before .before .before .before .before .before .before .before .before .begin-aware .result) (a .sc .now) ≡ marked (whole (a .rc) (a .sc .now)) (before-partial (a .rc .writer) (a .at) (a .before)) = (c .before .before .before .before .before .before .before .before .before .before .before .before .before .before .before .before .before .begin-aware) .ensures (a .sc .now) ∙ ap (marked (whole (a .rc) (a .sc .now))) ((c .before .before .before .before .before .before .before .before .before .before .before .before .before .before .before .before .before .before .before-partial) .ensures) in
     let w₁ : World = over (marked (whole (a .rc) (a .sc .now)) (before-partial (a .rc .writer) (a .at) (a .before))) w in
     let L = subst (Leads (a .s .now) (a .b .now) (a .options) w₁ (a .d) (a .p) x (a .own) (a .at)) ((c .before .before .before .before .before .before .before .before .before .before .before .before .t2) .given .1) (subst (λ (v : RenderContext). Decided (a .s .now) (a .b .now) (a .ent .now) v (a .d) (x .name) (a .own) ((c .before .before .before .before .before .before .before .before .before .before .before .before .before .before .expand-named) .result)) q ((c .before .before .before .before .before .before .before .before .before .before .before .before .before .before .expand-named) .ensures) .at (a .page .now) (a .texts .now) (a .indent .now) (a .options) (a .p) x (a .at) refl (marks-ready (a .s .now) (a .b .now) (a .options) w (a .d) (a .p) (a .own) (a .at) (a .before) ((c .before .before .before .before .before .before .before .before .before .before .before .before .before .before .before .before .before .before .before .before .before .before .before .before .before .before .before .before .before .before .before .before .before .before .before .before .before .pre) .1) x k ((c .before .before .before .before .before .before .before .before .before .before .before .before .before .before .before .before .before .before .before .before .before .before .if1) .left))) in
     let W = worked-there (a .s .now) (a .b .now) (a .options) w (a .d) (a .p) (a .own) (a .at) (a .before) ((c .before .before .before .before .before .before .before .before .before .before .before .before .before .before .before .before .before .before .before .before .before .before .before .before .before .before .before .before .before .before .before .before .before .before .before .before .before .pre) .1) x k ((c .before .before .before .before .before .before .before .before .before .before .before .before .before .before .before .before .before .before .before .before .before .before .if1) .left) in
-    let E = subst (λ (v : RenderContext). EntersBy (a .s .now) (a .b .now) (a .ent .now) ((c .before .before .before .before .before .before .enter-named) .last .1 .1 .1 .0) (a .indent .now) ((c .before .before .before .before .before .before .enter-named) .last .1 .1 .1 .1 .0) v (whole (c .before .before .before .before .before .before .enter-named .result .rc) (c .before .before .before .before .before .before .enter-named .last .1 .1 .1 .1 .1 .0)) (a .d) (c .before .before .before .before .before .before .before .before .before .before .before .before .before .before .before .before .before .before .before .before .before .before .before .before .before .before .before .skip-string .result + 8) (a .k) (c .before .before .before .before .before .before .before .before .before .before .before .before .before .before .before .before .before .before .before .before .before .before .before .before .hash-all .result .values) ((c .before .before .before .before .before .before .before .before .before .before .before .before .t2) .given .0 .0) ((c .before .before .before .before .before .before .before .before .before .before .before .before .t2) .given .0 .1 .0) ((c .before .before .before .before .before .before .before .before .before .before .before .before .t2) .given .0 .1 .1 .0) ((c .before .before .before .before .before .before .before .before .before .before .before .before .t2) .given .0 .1 .1 .1 .0) (a .at) ((c .before .before .before .before .before .before .enter-named) .result .next)) q (c .before .before .before .before .before .before .enter-named .ensures) (a .options) (a .p) x (named-plainly (a .s .now) (a .b .now) (a .options) w (a .d) (a .p) (a .k) (c .before .before .before .before .before .before .before .before .before .before .before .before .before .before .before .before .before .before .before .before .before .before .before .before .before .before .before .skip-string .result + 8) (c .before .before .before .before .before .before .before .before .before .before .before .before .before .before .before .before .before .before .before .before .before .before .before .before .hash-all .result) (c .before .before .before .before .before .before .before .before .before .before .before .before .before .before .before .before .before .before .before .before .before .before .before .before .before .before .before .before .before .before .before .before .before .before .before .before .before .pre .1) (c .before .before .before .before .before .before .before .before .before .before .before .before .before .before .before .before .before .before .before .before .before .before .before .before .before .before .before .before .before .before .before .before .before .before .before .before .before .pre .3) (c .before .before .before .before .before .before .before .before .before .before .before .before .before .before .before .before .before .before .before .before .before .before .before .before .before .before .before .before .before .before .before .before .before .before .before .before .before .pre .7) (c .before .before .before .before .before .before .before .before .before .before .before .before .before .before .before .before .before .before .before .before .before .before .before .before .before .before .before .before .before .before .before .before .before .before .before .before .before .pre .8) (ap (λ (v : ℕ). v + 8) (c .before .before .before .before .before .before .before .before .before .before .before .before .before .before .before .before .before .before .before .before .before .before .before .before .before .before .before .skip-string .ensures)) (c .before .before .before .before .before .before .before .before .before .before .before .before .before .before .before .before .before .before .before .before .before .before .before .before .hash-all .ensures) (before-partial (a .rc .writer) (a .at) (a .before)) (c .before .before .before .before .before .before .before .before .before .before .before .before .before .before .before .before .before .before .before .before .before .before .if1 .left)) .at (L .2) (a .page .now) (a .texts .now) (marks-ready (a .s .now) (a .b .now) (a .options) w (a .d) (a .p) (a .own) (a .at) (a .before) ((c .before .before .before .before .before .before .before .before .before .before .before .before .before .before .before .before .before .before .before .before .before .before .before .before .before .before .before .before .before .before .before .before .before .before .before .before .before .pre) .1) x k ((c .before .before .before .before .before .before .before .before .before .before .before .before .before .before .before .before .before .before .before .before .before .before .if1) .left)) _ W in
+    let E = subst (λ (v : RenderContext). EntersBy (a .s .now) (a .b .now) (a .ent .now) ((c .before .before .before .before .before .before .enter-named) .last .1 .1 .1 .0) (a .indent .now) ((c .before .before .before .before .before .before .enter-named) .last .1 .1 .1 .1 .0) v (whole (c .before .before .before .before .before .before .enter-named .result .rc) (c .before .before .before .before .before .before .enter-named .last .1 .1 .1 .1 .1 .0)) (a .d) (c .before .before .before .before .before .before .before .before .before .before .before .before .before .before .before .before .before .before .before .before .before .before .before .before .before .before .before .skip-string .result + 8) (a .k) (c .before .before .before .before .before .before .before .before .before .before .before .before .before .before .before .before .before .before .before .before .before .before .before .before .hash-all .result .values) ((c .before .before .before .before .before .before .before .before .before .before .before .before .t2) .given .0 .0) ((c .before .before .before .before .before .before .before .before .before .before .before .before .t2) .given .0 .1 .0) ((c .before .before .before .before .before .before .before .before .before .before .before .before .t2) .given .0 .1 .1 .0) ((c .before .before .before .before .before .before .before .before .before .before .before .before .t2) .given .0 .1 .1 .1 .0) (a .at) ((c .before .before .before .before .before .before .enter-named) .result .next)) q (c .before .before .before .before .before .before .enter-named .ensures) (a .options) (a .p) x (named-plainly (a .s .now) (a .b .now) (a .options) w (a .d) (a .p) (a .k) (c .before .before .before .before .before .before .before .before .before .before .before .before .before .before .before .before .before .before .before .before .before .before .before .before .before .before .before .skip-string .result + 8) (c .before .before .before .before .before .before .before .before .before .before .before .before .before .before .before .before .before .before .before .before .before .before .before .before .hash-all .result) (c .before .before .before .before .before .before .before .before .before .before .before .before .before .before .before .before .before .before .before .before .before .before .before .before .before .before .before .before .before .before .before .before .before .before .before .before .before .pre .1) (c .before .before .before .before .before .before .before .before .before .before .before .before .before .before .before .before .before .before .before .before .before .before .before .before .before .before .before .before .before .before .before .before .before .before .before .before .before .pre .3) (c .before .before .before .before .before .before .before .before .before .before .before .before .before .before .before .before .before .before .before .before .before .before .before .before .before .before .before .before .before .before .before .before .before .before .before .before .before .pre .7) (c .before .before .before .before .before .before .before .before .before .before .before .before .before .before .before .before .before .before .before .before .before .before .before .before .before .before .before .before .before .before .before .before .before .before .before .before .before .pre .8) (ap (λ (v : ℕ). v + 8) (c .before .before .before .before .before .before .before .before .before .before .before .before .before .before .before .before .before .before .before .before .before .before .before .before .before .before .before .skip-string .ensures)) (c .before .before .before .before .before .before .before .before .before .before .before .before .before .before .before .before .before .before .before .before .before .before .before .before .hash-all .ensures .0) (before-partial (a .rc .writer) (a .at) (a .before)) (c .before .before .before .before .before .before .before .before .before .before .before .before .before .before .before .before .before .before .before .before .before .before .if1 .left)) .at (L .2) (a .page .now) (a .texts .now) (marks-ready (a .s .now) (a .b .now) (a .options) w (a .d) (a .p) (a .own) (a .at) (a .before) ((c .before .before .before .before .before .before .before .before .before .before .before .before .before .before .before .before .before .before .before .before .before .before .before .before .before .before .before .before .before .before .before .before .before .before .before .before .before .pre) .1) x k ((c .before .before .before .before .before .before .before .before .before .before .before .before .before .before .before .before .before .before .before .before .before .before .if1) .left)) _ W in
     begun-entered (a .s .now) (a .b .now) (a .options) w (a .d) (a .p) (a .own) (a .at) (a .before) ((c .before .before .before .before .before .before .before .before .before .before .before .before .before .before .before .before .before .before .before .before .before .before .before .before .before .before .before .before .before .before .before .before .before .before .before .before .before .pre) .1) x k ((c .before .before .before .before .before .before .before .before .before .before .before .before .before .before .before .before .before .before .before .before .before .before .if1) .left) fits ((c .before .before .before .before .before .before .before .before .before .before .before .before .t2) .given .0 .0) ((c .before .before .before .before .before .before .before .before .before .before .before .before .t2) .given .0 .1 .0) ((c .before .before .before .before .before .before .before .before .before .before .before .before .t2) .given .0 .1 .1 .0) ((c .before .before .before .before .before .before .before .before .before .before .before .before .t2) .given .0 .1 .1 .1 .0) L (world (whole (c .before .before .before .before .before .before .enter-named .result .rc) (c .before .before .before .before .before .before .enter-named .last .1 .1 .1 .1 .1 .0)) (a .page .now) (a .texts .now) ((c .before .before .before .before .before .before .enter-named) .last .1 .1 .1 .1 .0) ((c .before .before .before .before .before .before .enter-named) .last .1 .1 .1 .0)) ((c .before .before .before .before .before .before .enter-named) .result .next) E
 
 pub begin-named-spec : {M : Type 1} → statement M

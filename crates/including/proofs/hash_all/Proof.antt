@@ -23,7 +23,7 @@ use Rattle.expand.proofs.Parts.{some-setting, some-used}
 use Rattle.including.specs.Values.{pair-place, content-place, GotFits, Numbered, HashValues}
 use Rattle.including.specs.ValuesLaws.{got-fits, numbered, values-none, values-more}
 use Rattle.including.specs.PairsLaws.{pair-holds, key-holds}
-use Rattle.including.specs.Hashing.{next-place, WorkedOut, none-worked, one-worked, all-worked, one-refused, refusal-works}
+use Rattle.including.specs.Hashing.{next-place, WorkedOut, none-worked, one-worked, all-worked, one-refused, refusal-works, counted-all, counted-some}
 use Rattle.including.proofs.hash_all.Statement.{statement}
 use Rattle.including.proofs.hash_all.Tie as tie
 
@@ -73,12 +73,17 @@ returns c =
     let place : c .before .before .before .before .before .next-pair .result ≡ pair-place (z .args .d) (bits (z .args .b .now)) (z .args .p) (m .i) =
     c .before .before .before .before .before .next-pair .ensures ∙ ap (λ (q : ℕ). pick (eqb (m .i) 0) q (end (string then param (z .args .d)) (bits (z .args .b .now)) q)) (m .inv .1) ∙ next-place (z .args .d) (bits (z .args .b .now)) (z .args .p) (m .i) in
     let content : c .before .before .before .before .skip-string .result ≡ content-place (z .args .d) (bits (z .args .b .now)) (z .args .p) (m .i) = c .before .before .before .before .skip-string .ensures ∙ ap (end string (bits (z .args .b .now))) place in
-    let k = c .before .x .given .0 .0 in
-    λ g st t h.
-    refusal-works _ _ k
-    (one-refused (z .args .b .now) (z .args .d) (z .args .p) g st (z .args .n) (m .i) k lt (m .inv .3 g st t h .1) (z .pre .6)
-    (subst (λ (q : ℕ). Expands (z .args .s .now) (z .args .b .now) (z .args .ent .now) t (rules.expand g st (param-at (z .args .d) (bits (z .args .b .now)) q)) (Bad k)) content
-    (subst (λ (r : Got). Expands (z .args .s .now) (z .args .b .now) (z .args .ent .now) t (rules.expand g st (param-at (z .args .d) (bits (z .args .b .now)) (c .before .before .before .before .skip-string .result))) r) (c .before .x .given .1) (c .before .before .before .expand .ensures g st t h))))
+    let k = c .before .x .given .0 .0 in (
+      λ g st t h.
+          let known = subst (λ (q : ℕ). Expands (z .args .s .now) (z .args .b .now) (z .args .ent .now) t (rules.expand g st (param-at (z .args .d) (bits (z .args .b .now)) q)) (Bad k)) content
+          (subst (λ (r : Got). Expands (z .args .s .now) (z .args .b .now) (z .args .ent .now) t (rules.expand g st (param-at (z .args .d) (bits (z .args .b .now)) (c .before .before .before .before .skip-string .result))) r) (c .before .x .given .1) (c .before .before .before .expand .ensures g st t h)) in
+          refusal-works _ _ k (one-refused (z .args .b .now) (z .args .d) (z .args .p) g st (z .args .n) (m .i) k lt (m .inv .3 g st t h .1) (z .pre .6) known),
+      λ g st t h.
+          let known = subst (λ (q : ℕ). Expands (z .args .s .now) (z .args .b .now) (z .args .ent .now) t (rules.expand g st (param-at (z .args .d) (bits (z .args .b .now)) q)) (Bad k)) content
+          (subst (λ (r : Got). Expands (z .args .s .now) (z .args .b .now) (z .args .ent .now) t (rules.expand g st (param-at (z .args .d) (bits (z .args .b .now)) (c .before .before .before .before .skip-string .result))) r) (c .before .x .given .1) (c .before .before .before .expand .ensures g st t h)) in
+          subst (λ (j : ℕ). HashValues (z .args .s .now) (z .args .b .now) (z .args .ent .now) t (z .args .d) (z .args .p) j g st (m .r))
+          (sym (counted-some (z .args .b .now) (z .args .d) (z .args .p) g st (z .args .n) (m .i) k lt (m .inv .3 g st t h .1) known)) (m .inv .3 g st t h .0),
+    )
 
 enum-told : tie.Need-enum-told Inv-loop μ-loop
 enum-told c = search needs
@@ -134,13 +139,18 @@ returns-2 : tie.Need-returns-2 Inv-loop μ-loop
 returns-2 c =
     let z = c .before .before .before .before .before .before .before in
     let m = c .before .loop in
-    let e : m .i ≡ z .args .n = omega (arith, m .inv .2, c .loop-test .left) in
-    λ g st t h.
-    let hs = all-worked (z .args .b .now) (z .args .d) (z .args .p) g st (z .args .n) (subst (WorkedOut (z .args .b .now) (z .args .d) (z .args .p) g st) e (m .inv .3 g st t h .1)) (z .pre .6) in
-    record {
-      fine = λ q. (hs .0, hs .1, subst (λ (k : ℕ). HashValues (z .args .s .now) (z .args .b .now) (z .args .ent .now) t (z .args .d) (z .args .p) k g st (m .r)) e (m .inv .3 g st t h .0));
-      refused = λ q. absurd (q refl);
-    }
+    let e : m .i ≡ z .args .n = omega (arith, m .inv .2, c .loop-test .left) in (
+      λ g st t h.
+          let all = subst (WorkedOut (z .args .b .now) (z .args .d) (z .args .p) g st) e (m .inv .3 g st t h .1) in
+          let values = subst (λ (k : ℕ). HashValues (z .args .s .now) (z .args .b .now) (z .args .ent .now) t (z .args .d) (z .args .p) k g st (m .r)) e (m .inv .3 g st t h .0) in
+          let hs = all-worked (z .args .b .now) (z .args .d) (z .args .p) g st (z .args .n) all (z .pre .6) in
+          record { fine = λ q. (hs .0, hs .1, values); refused = λ q. absurd (q refl) },
+      λ g st t h.
+          let all = subst (WorkedOut (z .args .b .now) (z .args .d) (z .args .p) g st) e (m .inv .3 g st t h .1) in
+          let values = subst (λ (k : ℕ). HashValues (z .args .s .now) (z .args .b .now) (z .args .ent .now) t (z .args .d) (z .args .p) k g st (m .r)) e (m .inv .3 g st t h .0) in
+          subst (λ (k : ℕ). HashValues (z .args .s .now) (z .args .b .now) (z .args .ent .now) t (z .args .d) (z .args .p) k g st (m .r))
+          (sym (counted-all (z .args .b .now) (z .args .d) (z .args .p) g st (z .args .n) all)) values,
+    )
 
 pub hash-all-spec : {M : Type 1} → statement M
 hash-all-spec =
