@@ -38,8 +38,8 @@ use Rattle.meaning.specs.MeaningLaws.{plain-is}
 use Rattle.meaning.specs.Standing.{Stands, stands-plain}
 use Rattle.meaning.specs.declared.Form.the-variants as form
 use Rattle.lookup.specs.Answers.{Held, pathless, Finds, PlainFinds}
-use Rattle.lookup.specs.Numbers.{MemberNumber, placed-number, numbered-found, MergedNumber}
-use Rattle.lookup.specs.Keyed.{KeyNumber, LookedNumber}
+use Rattle.lookup.specs.Numbers.{MemberNumber, placed-number, numbered-found}
+use Rattle.lookup.specs.Keyed.{KeyNumber, MergedNumber, LookedNumber}
 use Rattle.lookup.specs.declared.Found.{Found}
 use Rattle.lookup.proofs.Finding.{object-found, member-placed, Inward, inward-start, inward-on}
 use Rattle.lookup.proofs.Leading.{means, placed-json, placed-within, finds-eq, finds-plain, object-lookup}

@@ -18,6 +18,11 @@ pub record KeyNumber (s b : Bytes) (j : Json) (k : Bytes) (r : ℕ) : Type 0 whe
   pub object : (r ≡ 0 → ⊥) → j ≡ jobj (members-of j)
   pub told : (r ≡ 0 → ⊥) → PlainFinds s b (get-member (base-map j) k) (numbered-found r)
 
+-- what v, taken as an object, has under k
+pub record MergedNumber (s b : Bytes) (ent : List ℕ) (v : Value) (k : Bytes) (r : ℕ) : Type 0 where
+  pub small : r < 4294967298
+  pub told : (r ≡ 0 → ⊥) → Finds s b ent v (get-member (base-map (json-of s b ent v)) k) (numbered-found r)
+
 -- what v has under i
 pub record LookedNumber (s b : Bytes) (ent : List ℕ) (v : Value) (i : Json) (r : ℕ) : Type 0 where
   pub small : r < 4294967298

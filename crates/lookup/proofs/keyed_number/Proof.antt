@@ -8,7 +8,7 @@ use Rattle.parts.specs.Says.{literal-at}
 use Rattle.value.specs.declared.Value.{Value}
 use Rattle.value.specs.declared.Value.the-variants.{Merged}
 use Rattle.lookup.specs.Answers.{Held, pathless}
-use Rattle.lookup.specs.Numbers.{MergedNumber}
+use Rattle.lookup.specs.Keyed.{MergedNumber}
 use Rattle.lookup.proofs.Keyed.{string-literal, looked-place, looked-merged, not-looked}
 use Rattle.lookup.proofs.Leading.{placed-within}
 use Rattle.lookup.proofs.Ordered.{string-near}
