@@ -7,7 +7,7 @@ use mathlib.Core.Path.{_≡_, refl, sym, ap, _∙_, subst}
 use native.Mathlib.Omega.{arith}
 use lib.Dec.{ltb}
 use lib.ListN.{length, getElem?}
-use borrow.Author.Tests.{ltb-true, ltb-false}
+use borrow.Author.Tests.{eqb-true, ltb-true, ltb-false}
 use Rattle.rules.specs.Bytes.{Bytes, pick, maybe, same}
 use Rattle.rules.specs.Json.{Json, jarr, jobj, Jsons, Map, get-item, get-member}
 use Rattle.rules.specs.Bits.{bits}
@@ -18,12 +18,12 @@ use Rattle.places.specs.Accepted.{Accepted}
 use Rattle.places.specs.Places.{places, json-at, children, member, value-at}
 use Rattle.places.specs.Kinds.{found, items-of, members-of}
 use Rattle.places.specs.Nodes.{few-places}
-use Rattle.places.specs.Children.{is-child, none-some}
-use Rattle.places.specs.Items.{list-item, list-count}
+use Rattle.places.specs.Children.{is-object, is-child, none-some}
+use Rattle.places.specs.Items.{object-at, list-item, list-count}
 use Rattle.places.specs.Members.{object-member, member-latest}
 use Rattle.places.specs.declared.Found.{Found as PlaceFound}
 use Rattle.value.specs.declared.Value.{Value}
-use Rattle.value.specs.declared.Value.the-variants.{Null, Merged}
+use Rattle.value.specs.declared.Value.the-variants.{Null, Place, Merged}
 use Rattle.meaning.specs.Entries.{place, hash-value, hash-base}
 use Rattle.meaning.specs.Meaning.{plain-json, pairs, merged-of, rank, json-of}
 use Rattle.meaning.specs.MeaningLaws.{plain-is}
@@ -32,7 +32,7 @@ use Rattle.meaning.specs.Kept.{stands-merged-is}
 use Rattle.meaning.specs.Forms.{ListForm, ObjectForm, Formed}
 use Rattle.meaning.specs.declared.Form.{Form}
 use Rattle.meaning.specs.declared.Form.the-variants as form
-use Rattle.lookup.proofs.Told.{pathless-json, pathless-stands, pathless-none}
+use Rattle.lookup.proofs.Told.{pathless-json, pathless-stands, pathless-none, pathless-plain, pathless-held}
 use Rattle.lookup.specs.Answers.{Held, PlainHeld, pathless, IsFound, Finds, PlainFinds}
 use Rattle.lookup.specs.Keys.{KeyAt, pairs-more}
 use Rattle.lookup.specs.Places.{placed-at, placed}
@@ -88,6 +88,21 @@ module _ (s : Bytes) (tab : List ℕ) (h : Accepted s tab) (i : ℕ) (lt : i < p
   pub member-placed : (b : Bytes) (o : Option Json) (k : Bytes) (at : Option ℕ) → o ≡ value-at s at → at ≡ member s i k → PlainFinds s b o (placed-at at)
   member-placed b o k none e f = e
   member-placed b o k (some c) e f = record { value = e; plain = refl; stands = member-latest s i k (h .answers) lt c (sym f) .child .within; no-path = refl }
+
+-- A value that is the place i of the plan, with its path or without
+
+module _ (s b : Bytes) (v : Value) (h : PlainHeld s b v) (i : ℕ) (e : pathless v ≡ Place i) where
+  pub place-held : i < places s
+  place-held = subst (PlainHeld s b) e (pathless-held s b v h) .stands
+
+  pub place-object : (tab : List ℕ) → Accepted s tab → is-object s i ≡ true → (k : Bytes) (at : PlaceFound) → found at ≡ member s i k
+      → PlainFinds s b (get-member (base-map (plain-json s b v)) k) (placed at)
+  place-object tab a o k at f =
+      member-placed s tab a i place-held b (get-member (base-map (plain-json s b v)) k) k (found at)
+      (ap (λ (j : Json). get-member (base-map j) k) (sym (pathless-plain s b v) ∙ ap (plain-json s b) e)
+      ∙ object-found s tab a i place-held (members-of (json-at s i)) (object-at s i (eqb-true _ 123 o)) k
+      ∙ ap (value-at s) (sym f))
+      f
 
 -- By the form of a value that is not merged
 

@@ -40,7 +40,7 @@ use Rattle.lookup.specs.Numbers.{IsMember, MemberNumber, placed-number, 
 use Rattle.lookup.specs.declared.Got.{Got}
 use Rattle.lookup.specs.declared.Got.the-variants.{Is}
 use Rattle.lookup.specs.declared.Found.the-variants.{Is as FoundIs}
-use Rattle.lookup.proofs.Told.{pathless-none}
+use Rattle.lookup.proofs.Told.{pathless-none, pathless-plain, pathless-held}
 use Rattle.lookup.proofs.Telling.{tells-plain}
 use Rattle.lookup.proofs.Finding.{object-found, member-placed, Inward, inward-plain, inward-end, inward-told, inward-known, inward-found}
 use Rattle.lookup.proofs.Leading.{means, object-reaches, derived-place, derived-member, placed-json, placed-within, placed-context}
@@ -404,40 +404,6 @@ pathless-object s (Text p) = refl
 pathless-object s (SaidChar o n) = refl
 pathless-object s (PackedChar p n) = refl
 pathless-object s (Merged h n) = refl
-
-pathless-plain : (s b : Bytes) (v : Value) → plain-json s b (pathless v) ≡ plain-json s b v
-pathless-plain s b Missing = refl
-pathless-plain s b Null = refl
-pathless-plain s b False = refl
-pathless-plain s b True = refl
-pathless-plain s b Empty = refl
-pathless-plain s b (Context i) = refl
-pathless-plain s b (Place i) = refl
-pathless-plain s b (Literal p) = refl
-pathless-plain s b (Index n) = refl
-pathless-plain s b (IndexText n) = refl
-pathless-plain s b (Name o) = refl
-pathless-plain s b (Text p) = refl
-pathless-plain s b (SaidChar o n) = refl
-pathless-plain s b (PackedChar p n) = refl
-pathless-plain s b (Merged h n) = refl
-
-pathless-held : (s b : Bytes) (v : Value) → PlainHeld s b v → PlainHeld s b (pathless v)
-pathless-held s b Missing x = x
-pathless-held s b Null x = x
-pathless-held s b False x = x
-pathless-held s b True x = x
-pathless-held s b Empty x = x
-pathless-held s b (Context i) x = record { plain = refl; stands = x .stands .0 }
-pathless-held s b (Place i) x = x
-pathless-held s b (Literal p) x = x
-pathless-held s b (Index n) x = x
-pathless-held s b (IndexText n) x = x
-pathless-held s b (Name o) x = x
-pathless-held s b (Text p) x = x
-pathless-held s b (SaidChar o n) x = x
-pathless-held s b (PackedChar p n) x = x
-pathless-held s b (Merged h n) x = x
 
 -- From what was found on the way inward
 

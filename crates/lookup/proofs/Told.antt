@@ -9,10 +9,10 @@ use Rattle.value.proofs.Value.{the-type}
 use Rattle.value.specs.declared.Value.{Value}
 use Rattle.value.specs.declared.Value.the-variants.{Missing, Null, False, True, Empty, Context, Place, Literal, Index, IndexText, Name, Text, SaidChar, PackedChar, Merged}
 use Rattle.rules.specs.Bytes.{Bytes}
-use Rattle.meaning.specs.Meaning.{merged-of, context-place, json-of}
+use Rattle.meaning.specs.Meaning.{plain-json, merged-of, context-place, json-of}
 use Rattle.meaning.specs.MeaningLaws.{plain-is}
 use Rattle.meaning.specs.Standing.{Stands, plain, stands-plain}
-use Rattle.lookup.specs.Answers.{pathless}
+use Rattle.lookup.specs.Answers.{PlainHeld, pathless}
 
 pub no-context : (v : Value) → OneOf (0 ∷ 1 ∷ 2 ∷ 3 ∷ 4 ∷ 6 ∷ 7 ∷ 8 ∷ 9 ∷ 10 ∷ 11 ∷ 12 ∷ 13 ∷ 14 ∷ []) (tagOf the-type v) → (context-place v ≡ none) × (v ≡ pathless v)
 no-context Missing k = (refl, refl)
@@ -122,3 +122,37 @@ pathless-none (Text p) = refl
 pathless-none (SaidChar o n) = refl
 pathless-none (PackedChar p n) = refl
 pathless-none (Merged h n) = refl
+
+pub pathless-plain : (s b : Bytes) (v : Value) → plain-json s b (pathless v) ≡ plain-json s b v
+pathless-plain s b Missing = refl
+pathless-plain s b Null = refl
+pathless-plain s b False = refl
+pathless-plain s b True = refl
+pathless-plain s b Empty = refl
+pathless-plain s b (Context i) = refl
+pathless-plain s b (Place i) = refl
+pathless-plain s b (Literal p) = refl
+pathless-plain s b (Index n) = refl
+pathless-plain s b (IndexText n) = refl
+pathless-plain s b (Name o) = refl
+pathless-plain s b (Text p) = refl
+pathless-plain s b (SaidChar o n) = refl
+pathless-plain s b (PackedChar p n) = refl
+pathless-plain s b (Merged h n) = refl
+
+pub pathless-held : (s b : Bytes) (v : Value) → PlainHeld s b v → PlainHeld s b (pathless v)
+pathless-held s b Missing x = x
+pathless-held s b Null x = x
+pathless-held s b False x = x
+pathless-held s b True x = x
+pathless-held s b Empty x = x
+pathless-held s b (Context i) x = record { plain = refl; stands = x .stands .0 }
+pathless-held s b (Place i) x = x
+pathless-held s b (Literal p) x = x
+pathless-held s b (Index n) x = x
+pathless-held s b (IndexText n) x = x
+pathless-held s b (Name o) x = x
+pathless-held s b (Text p) x = x
+pathless-held s b (SaidChar o n) x = x
+pathless-held s b (PackedChar p n) x = x
+pathless-held s b (Merged h n) x = x

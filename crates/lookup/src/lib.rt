@@ -245,8 +245,8 @@ fn string_member(s: &[u8], b: &[u8], x: Text, t: Text) -> Found
     Found::Is(pathless(w))
 }
 
-// What stands under t in a value that is not merged, taken as an object.
-fn plain_member(s: &[u8], tab: &[u64], b: &[u8], v: Value, t: Text) -> Found
+// What stands under t in a value that is not merged, taken as an object: by its form.
+fn form_member(s: &[u8], tab: &[u64], b: &[u8], v: Value, t: Text) -> Found
     requires { ⌜ Accepted (now s) (now tab) × (length (now b) ≤ 65536) × PlainHeld (now s) (now b) v × Stands (now s) (now b) t ⌝ }
     ensures { λ r. ⌜ PlainFinds (now (s .entry)) (now (b .entry)) (get-member (base-map (plain-json (now (s .entry)) (now (b .entry)) v)) (rest (now (s .entry)) (now (b .entry)) t)) r ⌝ }
 {
@@ -261,6 +261,20 @@ fn plain_member(s: &[u8], tab: &[u64], b: &[u8], v: Value, t: Text) -> Found
         Form::Object(i) => placed(object_member(s, tab, b, i, t)),
         Form::Merged(_, _) => Found::Nothing,
     }
+}
+
+// The same. Most often an object of the plan stands there, which is told without the form.
+fn plain_member(s: &[u8], tab: &[u64], b: &[u8], v: Value, t: Text) -> Found
+    requires { ⌜ Accepted (now s) (now tab) × (length (now b) ≤ 65536) × PlainHeld (now s) (now b) v × Stands (now s) (now b) t ⌝ }
+    ensures { λ r. ⌜ PlainFinds (now (s .entry)) (now (b .entry)) (get-member (base-map (plain-json (now (s .entry)) (now (b .entry)) v)) (rest (now (s .entry)) (now (b .entry)) t)) r ⌝ }
+{
+    let Value::Place(i) = pathless(v) else {
+        return form_member(s, tab, b, v, t);
+    };
+    if places::is_object(s, tab, i) {
+        return placed(object_member(s, tab, b, i, t));
+    }
+    form_member(s, tab, b, v, t)
 }
 
 // The last of the n entries from h on whose key is t.
