@@ -419,10 +419,10 @@ pub fn says_short(s: &[u8], i: usize, w: &[u8], p: usize, n: usize, x: u64, v: u
     requires { ⌜ (length (now s) ≤ 65536) × (i ≤ 65536) × (p + 8 * n < 18446744073709551616) × (x ≡ field (bits (now w)) 56 p) × Short x n v ⌝ }
     ensures { λ r. ⌜ r ≡ same (saying (now (s .entry)) i) (bytes-at (bits (now (w .entry))) p n) ⌝ }
 {
-    let c = byte(s, i + 1);
+    let d = byte(s, i + 1);
     let head = ((x >> 48) % 256) as u8;
-    if head != c {
-        if is_own(c) {
+    if head != d {
+        if is_own(d) {
             return false;
         }
     }
