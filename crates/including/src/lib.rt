@@ -13,13 +13,13 @@ ghost use Rattle.rules.specs.State.{RenderContext};
 ghost use Rattle.rules.specs.Registry.{Registry};
 ghost use Rattle.rules.specs.Expand as rules;
 ghost use Rattle.parts.specs.Holds.{Holds, end, row};
-ghost use Rattle.calls.specs.Calls.{hash-at};
+ghost use Rattle.calls.specs.Calls.{param-at, hash-at};
 ghost use Rattle.places.specs.Accepted.{Accepted};
 ghost use Rattle.scope.specs.Scopes.{blank, base-of};
 ghost use Rattle.scope.specs.Names.{without-path};
 ghost use Rattle.scope.specs.Words.{scopes-of};
 ghost use Rattle.scope.specs.Standing.{ScopesStand};
-ghost use Rattle.expand.specs.Answers.{Setting, Works};
+ghost use Rattle.expand.specs.Answers.{Setting, Expands, Works};
 ghost use Rattle.value.specs.Numbers.{Fits, encoded, decoded};
 ghost use Rattle.value.specs.declared.Value.the-variants.{Merged};
 ghost use Rattle.meaning.specs.Meaning.{json-of};
@@ -29,6 +29,7 @@ ghost use Rattle.including.specs.Pairs.{with-pairs};
 ghost use Rattle.including.specs.Starting.{StartsPartial};
 ghost use Rattle.including.specs.Included.{included, entries-of};
 ghost use Rattle.including.specs.Hashing.{plain-pairs, worked};
+use context::Evaluated;
 use expand::Expanded;
 use expand::Got;
 use expand::Options;
@@ -180,6 +181,31 @@ pub fn plain_pairs(b: &[u8], p: usize) -> usize
     bits::field(b, p + 18 + 8 * (x as usize), 8) as usize
 }
 
+// The value of the parameter at q. Most are paths, which are told by the first two bits.
+fn hash_value(
+    s: &[u8],
+    tab: &[u64],
+    b: &[u8],
+    ent: &[u64],
+    sc: &[u64],
+    used: usize,
+    options: Options,
+    q: usize,
+    d: usize,
+) -> Got
+    requires { ⌜ Accepted (now s) (now tab) × (length (now b) ≤ 65536) × (0 < used) × (used ≤ 32) × ((t : ℕ) × ScopesStand (now s) (now b) (now ent) (scopes-of (now sc)) used t) × Holds (param d) (bits (now b)) q × (length (now sc) ≡ 96) ⌝ }
+    ensures { λ r. ⌜ ((g : Registry) (st : RenderContext) (t : ℕ) → Setting (now (s .entry)) (now (b .entry)) (now (ent .entry)) (scopes-of (now (sc .entry))) used options g st t → Expands (now (s .entry)) (now (b .entry)) (now (ent .entry)) t (rules.expand g st (param-at d (bits (now (b .entry))) q)) r) ⌝ }
+{
+    if bits::field(b, q, 2) != 1 {
+        return expand::expand(s, tab, b, ent, sc, used, options, q, d);
+    }
+    let found = context::evaluate2(s, tab, b, ent, sc, used, options.recursive_lookup, q + 2);
+    match found {
+        Evaluated::Is(v) => Got::Is(v),
+        Evaluated::BadIndex => Got::Bad(20),
+    }
+}
+
 // The numbers of hash values, and 0 or the number of the refusal.
 pub struct Hashed {
     pub values: [u32; 15],
@@ -208,7 +234,7 @@ pub fn hash_all(
     while i < n {
         at = next_pair(b, at, i, d);
         let q = parts::skip_string(b, at);
-        let x = expand::expand(s, tab, b, ent, sc, used, options, q, d);
+        let x = hash_value(s, tab, b, ent, sc, used, options, q, d);
         if let Got::Bad(k) = x {
             return Hashed { values: r, bad: k };
         }

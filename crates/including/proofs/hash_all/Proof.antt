@@ -53,8 +53,8 @@ skip-string-requires c κs =
     c .next-pair .ensures ∙ ap (λ (q : ℕ). pick (eqb (m .i) 0) q (end (string then param (z .args .d)) (bits (z .args .b .now)) q)) (m .inv .1) ∙ next-place (z .args .d) (bits (z .args .b .now)) (z .args .p) (m .i) in
     (z .pre .1, subst (Holds string (bits (z .args .b .now))) (sym place) (key-holds (z .args .d) (bits (z .args .b .now)) (z .args .p) (z .args .n) (m .i) (c .before .loop-test .taken) (z .pre .6)))
 
-expand-requires : tie.Need-expand-requires Inv-loop μ-loop
-expand-requires c κs =
+hash-value-requires : tie.Need-hash-value-requires Inv-loop μ-loop
+hash-value-requires c κs =
     let z = c .before .before .before .before .before .before .before .before .before in
     let m = c .before .before .before .loop in
     let place : c .before .next-pair .result ≡ pair-place (z .args .d) (bits (z .args .b .now)) (z .args .p) (m .i) =
@@ -76,11 +76,11 @@ returns c =
     let k = c .before .x .given .0 .0 in (
       λ g st t h.
           let known = subst (λ (q : ℕ). Expands (z .args .s .now) (z .args .b .now) (z .args .ent .now) t (rules.expand g st (param-at (z .args .d) (bits (z .args .b .now)) q)) (Bad k)) content
-          (subst (λ (r : Got). Expands (z .args .s .now) (z .args .b .now) (z .args .ent .now) t (rules.expand g st (param-at (z .args .d) (bits (z .args .b .now)) (c .before .before .before .before .skip-string .result))) r) (c .before .x .given .1) (c .before .before .before .expand .ensures g st t h)) in
+          (subst (λ (r : Got). Expands (z .args .s .now) (z .args .b .now) (z .args .ent .now) t (rules.expand g st (param-at (z .args .d) (bits (z .args .b .now)) (c .before .before .before .before .skip-string .result))) r) (c .before .x .given .1) (c .before .before .before .hash-value .ensures g st t h)) in
           refusal-works _ _ k (one-refused (z .args .b .now) (z .args .d) (z .args .p) g st (z .args .n) (m .i) k lt (m .inv .3 g st t h .1) (z .pre .6) known),
       λ g st t h.
           let known = subst (λ (q : ℕ). Expands (z .args .s .now) (z .args .b .now) (z .args .ent .now) t (rules.expand g st (param-at (z .args .d) (bits (z .args .b .now)) q)) (Bad k)) content
-          (subst (λ (r : Got). Expands (z .args .s .now) (z .args .b .now) (z .args .ent .now) t (rules.expand g st (param-at (z .args .d) (bits (z .args .b .now)) (c .before .before .before .before .skip-string .result))) r) (c .before .x .given .1) (c .before .before .before .expand .ensures g st t h)) in
+          (subst (λ (r : Got). Expands (z .args .s .now) (z .args .b .now) (z .args .ent .now) t (rules.expand g st (param-at (z .args .d) (bits (z .args .b .now)) (c .before .before .before .before .skip-string .result))) r) (c .before .x .given .1) (c .before .before .before .hash-value .ensures g st t h)) in
           subst (λ (j : ℕ). HashValues (z .args .s .now) (z .args .b .now) (z .args .ent .now) t (z .args .d) (z .args .p) j g st (m .r))
           (sym (counted-some (z .args .b .now) (z .args .d) (z .args .p) g st (z .args .n) (m .i) k lt (m .inv .3 g st t h .1) known)) (m .inv .3 g st t h .0),
     )
@@ -93,7 +93,7 @@ number-of-requires c κs =
     let z = c .before .before .before .before .before .before .before .before .before .before .before .before in
     let h : (t : ℕ) × ScopesStand (z .args .s .now) (z .args .b .now) (z .args .ent .now) (scopes-of (z .args .sc .now)) (z .args .used) t = (z .pre .4 .0, z .pre .4 .1) in
     let w = some-setting (z .args .s .now) (z .args .b .now) (z .args .ent .now) (scopes-of (z .args .sc .now)) (z .args .used) (z .args .options) (z .pre .2) h in
-    got-fits (z .args .s .now) (z .args .b .now) (z .args .ent .now) (w .t) (z .pre .0 .answers) (z .pre .1) (omega (arith, z .pre .4 .2, some-used (z .args .s .now) (z .args .b .now) (z .args .ent .now) (scopes-of (z .args .sc .now)) (z .args .used) (z .args .options) (z .pre .2) h)) _ (c .before .before .expand .result) (c .before .before .expand .ensures (w .g) (w .st) (w .t) (w .setting))
+    got-fits (z .args .s .now) (z .args .b .now) (z .args .ent .now) (w .t) (z .pre .0 .answers) (z .pre .1) (omega (arith, z .pre .4 .2, some-used (z .args .s .now) (z .args .b .now) (z .args .ent .now) (scopes-of (z .args .sc .now)) (z .args .used) (z .args .options) (z .pre .2) h)) _ (c .before .before .hash-value .result) (c .before .before .hash-value .ensures (w .g) (w .st) (w .t) (w .setting))
 
 mul-r : tie.Need-mul-r Inv-loop μ-loop
 mul-r c = let z = c .before .before .before .before .before .before .before .before .before .before .before .before .before in omega (arith, c .before .before .before .before .before .before .loop-test .taken, z .pre .5)
@@ -114,19 +114,19 @@ loop-again c =
     let lt = c .before .before .before .before .before .before .loop-test .taken in
     let one : suc (m .i) ≡ m .i + 1 = omega arith in
     let back : m .i ≡ m .i + 1 - 1 = omega arith in
-    let r = c .before .before .before .expand .result in
+    let r = c .before .before .before .hash-value .result in
     let place : c .before .before .before .before .before .next-pair .result ≡ pair-place (z .args .d) (bits (z .args .b .now)) (z .args .p) (m .i) =
     c .before .before .before .before .before .next-pair .ensures ∙ ap (λ (q : ℕ). pick (eqb (m .i) 0) q (end (string then param (z .args .d)) (bits (z .args .b .now)) q)) (m .inv .1) ∙ next-place (z .args .d) (bits (z .args .b .now)) (z .args .p) (m .i) in
     let content : c .before .before .before .before .skip-string .result ≡ content-place (z .args .d) (bits (z .args .b .now)) (z .args .p) (m .i) = c .before .before .before .before .skip-string .ensures ∙ ap (end string (bits (z .args .b .now))) place in
     let h : (t : ℕ) × ScopesStand (z .args .s .now) (z .args .b .now) (z .args .ent .now) (scopes-of (z .args .sc .now)) (z .args .used) t = (z .pre .4 .0, z .pre .4 .1) in
     let w = some-setting (z .args .s .now) (z .args .b .now) (z .args .ent .now) (scopes-of (z .args .sc .now)) (z .args .used) (z .args .options) (z .pre .2) h in
-    let fits : GotFits r = got-fits (z .args .s .now) (z .args .b .now) (z .args .ent .now) (w .t) (z .pre .0 .answers) (z .pre .1) (omega (arith, z .pre .4 .2, some-used (z .args .s .now) (z .args .b .now) (z .args .ent .now) (scopes-of (z .args .sc .now)) (z .args .used) (z .args .options) (z .pre .2) h)) _ (c .before .before .before .expand .result) (c .before .before .before .expand .ensures (w .g) (w .st) (w .t) (w .setting)) in
+    let fits : GotFits r = got-fits (z .args .s .now) (z .args .b .now) (z .args .ent .now) (w .t) (z .pre .0 .answers) (z .pre .1) (omega (arith, z .pre .4 .2, some-used (z .args .s .now) (z .args .b .now) (z .args .ent .now) (scopes-of (z .args .sc .now)) (z .args .used) (z .args .options) (z .pre .2) h)) _ (c .before .before .before .hash-value .result) (c .before .before .before .hash-value .ensures (w .g) (w .st) (w .t) (w .setting)) in
     let v = c .before .enum-told .given .0 .0 in (
       length-set (m .r) (m .i) (c .number-of .result) ∙ m .inv .0,
       place ∙ ap (pair-place (z .args .d) (bits (z .args .b .now)) (z .args .p)) back,
       omega (arith, lt),
       λ g st t h.
-          let known = subst (λ (k : ℕ). Expands (z .args .s .now) (z .args .b .now) (z .args .ent .now) t (rules.expand g st (param-at (z .args .d) (bits (z .args .b .now)) k)) r) content (c .before .before .before .expand .ensures g st t h) in
+          let known = subst (λ (k : ℕ). Expands (z .args .s .now) (z .args .b .now) (z .args .ent .now) t (rules.expand g st (param-at (z .args .d) (bits (z .args .b .now)) k)) r) content (c .before .before .before .hash-value .ensures g st t h) in
           let is = subst (Expands (z .args .s .now) (z .args .b .now) (z .args .ent .now) t (rules.expand g st (param-at (z .args .d) (bits (z .args .b .now)) (content-place (z .args .d) (bits (z .args .b .now)) (z .args .p) (m .i))))) (c .before .enum-told .given .1) known in (
             subst (λ (k : ℕ). HashValues (z .args .s .now) (z .args .b .now) (z .args .ent .now) t (z .args .d) (z .args .p) k g st (set (m .r) (m .i) (c .number-of .result))) one
                 (values-more (z .args .s .now) (z .args .b .now) (z .args .ent .now) t (z .args .d) (z .args .p) g st (m .i) (m .r) (c .number-of .result) (omega (arith, m .inv .0, lt, z .pre .5)) (m .inv .3 g st t h .0)
@@ -161,7 +161,7 @@ hash-all-spec =
     loop-holds
     next-pair-requires
     skip-string-requires
-    expand-requires
+    hash-value-requires
     enum-known-x
     returns
     enum-told
