@@ -10,6 +10,7 @@ ghost use Rattle.rules.specs.Bytes.{Bytes};
 ghost use Rattle.rules.specs.Bits.{bits};
 ghost use Rattle.rules.specs.Bundle.{param, call-of, element-of, body};
 ghost use Rattle.bits.specs.Packed.{bytes-at};
+ghost use Rattle.direct.specs.Direct.{plain as is-plain};
 ghost use Rattle.parts.specs.Holds.{Holds};
 ghost use Rattle.parts.specs.HoldsLaws.{Passed};
 ghost use Rattle.template.specs.Views.{in-body};
@@ -87,21 +88,18 @@ fn put_text(page: &mut [u8], texts: &mut [u8], w: Writer, b: &[u8], p: usize, n:
     direct::set_short(page, w, n, x)
 }
 
-// Lent bytes that nothing is escaped of: 256 times their count, and the last of them.
+// Lent bytes that go out as they are: 256 times their count, and the last of them.
 fn put_bytes(page: &mut [u8], texts: &mut [u8], w: Writer, v: &[u8]) -> usize
-    requires { ⌜ length (now v) ≤ 65536 ⌝ }
+    requires { ⌜ (length (now v) ≤ 65536) × (is-plain (w .«has_indent») true (now v) ≡ true) ⌝ }
     ensures { λ r. ⌜ PutPlain (now (v .entry)) w (now (page .entry)) (now (texts .entry)) (now (page .exit)) (now (texts .exit)) r ⌝ }
 {
-    if !direct::is_plain(v, w.has_indent, true) {
-        return 0;
-    }
     if w.block_text {
         return direct::set_bytes(texts, w, v);
     }
     direct::set_bytes(page, w, v)
 }
 
-// What a value prints that stands in the plan so, where no indent is due.
+// What a value prints that stands in the plan so and needs no escaping, where no indent is due.
 fn put_value(page: &mut [u8], texts: &mut [u8], w: Writer, s: &[u8], tab: &[u64], v: Value) -> usize
     requires { ⌜ Accepted (now s) (now tab) × ((b : Bytes) × Known (now s) b v) ⌝ }
     ensures { λ r. ⌜ PutValue (now (s .entry)) v w (now (page .entry)) (now (texts .entry)) (now (page .exit)) (now (texts .exit)) r ⌝ }
@@ -109,7 +107,7 @@ fn put_value(page: &mut [u8], texts: &mut [u8], w: Writer, s: &[u8], tab: &[u64]
     if w.has_indent & w.indent_before_write {
         return 0;
     }
-    let p = print::value_span(s, tab, v);
+    let p = print::calm_span(s, tab, v);
     let at = p.start;
     let e = p.end;
     if at < e {

@@ -5,3 +5,4 @@ pub mod Digits
 mod Held
 mod Numbers
 pub mod Spans
+pub mod Calm

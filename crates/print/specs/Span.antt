@@ -1,9 +1,11 @@
 -- Bytes of the plan that a value prints just as they stand there.
 use Prim.Native.Nat.{ℕ, _+_}
+use mathlib.Core.Bool.{Bool, _&&_, not}
 use mathlib.Core.Logic.{_⊎_}
 use mathlib.Core.Path.{_≡_}
-use lib.Dec.{eqb}
-use Rattle.rules.specs.Bytes.{Bytes, pick, byte-at}
+use lib.Dec.{eqb, leb}
+use lib.ListN.{drop}
+use Rattle.rules.specs.Bytes.{Bytes, pick, byte-at, run}
 use Rattle.rules.specs.Scan.{minus-end, whole-end}
 use Rattle.saying.specs.Said.{own-end}
 use Rattle.places.specs.Places.{start-of, tree-at}
@@ -51,3 +53,38 @@ value-span s (Text p) = no-span
 value-span s (SaidChar o n) = no-span
 value-span s (PackedChar p n) = no-span
 value-span s (Merged h n) = no-span
+
+-- The same, where nothing of it is escaped
+
+-- a byte of a string that stands for itself, and has no entity
+abbrev pub is-calm : ℕ → Bool
+is-calm c = leb 32 c && (not (eqb c 34) && (not (eqb c 38) && (not (eqb c 39) && (not (eqb c 60) && (not (eqb c 61) && (not (eqb c 62) && (not (eqb c 92) && not (eqb c 96))))))))
+
+abbrev pub calm-end : Bytes → ℕ → ℕ
+calm-end s i = i + run is-calm (drop i s)
+
+unfoldable pub calm-string : Bytes → ℕ → Span
+calm-string s i = pick (eqb (byte-at s (calm-end s i)) 34) (record { start = i; end = calm-end s i }) no-span
+
+unfoldable pub calm-at : Bytes → ℕ → Span
+calm-at s q = pick (eqb (byte-at s q) 34) (calm-string s (q + 1)) (number-span s q)
+
+abbrev pub calm-of : Bytes → ℕ → Span
+calm-of s i = calm-at s (start-of (tree-at s i))
+
+abbrev pub calm-span : Bytes → Value → Span
+calm-span s Missing = no-span
+calm-span s Null = no-span
+calm-span s False = no-span
+calm-span s True = no-span
+calm-span s Empty = no-span
+calm-span s (Context i) = calm-of s i
+calm-span s (Place i) = calm-of s i
+calm-span s (Literal p) = no-span
+calm-span s (Index n) = no-span
+calm-span s (IndexText n) = no-span
+calm-span s (Name o) = no-span
+calm-span s (Text p) = no-span
+calm-span s (SaidChar o n) = no-span
+calm-span s (PackedChar p n) = no-span
+calm-span s (Merged h n) = no-span

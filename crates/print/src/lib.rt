@@ -19,7 +19,7 @@ ghost use Rattle.meaning.specs.Forms.{Known};
 ghost use Rattle.meaning.specs.Means.{Means};
 ghost use Rattle.text.specs.Strip.{stripped};
 ghost use Rattle.print.specs.Printed.{printed, IsList};
-ghost use Rattle.print.specs.Span.{string-span, span-of, InPlan, value-span};
+ghost use Rattle.print.specs.Span.{string-span, span-of, InPlan, value-span, is-calm, calm-end, calm-string, calm-of, calm-span};
 ghost use Rattle.print.specs.Target as target;
 ghost use Rattle.print.specs.Target.{met};
 use meaning::Form;
@@ -232,6 +232,66 @@ pub fn value_span(s: &[u8], tab: &[u64], v: Value) -> Span
     match v {
         Value::Context(i) => place_span(s, tab, i),
         Value::Place(i) => place_span(s, tab, i),
+        _ => Span { start: 0, end: 0 },
+    }
+}
+
+// Whether a byte of a string stands for itself, and is printed so whether that is escaped or not.
+fn is_calm(c: u8) -> bool
+    ensures { λ r. ⌜ r ≡ is-calm c ⌝ }
+{
+    (32 <= c)
+        & ((c != 34)
+            & ((c != 38)
+                & ((c != 39) & ((c != 60) & ((c != 61) & ((c != 62) & ((c != 92) & (c != 96))))))))
+}
+
+// The first place from i on that has no such byte.
+fn calm_end(s: &[u8], i: usize) -> usize
+    ensures { λ r. ⌜ r ≡ calm-end (now (s .entry)) i ⌝ }
+{
+    let mut j = i;
+    while j < s.len() {
+        if !is_calm(s[j]) {
+            return j;
+        }
+        j += 1;
+    }
+    j
+}
+
+// What a string says whose bytes begin at i, if all of them are such.
+fn calm_string(s: &[u8], i: usize) -> Span
+    ensures { λ r. ⌜ r ≡ calm-string (now (s .entry)) i ⌝ }
+{
+    let e = calm_end(s, i);
+    if scan::byte(s, e) == 34 {
+        return Span { start: i, end: e };
+    }
+    Span { start: 0, end: 0 }
+}
+
+// What the value at the place i prints, if that stands in the plan just so and nothing of it is escaped.
+fn calm_place(s: &[u8], tab: &[u64], i: usize) -> Span
+    requires { ⌜ Accepted (now s) (now tab) × (i < places (now s)) ⌝ }
+    ensures { λ r. ⌜ r ≡ calm-of (now (s .entry)) i ⌝ }
+{
+    let q = places::start(s, tab, i);
+    if scan::byte(s, q) == 34 {
+        return calm_string(s, q + 1);
+    }
+    let e = scan::whole_end(s, scan::minus_end(s, q));
+    Span { start: q, end: e }
+}
+
+// The same of a value: one pass over its bytes tells both.
+pub fn calm_span(s: &[u8], tab: &[u64], v: Value) -> Span
+    requires { ⌜ Accepted (now s) (now tab) × ((i : ℕ) → InPlan v i → i < places (now s)) ⌝ }
+    ensures { λ r. ⌜ r ≡ calm-span (now (s .entry)) v ⌝ }
+{
+    match v {
+        Value::Context(i) => calm_place(s, tab, i),
+        Value::Place(i) => calm_place(s, tab, i),
         _ => Span { start: 0, end: 0 },
     }
 }

@@ -4,7 +4,6 @@ use mathlib.Core.Bool.{Bool, true, false}
 use mathlib.Core.Path.{_≡_, refl, sym, ap, _∙_}
 use native.Mathlib.Omega.{arith}
 use lib.ListN.{length, take, drop, length-take, length-drop}
-use borrow.Author.Tests.{not-false}
 use Rattle.rules.specs.Bytes.{Bytes}
 use Rattle.rules.specs.Bits.{bits}
 use Rattle.rules.specs.BundleLaws.{bits-binary}
@@ -19,60 +18,53 @@ use Rattle.plain.proofs.put_bytes.Statement.{statement}
 use Rattle.plain.proofs.put_bytes.Tie as tie
 use Rattle.plain.proofs.put_bytes.Reads as reads
 use Rattle.plain.proofs.put_bytes.Lts as lts
-use Rattle.direct.proofs.is_plain.Reads as is-plain-reads
 use Rattle.direct.proofs.set_bytes.Reads as set-bytes-reads
 
-is-plain-requires : tie.Need-is-plain-requires
-is-plain-requires c κs = search needs
-
-returns : tie.Need-returns
-returns c = record { put = record { none = λ _. (refl, refl); some = λ z. absurd (z refl) }; same = λ z. absurd (z refl) }
-
 set-bytes-requires : tie.Need-set-bytes-requires
-set-bytes-requires c κs = search needs
+set-bytes-requires c κs = (c .before .before .before .before .before) .pre .0
 
 same-length : tie.Need-same-length
 same-length c = search needs
 
-returns-2 : tie.Need-returns-2
-returns-2 c = let s = (c .before .before .before .before .before .before .before .before .before .before) in
+returns : tie.Need-returns
+returns c = let s = (c .before .before .before .before .before .before .before .before) in
     let a = s .args in
     let o = a .texts .now in
     let v = a .v .now in
     let g = (c .before .before) .set-bytes in
-    let d = plain-means (a .w .«has_indent») true v (sym ((c .before .before .before .before .before .before) .is-plain .ensures) ∙ not-false ((c .before .before .before .before .before .before) .is-plain .result) ((c .before .before .before .before .before) .if1 .left)) in
+    let d = plain-means (a .w .«has_indent») true v (s .pre .1) in
     record {
       put = record {
         none = λ z. (refl, none-set v o (g .last .0) (place-of (a .w)) (g .result) (g .ensures .1) z);
         some = λ z. let k = bytes-set v o (g .last .0) (a .w) (g .result) (g .ensures .0) (g .ensures .1) (g .ensures .2) (d .0) z in record {
           byte = k .byte;
           fits = omega (arith, k .fits, s .good);
-          is = λ i. on-texts (written-text i v) (a .w) (behind (g .result / 256) (g .result % 256) (a .w)) (a .page .now) (a .texts .now) (g .last .0) ((c .before .before .before .before) .if2 .taken) (k .is i);
+          is = λ i. on-texts (written-text i v) (a .w) (behind (g .result / 256) (g .result % 256) (a .w)) (a .page .now) (a .texts .now) (g .last .0) ((c .before .before .before .before) .if1 .taken) (k .is i);
         };
       };
       same = λ _. d .1;
     }
 
 set-bytes-requires-2 : tie.Need-set-bytes-requires-2
-set-bytes-requires-2 c κs = search needs
+set-bytes-requires-2 c κs = (c .before .before .before .before .before) .pre .0
 
 same-length-2 : tie.Need-same-length-2
 same-length-2 c = search needs
 
-returns-3 : tie.Need-returns-3
-returns-3 c = let s = (c .before .before .before .before .before .before .before .before .before .before) in
+returns-2 : tie.Need-returns-2
+returns-2 c = let s = (c .before .before .before .before .before .before .before .before) in
     let a = s .args in
     let o = a .page .now in
     let v = a .v .now in
     let g = (c .before .before) .set-bytes2 in
-    let d = plain-means (a .w .«has_indent») true v (sym ((c .before .before .before .before .before .before) .is-plain .ensures) ∙ not-false ((c .before .before .before .before .before .before) .is-plain .result) ((c .before .before .before .before .before) .if1 .left)) in
+    let d = plain-means (a .w .«has_indent») true v (s .pre .1) in
     record {
       put = record {
         none = λ z. (none-set v o (g .last .0) (place-of (a .w)) (g .result) (g .ensures .1) z, refl);
         some = λ z. let k = bytes-set v o (g .last .0) (a .w) (g .result) (g .ensures .0) (g .ensures .1) (g .ensures .2) (d .0) z in record {
           byte = k .byte;
           fits = omega (arith, k .fits, s .good);
-          is = λ i. on-page (written-text i v) (a .w) (behind (g .result / 256) (g .result % 256) (a .w)) (a .page .now) (a .texts .now) (g .last .0) ((c .before .before .before .before) .if2 .left) (k .is i);
+          is = λ i. on-page (written-text i v) (a .w) (behind (g .result / 256) (g .result % 256) (a .w)) (a .page .now) (a .texts .now) (g .last .0) ((c .before .before .before .before) .if1 .left) (k .is i);
         };
       };
       same = λ _. d .1;
@@ -81,12 +73,4 @@ returns-3 c = let s = (c .before .before .before .before .before .before .before
 pub put-bytes-spec : {M : Type 1} → statement M
 put-bytes-spec =
     tie.close
-    (tie.spec
-    is-plain-requires
-    returns
-    set-bytes-requires
-    same-length
-    returns-2
-    set-bytes-requires-2
-    same-length-2
-    returns-3)
+    (tie.spec set-bytes-requires same-length returns set-bytes-requires-2 same-length-2 returns-2)

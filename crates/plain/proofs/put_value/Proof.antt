@@ -4,8 +4,8 @@ use mathlib.Core.Bool.{Bool, true, false}
 use mathlib.Core.Path.{_≡_, refl, sym, ap, _∙_}
 use native.Mathlib.Omega.{arith}
 use lib.ListN.{length, take, drop, length-take, length-drop}
-use borrow.Author.Tests.{not-false}
-use Rattle.rules.specs.Bytes.{Bytes}
+use borrow.Author.Tests.{eq-eqb}
+use Rattle.rules.specs.Bytes.{Bytes, run}
 use Rattle.rules.specs.Bits.{bits}
 use Rattle.rules.specs.BundleLaws.{bits-binary}
 use Rattle.rules.specs.Value.{render}
@@ -15,6 +15,8 @@ use Rattle.output.proofs.Outputs.{on-texts, on-page}
 use Rattle.support.specs.Feed.{escaped, fed}
 use Rattle.places.specs.Nodes.{short}
 use Rattle.print.proofs.Spans.{plan-within, span-within, span-means}
+use Rattle.support.specs.Runs.{quiet-byte}
+use Rattle.print.proofs.Calm.{calm-is, calm-means}
 use Rattle.direct.specs.Direct.{behind}
 use Rattle.plain.specs.Put.{either-escaped}
 use borrow.Author.Needs.{needs}
@@ -23,13 +25,13 @@ use Rattle.plain.proofs.put_value.Tie as tie
 use Rattle.plain.proofs.put_value.Reads as reads
 use Rattle.plain.proofs.put_value.Lts as lts
 use Rattle.plain.proofs.put_bytes.Reads as put-bytes-reads
-use Rattle.print.proofs.value_span.Reads as value-span-reads
+use Rattle.print.proofs.calm_span.Reads as calm-span-reads
 
 returns : tie.Need-returns
 returns c = record { none = λ _. (refl, refl); some = λ z. absurd (z refl) }
 
-value-span-requires : tie.Need-value-span-requires
-value-span-requires c κs = let s = (c .before .before .before .before .before .before) in let a = s .args in (s .pre .0, plan-within (a .s .now) (s .pre .1 .0) (a .v) (s .pre .1 .1))
+calm-span-requires : tie.Need-calm-span-requires
+calm-span-requires c κs = let s = (c .before .before .before .before .before .before) in let a = s .args in (s .pre .0, plan-within (a .s .now) (s .pre .1 .0) (a .v) (s .pre .1 .1))
 
 sub-put-bytes : tie.Need-sub-put-bytes
 sub-put-bytes c = search needs
@@ -40,15 +42,21 @@ part-put-bytes-start c = search needs
 part-put-bytes-end : tie.Need-part-put-bytes-end
 part-put-bytes-end c = let s = (c .before .before .before .before .before .before .before .before .before .before) in
     let a = s .args in
-    let p = (c .before .before .before) .value-span in
+    let p = (c .before .before .before) .calm-span in
     let lt = (c .before .before) .if2 .taken in
-    span-within (a .s .now) (s .pre .1 .0) (a .v) (s .pre .0 .answers) (s .pre .1 .1) (p .result) (λ z. absurd (omega (arith, z, lt))) (p .ensures) lt
+    span-within (a .s .now) (s .pre .1 .0) (a .v) (s .pre .0 .answers) (s .pre .1 .1) (p .result) (λ z. absurd (omega (arith, z, lt))) (calm-is (a .s .now) (a .w .«has_indent») (p .result) (λ z. absurd (omega (arith, z, lt))) (a .v) (p .ensures)) lt
 
 put-bytes-requires : tie.Need-put-bytes-requires
-put-bytes-requires c κs = let s = (c .before .before .before .before .before .before .before .before .before .before .before) in
+put-bytes-requires c κs =
+    let s = c .before .before .before .before .before .before .before .before .before .before .before in
     let a = s .args in
-    let p = (c .before .before .before .before) .value-span .result in
-    omega (arith, length-take (p .end - p .start) (drop (p .start) (a .s .now)), length-drop (p .start) (a .s .now), short (a .s .now) (s .pre .0 .answers))
+    let f = c .before .before .before .before .calm-span in
+    let p = f .result in
+    let lt = c .before .before .before .if2 .taken in
+    let v : Bytes = take (p .end - p .start) (drop (p .start) (a .s .now)) in (
+      omega (arith, length-take (p .end - p .start) (drop (p .start) (a .s .now)), length-drop (p .start) (a .s .now), short (a .s .now) (s .pre .0 .answers)),
+      eq-eqb (run (quiet-byte (a .w .«has_indent») true) v) (length v) (calm-means (a .s .now) (a .w .«has_indent») p (λ z. absurd (omega (arith, z, lt))) (a .v) (f .ensures)),
+    )
 
 same-length : tie.Need-same-length
 same-length c = search needs
@@ -59,7 +67,7 @@ same-length-2 c = search needs
 returns-2 : tie.Need-returns-2
 returns-2 c = let s = (c .before .before .before .before .before .before .before .before .before .before .before .before .before .before .before .before) in
     let a = s .args in
-    let p = (c .before .before .before .before .before .before .before .before .before) .value-span in
+    let p = (c .before .before .before .before .before .before .before .before .before) .calm-span in
     let lt = (c .before .before .before .before .before .before .before .before) .if2 .taken in
     let f = (c .before .before .before .before) .put-bytes in
     let v : Bytes = take (p .result .end - p .result .start) (drop (p .result .start) (a .s .now)) in
@@ -68,7 +76,7 @@ returns-2 c = let s = (c .before .before .before .before .before .before .before
       some = λ z. let q = f .ensures .put .some z in record {
         byte = q .byte;
         fits = q .fits;
-        is = λ b known i e. span-means (a .s .now) b (a .v) (s .pre .0 .answers) known (p .result) (λ y. absurd (omega (arith, y, lt))) (p .ensures)
+        is = λ b known i e. span-means (a .s .now) b (a .v) (s .pre .0 .answers) known (p .result) (λ y. absurd (omega (arith, y, lt))) (calm-is (a .s .now) (a .w .«has_indent») (p .result) (λ y. absurd (omega (arith, y, lt))) (a .v) (p .ensures))
             (λ j. outputs (behind (f .result / 256) (f .result % 256) (a .w)) (f .last .0) (f .last .1 .0) ≡ fed i (escaped e (render j)) (outputs (a .w) (a .page .now) (a .texts .now)))
             (λ j m. q .is i ∙ ap (λ (x : Bytes). fed i x (outputs (a .w) (a .page .now) (a .texts .now))) (sym (either-escaped e v (f .ensures .same z)) ∙ ap (escaped e) (sym m)));
       };
@@ -82,7 +90,7 @@ put-value-spec =
     tie.close
     (tie.spec
     returns
-    value-span-requires
+    calm-span-requires
     sub-put-bytes
     part-put-bytes-start
     part-put-bytes-end

@@ -1,0 +1,240 @@
+-- What a value prints that stands in the plan, where nothing of it is escaped.
+use Prim.Native.Nat.{ℕ, zero, suc, _+_, _-_, _≤_, _<_}
+use mathlib.Core.Bool.{Bool, true, false, _&&_, not}
+use mathlib.Core.List.{List, [], _∷_}
+use mathlib.Core.Path.{_≡_, refl, sym, ap, _∙_, subst}
+use native.Mathlib.Numerals.{add-one}
+use native.Mathlib.Omega.{arith}
+use lib.Dec.{eqb, leb, ltb}
+use lib.ListN.{length, getD, take, drop}
+use lib.Seq.{drop-cons, getD-drop}
+use types.Run.{OneOf, miss}
+use denote.Enum.Declared.{tagOf}
+use borrow.Author.Tests.{eqb-true, leb-true, le-leb, ne-eqb, not-true}
+use Rattle.rules.specs.Bytes.{Bytes, pick, byte-at, run}
+use Rattle.rules.specs.Order.{and-left, and-right, differ}
+use Rattle.rules.specs.Support.{entities}
+use Rattle.rules.specs.Scan.{is-digit, minus-end, whole-end, slice}
+use Rattle.scan.proofs.Bounds.{whole-goes}
+use Rattle.support.specs.Runs.{quiet-byte}
+use Rattle.support.specs.Table.{row-in, row-of}
+use Rattle.saying.specs.Said.{is-own, own-end}
+use Rattle.value.proofs.Value.{the-type}
+use Rattle.value.specs.declared.Value.{Value}
+use Rattle.value.specs.declared.Value.the-variants.{Missing, Null, False, True, Empty, Context, Place, Literal, Index, IndexText, Name, Text, SaidChar, PackedChar, Merged}
+use Rattle.places.specs.Places.{start-of, tree-at}
+use Rattle.print.specs.declared.Span.{Span}
+use Rattle.print.specs.Span.{no-span, string-span, number-span, span-at, span-of, value-span, is-calm, calm-end, calm-string, calm-at, calm-of, calm-span}
+use Rattle.print.proofs.Spans.{others}
+
+pub calm-number : (s : Bytes) (q : ℕ) → (byte-at s q ≡ 34 → ⊥) → calm-at s q ≡ number-span s q
+unfolding calm-at
+calm-number s q n = rw (ne-eqb (byte-at s q) 34 n)
+
+pub elsewhere : (s : Bytes) (v : Value) → OneOf others (tagOf the-type v) → no-span ≡ calm-span s v
+elsewhere s Missing k = refl
+elsewhere s Null k = refl
+elsewhere s False k = refl
+elsewhere s True k = refl
+elsewhere s Empty k = refl
+elsewhere s (Context i) k = absurd (miss others 5 tt k)
+elsewhere s (Place i) k = absurd (miss others 6 tt k)
+elsewhere s (Literal p) k = refl
+elsewhere s (Index n) k = refl
+elsewhere s (IndexText n) k = refl
+elsewhere s (Name o) k = refl
+elsewhere s (Text p) k = refl
+elsewhere s (SaidChar o n) k = refl
+elsewhere s (PackedChar p n) k = refl
+elsewhere s (Merged h n) k = refl
+
+-- A byte
+
+own-by : (a b c d e f g h i : Bool) → (a && (not b && (not c && (not d && (not e && (not f && (not g && (not h && not i)))))))) ≡ true → (a && (not b && not h)) ≡ true
+own-by true true c d e f g h i k = differ (sym k)
+own-by true false true d e f g h i k = differ (sym k)
+own-by true false false true e f g h i k = differ (sym k)
+own-by true false false false true f g h i k = differ (sym k)
+own-by true false false false false true g h i k = differ (sym k)
+own-by true false false false false false true h i k = differ (sym k)
+own-by true false false false false false false true i k = differ (sym k)
+own-by true false false false false false false false i k = refl
+own-by false b c d e f g h i k = differ (sym k)
+
+calm-own : (c : ℕ) → is-calm c ≡ true → is-own c ≡ true
+calm-own c h = own-by (leb 32 c) (eqb c 34) (eqb c 38) (eqb c 39) (eqb c 60) (eqb c 61) (eqb c 62) (eqb c 92) (eqb c 96) h
+
+-- none of the rows of the table
+row-by : (b c d e f g i : Bool) → (not b && (not c && (not d && (not e && (not f && (not g && not i)))))) ≡ true
+    → not (ltb (pick e 0 (suc (pick g 0 (suc (pick b 0 (suc (pick c 0 (suc (pick d 0 (suc (pick i 0 (suc (pick f 0 (suc 0)))))))))))))) 7) ≡ true
+row-by true c d e f g i k = differ (sym k)
+row-by false true d e f g i k = differ (sym k)
+row-by false false true e f g i k = differ (sym k)
+row-by false false false true f g i k = differ (sym k)
+row-by false false false false true g i k = differ (sym k)
+row-by false false false false false true i k = differ (sym k)
+row-by false false false false false false true k = differ (sym k)
+row-by false false false false false false false k = refl
+
+without : (a b c d e f g h i : Bool) → (a && (not b && (not c && (not d && (not e && (not f && (not g && (not h && not i)))))))) ≡ true → (not b && (not c && (not d && (not e && (not f && (not g && not i)))))) ≡ true
+without false b c d e f g h i k = differ (sym k)
+without true true c d e f g h i k = differ (sym k)
+without true false true d e f g h i k = differ (sym k)
+without true false false true e f g h i k = differ (sym k)
+without true false false false true f g h i k = differ (sym k)
+without true false false false false true g h i k = differ (sym k)
+without true false false false false false true h i k = differ (sym k)
+without true false false false false false false true i k = differ (sym k)
+without true false false false false false false false i k = k
+
+calm-quiet : (has : Bool) (c : ℕ) → is-calm c ≡ true → quiet-byte has true c ≡ true
+unfolding row-in
+calm-quiet has c h =
+    let low = leb-true 32 c (and-left (leb 32 c) (not (eqb c 34) && (not (eqb c 38) && (not (eqb c 39) && (not (eqb c 60) && (not (eqb c 61) && (not (eqb c 62) && (not (eqb c 92) && not (eqb c 96)))))))) h) in
+    let w = without (leb 32 c) (eqb c 34) (eqb c 38) (eqb c 39) (eqb c 60) (eqb c 61) (eqb c 62) (eqb c 92) (eqb c 96) h in
+    let r = row-by (eqb c 34) (eqb c 38) (eqb c 39) (eqb c 60) (eqb c 61) (eqb c 62) (eqb c 96) w in
+    ap (λ (t : Bool). pick t (not has) (not (ltb (row-of c) 7))) (ne-eqb c 10 (λ z. omega (arith, z, low))) ∙ r
+
+digit-calm : (c : ℕ) → is-digit c ≡ true → is-calm c ≡ true
+unfolding is-digit
+digit-calm c d =
+    let low = leb-true 48 c (and-left (leb 48 c) (leb c 57) d) in
+    let high = leb-true c 57 (and-right (leb 48 c) (leb c 57) d) in
+    rw (
+      le-leb 32 c (omega arith),
+      ne-eqb c 34 (λ z. omega arith),
+      ne-eqb c 38 (λ z. omega arith),
+      ne-eqb c 39 (λ z. omega arith),
+      ne-eqb c 60 (λ z. omega arith),
+      ne-eqb c 61 (λ z. omega arith),
+      ne-eqb c 62 (λ z. omega arith),
+      ne-eqb c 92 (λ z. omega arith),
+      ne-eqb c 96 (λ z. omega arith),
+    )
+
+-- Bytes: nothing of them is escaped, and no line ends inside
+
+abbrev pub Quiet : Bool → Bytes → Type 0
+Quiet has v = run (quiet-byte has true) v ≡ length v
+
+module _ (has : Bool) where
+  quiet-cons : (c : ℕ) (v : Bytes) → is-calm c ≡ true → Quiet has v → Quiet has (c ∷ v)
+  unfolding run
+  quiet-cons c v h q = ap (λ (t : Bool). pick t (suc (run (quiet-byte has true) v)) 0) (calm-quiet has c h) ∙ ap suc q
+
+  -- a run of them by any test that makes them so
+  quiet-run : (p : ℕ → Bool) → ((c : ℕ) → p c ≡ true → is-calm c ≡ true) → (l : Bytes) → Quiet has (take (run p l) l)
+  unfolding run
+  quiet-run p f [] = refl
+  quiet-run p f (c ∷ l) = by (p c) refl (quiet-run p f l)
+    where
+      by : (t : Bool) → p c ≡ t → Quiet has (take (run p l) l) → Quiet has (take (pick t (suc (run p l)) 0) (c ∷ l))
+      by true e q = quiet-cons c (take (run p l) l) (f c e) q
+      by false e q = refl
+
+  -- the digits of a number
+  slice-cons : (s : Bytes) (d w : ℕ) → d < w → w ≤ length s → slice s d w ≡ byte-at s d ∷ slice s (d + 1) w
+  slice-cons s d w lt le =
+      let z : w - d ≡ suc (w - (d + 1)) = omega arith in
+      let l : d < length s = omega arith in
+      rw (z, drop-cons s d 0 l, add-one d)
+
+  quiet-none : (l : Bytes) → Quiet has (take 0 l)
+  unfolding run
+  quiet-none l = refl
+
+  whole-quiet : (s : Bytes) (d w : ℕ) → w ≡ whole-end s d → (w ≡ 0 → ⊥) → Quiet has (slice s d w)
+  unfolding whole-end
+  whole-quiet s d w e n = by (eqb (byte-at s d) 48) (is-digit (byte-at s d)) refl refl e
+    where
+      goes : (d + 1 ≤ w) × (w ≤ length s)
+      goes = let g = whole-goes s d in (subst (λ (x : ℕ). (x ≡ 0 → ⊥) → d + 1 ≤ x) (sym e) (g .on) n, subst (λ (x : ℕ). x ≤ length s) (sym e) (g .within))
+
+      first : is-calm (byte-at s d) ≡ true → Quiet has (slice s (d + 1) w) → Quiet has (slice s d w)
+      first h q = subst (Quiet has) (sym (slice-cons s d w (omega (arith, goes .0)) (goes .1))) (quiet-cons (byte-at s d) (slice s (d + 1) w) h q)
+
+      by : (t u : Bool) → eqb (byte-at s d) 48 ≡ t → is-digit (byte-at s d) ≡ u → w ≡ pick t (d + 1) (pick u ((d + 1) + run is-digit (drop (d + 1) s)) 0) → Quiet has (slice s d w)
+      by true u f g m =
+          let z : w - (d + 1) ≡ 0 = omega (arith, m) in
+          first (ap is-calm (eqb-true (byte-at s d) 48 f)) (subst (λ (x : ℕ). Quiet has (take x (drop (d + 1) s))) (sym z) (quiet-none (drop (d + 1) s)))
+      by false true f g m =
+          let z : w - (d + 1) ≡ run is-digit (drop (d + 1) s) = omega (arith, m) in
+          first (digit-calm (byte-at s d) g) (subst (λ (x : ℕ). Quiet has (take x (drop (d + 1) s))) (sym z) (quiet-run is-digit digit-calm (drop (d + 1) s)))
+      by false false f g m = absurd (n m)
+
+  number-quiet : (s : Bytes) (q : ℕ) → (whole-end s (minus-end s q) ≡ 0 → ⊥) → Quiet has (slice s q (whole-end s (minus-end s q)))
+  number-quiet s q n = by (eqb (byte-at s q) 45) refl (minus-end s q) refl n
+    where
+      by : (t : Bool) → eqb (byte-at s q) 45 ≡ t → (d : ℕ) → d ≡ pick t (q + 1) q → (whole-end s d ≡ 0 → ⊥) → Quiet has (slice s q (whole-end s d))
+      by true f d m n =
+          let w = whole-end s d in
+          let on = whole-goes s d .on n in
+          let h : Quiet has (slice s (q + 1) w) = subst (λ (x : ℕ). Quiet has (slice s x w)) m (whole-quiet s d w refl n) in
+          subst (Quiet has) (sym (slice-cons s q w (omega (arith, on, m)) (whole-goes s d .within))) (quiet-cons (byte-at s q) (slice s (q + 1) w) (ap is-calm (eqb-true (byte-at s q) 45 f)) h)
+      by false f d m n = subst (λ (x : ℕ). Quiet has (slice s x (whole-end s d))) m (whole-quiet s d (whole-end s d) refl n)
+
+-- a run of such bytes that a quote ends is all of a string
+run-same : (l : Bytes) → getD l (run is-calm l) 0 ≡ 34 → run is-own l ≡ run is-calm l
+unfolding run
+run-same [] h = refl
+run-same (c ∷ l) h = by (is-calm c) refl (run-same l) h
+  where
+    by : (t : Bool) → is-calm c ≡ t → (getD l (run is-calm l) 0 ≡ 34 → run is-own l ≡ run is-calm l) → getD (c ∷ l) (pick t (suc (run is-calm l)) 0) 0 ≡ 34 → pick (is-own c) (suc (run is-own l)) 0 ≡ pick t (suc (run is-calm l)) 0
+    by true e f k = ap (λ (t : Bool). pick t (suc (run is-own l)) 0) (calm-own c e) ∙ ap suc (f k)
+    by false e f k = ap (λ (x : ℕ). pick (is-own x) (suc (run is-own l)) 0) k
+
+-- THE LAWS: such a span is the value's, and nothing of it is escaped
+
+record Both (s : Bytes) (has : Bool) (p x : Span) : Type 0 where
+  same : p ≡ x
+  quiet : Quiet has (take (p .end - p .start) (drop (p .start) s))
+
+module _ (s : Bytes) (has : Bool) (p : Span) (some : p .end ≡ 0 → ⊥) where
+  text-both : (i : ℕ) → p ≡ calm-string s i → Both s has p (string-span s i)
+  unfolding calm-string string-span
+  text-both i k = by (eqb (byte-at s (calm-end s i)) 34) refl k
+    where
+      by : (t : Bool) → eqb (byte-at s (calm-end s i)) 34 ≡ t → p ≡ pick t (record { start = i; end = calm-end s i }) no-span → Both s has p (pick (eqb (byte-at s (own-end s i)) 34) (record { start = i; end = own-end s i }) no-span)
+      by false x k = absurd (some (ap (λ (y : Span). y .end) k))
+      by true x k =
+          let r = run is-calm (drop i s) in
+          let same : own-end s i ≡ calm-end s i = ap (λ (y : ℕ). i + y) (run-same (drop i s) (getD-drop i s r 0 ∙ eqb-true (byte-at s (calm-end s i)) 34 x)) in
+          let z : calm-end s i - i ≡ r = omega arith in
+          record {
+            same = k ∙ sym (rw (same, x));
+            quiet = subst (λ (y : Span). Quiet has (take (y .end - y .start) (drop (y .start) s))) (sym k) (subst (λ (y : ℕ). Quiet has (take y (drop i s))) (sym z) (quiet-run has is-calm (λ c h. h) (drop i s)));
+          }
+
+  place-both : (q : ℕ) → p ≡ calm-at s q → Both s has p (span-at s q)
+  unfolding calm-at span-at
+  place-both q k = by (eqb (byte-at s q) 34) k
+    where
+      by : (t : Bool) → p ≡ pick t (calm-string s (q + 1)) (number-span s q) → Both s has p (pick t (string-span s (q + 1)) (number-span s q))
+      by true k = text-both (q + 1) k
+      by false k = record {
+        same = k;
+        quiet = subst (λ (y : Span). Quiet has (take (y .end - y .start) (drop (y .start) s))) (sym k) (number-quiet has s q (λ z. some (ap (λ (y : Span). y .end) k ∙ z)));
+      }
+
+  both : (v : Value) → p ≡ calm-span s v → Both s has p (value-span s v)
+  both Missing e = absurd (some (ap (λ (y : Span). y .end) e))
+  both Null e = absurd (some (ap (λ (y : Span). y .end) e))
+  both False e = absurd (some (ap (λ (y : Span). y .end) e))
+  both True e = absurd (some (ap (λ (y : Span). y .end) e))
+  both Empty e = absurd (some (ap (λ (y : Span). y .end) e))
+  both (Context i) e = place-both (start-of (tree-at s i)) e
+  both (Place i) e = place-both (start-of (tree-at s i)) e
+  both (Literal q) e = absurd (some (ap (λ (y : Span). y .end) e))
+  both (Index n) e = absurd (some (ap (λ (y : Span). y .end) e))
+  both (IndexText n) e = absurd (some (ap (λ (y : Span). y .end) e))
+  both (Name o) e = absurd (some (ap (λ (y : Span). y .end) e))
+  both (Text q) e = absurd (some (ap (λ (y : Span). y .end) e))
+  both (SaidChar o n) e = absurd (some (ap (λ (y : Span). y .end) e))
+  both (PackedChar q n) e = absurd (some (ap (λ (y : Span). y .end) e))
+  both (Merged g n) e = absurd (some (ap (λ (y : Span). y .end) e))
+
+  pub calm-is : (v : Value) → p ≡ calm-span s v → p ≡ value-span s v
+  calm-is v e = both v e .same
+
+  pub calm-means : (v : Value) → p ≡ calm-span s v → run (quiet-byte has true) (take (p .end - p .start) (drop (p .start) s)) ≡ length (take (p .end - p .start) (drop (p .start) s))
+  calm-means v e = both v e .quiet
