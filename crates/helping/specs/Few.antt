@@ -8,17 +8,17 @@ use borrow.Author.Tests.{eqb-true, ltb-false}
 use Rattle.rules.specs.Bytes.{pick}
 use Rattle.rules.specs.Template as rule
 use Rattle.rules.specs.Bits.{Bits}
-use Rattle.rules.specs.Layout.{field}
+use Rattle.rules.specs.Layout.{field, _then_, counted}
 use Rattle.rules.specs.LayoutLaws.{Binary, field-lt}
-use Rattle.rules.specs.Bundle.{string, path, literal, param, call-of}
+use Rattle.rules.specs.Bundle.{string, path, ascending, literal, param, call-of}
 use Rattle.bits.specs.Fields.{field-append}
 use Rattle.layout.specs.Text.{text-at}
 use Rattle.parts.specs.Holds.{Holds, end, row}
-use Rattle.parts.specs.HoldsLaws.{More, more-holds, counted-holds, moved, none-left}
+use Rattle.parts.specs.HoldsLaws.{More, more-holds, counted-holds, tested-holds, moved, none-left}
 use Rattle.parts.specs.Says.{path-at, literal-at}
 use Rattle.calls.specs.declared.Parameter.the-variants.{Name, Path, Literal}
 use Rattle.calls.specs.Calls.{param-of, param-path, param-literal, param-at, param-fits, ParamStands, param-read, call-at, name-end, params-end, call-view, call-name, call-params}
-use Rattle.calls.specs.Calls.{call-stands, params-at, hash-at, no-params, params-more, no-hash}
+use Rattle.calls.specs.Calls.{call-end, call-fits, call-pairs, call-stands, params-at, hash-at, no-params, params-more, no-hash}
 use Rattle.calls.specs.Shorts.{short-end, short-ends}
 use Rattle.helping.specs.declared.Few.{Few}
 use Rattle.helping.specs.declared.Few.the-variants.{One, Two, Other}
@@ -122,6 +122,23 @@ module _ (d : ℕ) (b : Bits) (bin : Binary b) (p : ℕ) (H : Holds (call-of (pa
             ∙ ap (λ y. rule.call (rule.name (text-at b (p + 2))) (rule.pcons (rule.path (path-at b (p + 18 + 8 * x + 6))) y) rule.hnil) (no-params d b u),
         name-here .parts,
         first-path 0 h,
+      )
+
+  -- the call ends where the pairs would begin, and their count
+  pub one-ends : field b 6 (p + 18 + 8 * x) ≡ 5 → field b 4 (end path b (p + 18 + 8 * x + 6)) ≡ 0
+      → (end path b (p + 18 + 8 * x + 6) + 4 ≡ end (call-of (param d)) b p) × (end path b (p + 18 + 8 * x + 6) + 4 ≤ b .size)
+  one-ends h e =
+      let q = params-end d b p in
+      let z : end path b (p + 18 + 8 * x + 6) ≡ q = behind-first 0 h ∙ sym (none-left (param d) b (end (param d) b (name-end d b p + 4))) ∙ row-end 0 h in
+      let t = tested-holds ascending (counted 4 (string then param d)) b q (call-pairs d b p H) in
+      let k : field b 4 q ≡ 0 = sym (ap (field b 4) z) ∙ e in (
+        ap (λ (m : ℕ). m + 4) z
+            ∙ sym (none-left (string then param d) b (q + 4))
+            ∙ sym (ap (λ (m : ℕ). end (row (string then param d) m) b (q + 4)) k)
+            ∙ counted-holds 4 (string then param d) b q (t .inner) .ends
+            ∙ t .ends
+            ∙ call-end d b p H,
+        omega (arith, z, call-fits d b p H .1),
       )
 
   -- a path and one parameter more

@@ -19,7 +19,7 @@ ghost use Rattle.parts.specs.Says.{MaybeHolds, names-at};
 ghost use Rattle.template.specs.Views.{template-at, element-says, ElementHolds};
 ghost use Rattle.state.specs.Context.{whole};
 ghost use Rattle.rules.specs.Layout.{field};
-ghost use Rattle.state.specs.Setters.{fresh, located};
+ghost use Rattle.state.specs.Setters.{fresh, located, with-writer, with-template};
 ghost use Rattle.state.specs.World.{world, Ready, Draws};
 ghost use Rattle.drawing.specs.Renders.{Checked, Named, Renders, registry-of, Openable};
 ghost use Rattle.helping.specs.Decided.{helper-rule};
@@ -51,6 +51,16 @@ fn resumed(rc: RenderContext, w: Writer, bad: u8) -> RenderContext
     let mut q = rc;
     q.writer = w;
     q.bad = bad;
+    q
+}
+
+// The context behind a block.
+fn behind(rc: RenderContext, w: Writer, template: usize) -> RenderContext
+    ensures { λ r. ⌜ ((l : List ℕ) → whole r l ≡ with-template (with-writer (whole rc l) w) template) ⌝ }
+{
+    let mut q = rc;
+    q.writer = w;
+    q.template = template;
     q
 }
 
@@ -105,6 +115,29 @@ fn render_elements(
         }
         if count <= i {
             return q;
+        }
+        if branches::is_block(b, cur) {
+            let t = branches::draw_block(
+                s,
+                tab,
+                b,
+                ent,
+                page,
+                texts,
+                indent,
+                sc,
+                options,
+                cur,
+                d - 1,
+                q,
+            );
+            if t.next != 0 {
+                let w = t.writer;
+                q = behind(q, w, t.template);
+                cur = t.next;
+                i += 1;
+                continue;
+            }
         }
         let e = template::content_at(b, cur + 16 + 16, 16, d - 1);
         let element = e.element;

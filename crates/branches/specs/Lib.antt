@@ -1,0 +1,4 @@
+pub mod Short
+pub mod Drawn
+pub mod Reading
+pub mod Laws
