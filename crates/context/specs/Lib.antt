@@ -2,3 +2,4 @@ pub mod Walk
 pub mod Recursive
 pub mod Evaluated
 pub mod Start
+pub mod Near

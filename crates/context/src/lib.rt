@@ -2,7 +2,7 @@
 ghost use mathlib.Core.Bool.{true, false};
 ghost use mathlib.Core.Path.{_≡_};
 ghost use mathlib.Core.List.{List, _++_};
-ghost use Prim.Native.Nat.{ℕ, _-_, _≤_, _<_};
+ghost use Prim.Native.Nat.{ℕ, _-_, _/_, _≤_, _<_};
 ghost use lib.ListN.{length};
 ghost use Rattle.rules.specs.Path.{merge-json-path};
 ghost use Rattle.rules.specs.Bits.{bits};
@@ -28,7 +28,8 @@ ghost use Rattle.scope.specs.Names.{AllReadable, local-at};
 ghost use Rattle.lookup.specs.Answers.{Held};
 ghost use Rattle.context.specs.Walk.{walked};
 ghost use Rattle.context.specs.Recursive.{looked};
-ghost use Rattle.context.specs.Evaluated.{path-of, Evaluates, Walked, Quick, present, NamedStep, Stepped, stopped};
+ghost use Rattle.context.specs.Evaluated.{path-of, Evaluates, Walked, Quick, evaluated-of, EvaluatedFits, present, NamedStep, Stepped, stopped};
+ghost use Rattle.context.specs.Near.{Near, InSomeCall};
 ghost use Rattle.context.specs.Start.{FirstIs, Based, NameStarts, Starts};
 use lookup::Got;
 use parts::Path;
@@ -303,6 +304,32 @@ fn is_lone_name(b: &[u8], p: usize, n: usize) -> bool
     }
 }
 
+// What a path leads to as one number: 0 for a wrong index, else one more than the value's. An enum would go through memory.
+
+fn number_of(x: Evaluated) -> u64
+    requires { ⌜ EvaluatedFits x ⌝ }
+    ensures { λ r. ⌜ (r ≤ 4294967296) × (evaluated-of r ≡ x) ⌝ }
+{
+    match x {
+        Evaluated::Is(v) => 1 + (value::encode(v) as u64),
+        Evaluated::BadIndex => 0,
+    }
+}
+
+fn slow_number(s: &[u8], tab: &[u64], b: &[u8], ent: &[u64], v: u32, p: usize, n: usize) -> u64
+    requires { ⌜ Accepted (now s) (now tab) × (length (now b) ≤ 65536) × Held (now s) (now b) (now ent) (decoded v) × Holds (row seg n) (bits (now b)) p × Near (now s) (now b) (now ent) (decoded v) ⌝ }
+    ensures { λ r. ⌜ (r ≤ 4294967296) × Walked (now (s .entry)) (now (b .entry)) (now (ent .entry)) (decoded v) p n (evaluated-of r) ⌝ }
+{
+    number_of(slowly(s, tab, b, ent, v, p, n))
+}
+
+fn alone_number(s: &[u8], tab: &[u64], b: &[u8], ent: &[u64], v: u32, p: usize, n: usize) -> u64
+    requires { ⌜ Accepted (now s) (now tab) × (length (now b) ≤ 65536) × (v / 16 < places (now s)) × (live-at (now s) (v / 16) ≡ true) × Holds (row seg n) (bits (now b)) p × (0 < n → is-lone-name (segments-at n (bits (now b)) p) ≡ true) ⌝ }
+    ensures { λ r. ⌜ (r ≤ 4294967296) × ((t : ℕ) → Evaluates (now (s .entry)) (now (b .entry)) (now (ent .entry)) t (follow (json-at (now (s .entry)) 0) true (absolute-path (place-path (now (s .entry)) (v / 16) ++ merge-json-path (segments-at n (bits (now (b .entry))) p)))) (evaluated-of r)) ⌝ }
+{
+    1 + (value::encode(alone(s, tab, b, ent, (v / 16) as usize, p, n)) as u64)
+}
+
 // Where the n segments at p lead. Recursive lookup is for a lone name from a place of the plan.
 fn navigate(
     s: &[u8],
@@ -314,41 +341,62 @@ fn navigate(
     p: usize,
     n: usize,
     recursive: bool,
-) -> Evaluated
+) -> u64
     requires { ⌜ Accepted (now s) (now tab) × (length (now b) ≤ 65536) × (0 < used) × (used ≤ 32) × ((t : ℕ) × ScopesStand (now s) (now b) (now ent) (scopes-of (now sc)) used t) × Holds (row seg n) (bits (now b)) p × (length (now sc) ≡ 96) ⌝ }
-    ensures { λ r. ⌜ ((t : ℕ) → ScopesStand (now (s .entry)) (now (b .entry)) (now (ent .entry)) (scopes-of (now (sc .entry))) used t → Evaluates (now (s .entry)) (now (b .entry)) (now (ent .entry)) t (navigate (json-at (now (s .entry)) 0) (segments-at n (bits (now (b .entry))) p) (blocks-of (now (s .entry)) (now (b .entry)) (now (ent .entry)) (scopes-of (now (sc .entry))) used) recursive) r) ⌝ }
+    ensures { λ r. ⌜ (r ≤ 4294967296) × ((t : ℕ) → ScopesStand (now (s .entry)) (now (b .entry)) (now (ent .entry)) (scopes-of (now (sc .entry))) used t → Evaluates (now (s .entry)) (now (b .entry)) (now (ent .entry)) t (navigate (json-at (now (s .entry)) 0) (segments-at n (bits (now (b .entry))) p) (blocks-of (now (s .entry)) (now (b .entry)) (now (ent .entry)) (scopes-of (now (sc .entry))) used) recursive) (evaluated-of r)) ⌝ }
 {
     let from = begin(b, ent, sc, used, p, n);
     if recursive {
         if is_lone_name(b, p, n) {
-            let v = value::decode(from.value);
-            if let Value::Context(i) = v {
-                return Evaluated::Is(alone(s, tab, b, ent, i, from.place, from.left));
+            // a place of the plan
+            if from.value % 16 == 5 {
+                return alone_number(s, tab, b, ent, from.value, from.place, from.left);
             }
         }
     }
     let r = quickly(s, tab, b, ent, from.value, from.place, from.left);
     if r == 0 {
-        return slowly(s, tab, b, ent, from.value, from.place, from.left);
+        return slow_number(s, tab, b, ent, from.value, from.place, from.left);
     }
     if r == 1 {
-        return Evaluated::Is(Value::Missing);
+        return 1;
     }
-    Evaluated::Is(value::decode((r - 2) as u32))
+    r - 1
 }
 
-fn local_value(b: &[u8], sc: &[u64], used: usize, level: usize, p: usize) -> Evaluated
-    requires { ⌜ (length (now b) ≤ 65536) × (used ≤ 32) × Holds string (bits (now b)) p × (length (now sc) ≡ 96) ⌝ }
-    ensures { λ r. ⌜ ((s : Bytes) (ent : List ℕ) (t : ℕ) → ScopesStand s (now (b .entry)) ent (scopes-of (now (sc .entry))) used t → Evaluates s (now (b .entry)) ent t (got (or-missing (local-at s (now (b .entry)) ent (scopes-of (now (sc .entry))) used level (text-at (bits (now (b .entry))) p)))) r) ⌝ }
+fn local_value(b: &[u8], sc: &[u64], used: usize, level: usize, p: usize) -> u64
+    requires { ⌜ (length (now b) ≤ 65536) × (0 < used) × (used ≤ 32) × Holds string (bits (now b)) p × (length (now sc) ≡ 96) × InSomeCall (now b) (scopes-of (now sc)) used ⌝ }
+    ensures { λ r. ⌜ (r ≤ 4294967296) × ((s : Bytes) (ent : List ℕ) (t : ℕ) → ScopesStand s (now (b .entry)) ent (scopes-of (now (sc .entry))) used t → Evaluates s (now (b .entry)) ent t (got (or-missing (local-at s (now (b .entry)) ent (scopes-of (now (sc .entry))) used level (text-at (bits (now (b .entry))) p)))) (evaluated-of r)) ⌝ }
 {
     let found = scope::local_value(b, sc, used, level, p);
     match found {
-        Param::Is(w) => Evaluated::Is(w),
-        Param::Nothing => Evaluated::Is(Value::Missing),
+        Param::Is(w) => 1 + (value::encode(w) as u64),
+        Param::Nothing => 1,
     }
 }
 
-// What the path at the bit place p leads to.
+// What the path at the bit place p leads to, as one number.
+pub fn evaluate_number(
+    s: &[u8],
+    tab: &[u64],
+    b: &[u8],
+    ent: &[u64],
+    sc: &[u64],
+    used: usize,
+    recursive: bool,
+    p: usize,
+) -> u64
+    requires { ⌜ Accepted (now s) (now tab) × (length (now b) ≤ 65536) × (0 < used) × (used ≤ 32) × ((t : ℕ) × ScopesStand (now s) (now b) (now ent) (scopes-of (now sc)) used t) × Holds path (bits (now b)) p × (length (now sc) ≡ 96) ⌝ }
+    ensures { λ r. ⌜ (r ≤ 4294967296) × ((g : Registry) (st : RenderContext) (t : ℕ) → g .plan ≡ json-at (now (s .entry)) 0 → g .options .recursive-lookup ≡ recursive → blocks st ≡ blocks-of (now (s .entry)) (now (b .entry)) (now (ent .entry)) (scopes-of (now (sc .entry))) used → ScopesStand (now (s .entry)) (now (b .entry)) (now (ent .entry)) (scopes-of (now (sc .entry))) used t → Evaluates (now (s .entry)) (now (b .entry)) (now (ent .entry)) t (evaluate2 g st (path-at (bits (now (b .entry))) p)) (evaluated-of r)) ⌝ }
+{
+    let path = parts::path_at(b, p);
+    match path {
+        Path::Relative(n, q) => navigate(s, tab, b, ent, sc, used, q, n as usize, recursive),
+        Path::Local(level, q) => local_value(b, sc, used, level as usize, q),
+    }
+}
+
+// The same as an enum.
 pub fn evaluate2(
     s: &[u8],
     tab: &[u64],
@@ -362,9 +410,9 @@ pub fn evaluate2(
     requires { ⌜ Accepted (now s) (now tab) × (length (now b) ≤ 65536) × (0 < used) × (used ≤ 32) × ((t : ℕ) × ScopesStand (now s) (now b) (now ent) (scopes-of (now sc)) used t) × Holds path (bits (now b)) p × (length (now sc) ≡ 96) ⌝ }
     ensures { λ r. ⌜ ((g : Registry) (st : RenderContext) (t : ℕ) → g .plan ≡ json-at (now (s .entry)) 0 → g .options .recursive-lookup ≡ recursive → blocks st ≡ blocks-of (now (s .entry)) (now (b .entry)) (now (ent .entry)) (scopes-of (now (sc .entry))) used → ScopesStand (now (s .entry)) (now (b .entry)) (now (ent .entry)) (scopes-of (now (sc .entry))) used t → Evaluates (now (s .entry)) (now (b .entry)) (now (ent .entry)) t (evaluate2 g st (path-at (bits (now (b .entry))) p)) r) ⌝ }
 {
-    let path = parts::path_at(b, p);
-    match path {
-        Path::Relative(n, q) => navigate(s, tab, b, ent, sc, used, q, n as usize, recursive),
-        Path::Local(level, q) => local_value(b, sc, used, level as usize, q),
+    let r = evaluate_number(s, tab, b, ent, sc, used, recursive, p);
+    if r == 0 {
+        return Evaluated::BadIndex;
     }
+    Evaluated::Is(value::decode((r - 1) as u32))
 }

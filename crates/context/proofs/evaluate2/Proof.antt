@@ -1,72 +1,35 @@
 -- `context::evaluate2` meets its contract.
+use native.Mathlib.Omega.{arith}
 use mathlib.Core.Path.{sym, ap, _∙_, subst}
-use Rattle.rules.specs.Bits.{bits}
-use Rattle.rules.specs.Error.{Got}
-use Rattle.rules.specs.Value.{ScopedJson}
-use Rattle.rules.specs.Expand as rule
-use Rattle.layout.specs.Text.{text-at}
-use Rattle.parts.specs.Says.{segments-at, PathStands, path-stands}
-use Rattle.context.specs.Evaluated.{Evaluates}
-use Rattle.context.proofs.Evaluating.{relative-is, local-is}
-use Rattle.scope.specs.Words.{scopes-of}
+use Rattle.context.specs.declared.Evaluated.the-variants.{Is}
+use Rattle.context.specs.Evaluated.{Evaluates, evaluated-of, some-evaluated}
 use borrow.Author.Needs.{needs}
 use Rattle.context.proofs.evaluate2.Statement.{statement}
 use Rattle.context.proofs.evaluate2.Tie as tie
 
-path-at-requires : tie.Need-path-at-requires
-path-at-requires c κs = (c .before .before .before .before .before .pre .1, c .before .before .before .before .before .pre .5)
-
-enum-known-path : tie.Need-enum-known-path
-enum-known-path c = search needs
-
-navigate-requires : tie.Need-navigate-requires
-navigate-requires c κs =
-    let b = c .before .before .before .before .before .before .before .before .before .args .b .now in
-    let p = c .before .before .before .before .before .before .before .before .before .args .p in
-    let x = subst (PathStands (bits b) p) (sym (c .before .before .before .path-at .ensures) ∙ c .before .path .given .1) (path-stands (bits b) p (c .before .before .before .before .before .before .before .before .before .pre .5)) in
-    (c .before .before .before .before .before .before .before .before .before .pre .0, c .before .before .before .before .before .before .before .before .before .pre .1, c .before .before .before .before .before .before .before .before .before .pre .2, c .before .before .before .before .before .before .before .before .before .pre .3, c .before .before .before .before .before .before .before .before .before .pre .4, x .parts, c .before .before .before .before .before .before .before .before .before .pre .6)
-
-enum-known-path-2 : tie.Need-enum-known-path-2
-enum-known-path-2 c = search needs
-
-local-value-requires : tie.Need-local-value-requires
-local-value-requires c κs =
-    let b = c .before .before .before .before .before .before .before .before .before .args .b .now in
-    let p = c .before .before .before .before .before .before .before .before .before .args .p in
-    let x = subst (PathStands (bits b) p) (sym (c .before .before .before .path-at .ensures) ∙ c .before .path2 .given .1) (path-stands (bits b) p (c .before .before .before .before .before .before .before .before .before .pre .5)) in
-    (c .before .before .before .before .before .before .before .before .before .pre .1, c .before .before .before .before .before .before .before .before .before .pre .3, x .parts, c .before .before .before .before .before .before .before .before .before .pre .6)
+evaluate-number-requires : tie.Need-evaluate-number-requires
+evaluate-number-requires c κs = c .before .before .before .before .before .pre
 
 returns : tie.Need-returns
 returns c =
-    let s = c .before .before .before .before .before .before .before .before .before .before .args .s .now in
-    let b = c .before .before .before .before .before .before .before .before .before .before .args .b .now in
-    let ent = c .before .before .before .before .before .before .before .before .before .before .args .ent .now in
-    let used = c .before .before .before .before .before .before .before .before .before .before .args .used in
-    let p = c .before .before .before .before .before .before .before .before .before .before .args .p in
-    let recursive = c .before .before .before .before .before .before .before .before .before .before .args .recursive in
-    let l = scopes-of (c .before .before .before .before .before .before .before .before .before .before .args .sc .now) in
-    let x = subst (PathStands (bits b) p) (sym (c .before .before .before .before .path-at .ensures) ∙ c .before .before .path .given .1) (path-stands (bits b) p (c .before .before .before .before .before .before .before .before .before .before .pre .5)) in
-    λ g st t hp hr hb S. subst (λ (y : Got ScopedJson). Evaluates s b ent t y (c .navigate .result)) (sym (ap (rule.evaluate2 g st) (x .is) ∙ relative-is s b ent l used recursive g st hp hr hb (text-at (bits b) p) (segments-at (c .before .before .path .given .0 .0) (bits b) (c .before .before .path .given .0 .1 .0)))) (c .navigate .ensures t S)
+    let a = c .before .before .before .before .before .before .before .args in
+    λ g st t hp hr hb S. subst (Evaluates (a .s .now) (a .b .now) (a .ent .now) t _) (ap evaluated-of (c .if1 .taken)) (c .before .evaluate-number .ensures .1 g st t hp hr hb S)
+
+sub-decode : tie.Need-sub-decode
+sub-decode c = omega (arith, c .if1 .left)
+
+cast-decode : tie.Need-cast-decode
+cast-decode c = omega (arith, c .before .evaluate-number .ensures .0)
+
+decode-requires : tie.Need-decode-requires
+decode-requires c κs = search needs
 
 returns-2 : tie.Need-returns-2
 returns-2 c =
-    let s = c .before .before .before .before .before .before .before .before .before .before .args .s .now in
-    let b = c .before .before .before .before .before .before .before .before .before .before .args .b .now in
-    let ent = c .before .before .before .before .before .before .before .before .before .before .args .ent .now in
-    let used = c .before .before .before .before .before .before .before .before .before .before .args .used in
-    let p = c .before .before .before .before .before .before .before .before .before .before .args .p in
-    let l = scopes-of (c .before .before .before .before .before .before .before .before .before .before .args .sc .now) in
-    let x = subst (PathStands (bits b) p) (sym (c .before .before .before .before .path-at .ensures) ∙ c .before .before .path2 .given .1) (path-stands (bits b) p (c .before .before .before .before .before .before .before .before .before .before .pre .5)) in
-    λ g st t hp hr hb S. subst (λ (y : Got ScopedJson). Evaluates s b ent t y (c .local-value .result)) (sym (ap (rule.evaluate2 g st) (x .is) ∙ local-is s b ent l used g st hb (text-at (bits b) p) (c .before .before .path2 .given .0 .0) (text-at (bits b) (c .before .before .path2 .given .0 .1 .0)))) (c .local-value .ensures s ent t S)
+    let a = c .before .before .before .before .before .before .before .before .args in
+    λ g st t hp hr hb S. subst (Evaluates (a .s .now) (a .b .now) (a .ent .now) t _) (some-evaluated (c .before .before .evaluate-number .result) (c .before .if1 .left) ∙ ap Is (sym (c .decode .ensures))) (c .before .before .evaluate-number .ensures .1 g st t hp hr hb S)
 
 pub evaluate2-spec : {M : Type 1} → statement M
 evaluate2-spec =
     tie.close
-    (tie.spec
-    path-at-requires
-    enum-known-path
-    navigate-requires
-    enum-known-path-2
-    local-value-requires
-    returns
-    returns-2)
+    (tie.spec evaluate-number-requires returns sub-decode cast-decode decode-requires returns-2)
