@@ -1,5 +1,5 @@
 -- Values that stand have numbers.
-use Prim.Native.Nat.{ℕ, zero, suc, _+_, _*_, _-_, _≤_, _<_}
+use Prim.Native.Nat.{ℕ, zero, suc, _+_, _-_, _≤_, _<_}
 use mathlib.Core.Bool.{false}
 use mathlib.Core.List.{List}
 use mathlib.Core.Path.{_≡_, sym, subst}
@@ -21,7 +21,7 @@ use Rattle.scope.specs.declared.Scope.{Scope}
 use Rattle.scope.specs.Scopes.{blank}
 use Rattle.scope.specs.Standing.{ScopesStand}
 use Rattle.scope.specs.Words as words
-use Rattle.scope.specs.Words.{scope-of, scopes-of, scopes-at, scope-fits}
+use Rattle.scope.specs.Words.{scopes-of, scopes-at, scope-fits}
 
 plain-fits : (s b : Bytes) → answer s ≡ 0 → length b ≤ 65536 → (v : Value) → PlainStands s b v → Fits v
 plain-fits s b h le Missing p = tt

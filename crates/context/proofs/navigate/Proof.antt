@@ -26,7 +26,8 @@ use native.Mathlib.Omega.{arith}
 use Rattle.context.specs.declared.Evaluated.{Evaluated}
 use Rattle.context.specs.Evaluated.{Evaluates, Walked, numbered, evaluated-of}
 use Rattle.context.specs.Near.{scopes-near}
-use Rattle.context.proofs.Numbers.{past-one, missing-told, place-told, no-place-told}
+use Rattle.context.specs.Numbers.{context-number, pathless-number}
+use Rattle.context.proofs.Numbers.{past-one, missing-told}
 use Rattle.context.proofs.Climbing.{navigated}
 use Rattle.context.proofs.Starting.{each-true}
 use borrow.Author.Needs.{needs}
@@ -48,7 +49,7 @@ alone-number-requires c κs =
     let z = c .before .before .before .before .before .before .before .before .before .before .before .pre in
     let S = c .before .before .before .before .before .begin .ensures in
     let v = c .before .before .before .before .before .begin .result .value in
-    let y = stands-plain (a .s .now) (a .b .now) (a .ent .now) (z .4 .0) (Context (v / 16)) refl (subst (Stands (a .s .now) (a .b .now) (a .ent .now) (z .4 .0)) (place-told v (c .if3 .taken)) (S .at (a .s .now) (z .4 .0) (z .4 .1) .stands)) in
+    let y = stands-plain (a .s .now) (a .b .now) (a .ent .now) (z .4 .0) (Context (v / 16)) refl (subst (Stands (a .s .now) (a .b .now) (a .ent .now) (z .4 .0)) (context-number v (c .if3 .taken)) (S .at (a .s .now) (z .4 .0) (z .4 .1) .stands)) in
     (z .0, z .1, y .0, y .1, S .holds, S .lone (sym (c .before .before .before .is-lone-name .ensures) ∙ c .before .before .if2 .taken))
 
 returns : tie.Need-returns
@@ -66,7 +67,7 @@ returns c =
           subst (λ (y : Got ScopedJson). Evaluates s b ent t y (evaluated-of (c .alone-number .result)))
           (sym (ap (λ (f : Bool). follow (json-at s 0) f (parse-json-visitor segs (blocks-of s b ent l used))) e
           ∙ c .before .before .before .before .before .before .begin .ensures .at s t st .leads (json-at s 0) true
-          ∙ ap (λ (w : Value). follow (json-at s 0) true (resolved s b ent w (merge-json-path (segments-at (from .left) (bits b) (from .place))))) (place-told (from .value) (c .before .if3 .taken))))
+          ∙ ap (λ (w : Value). follow (json-at s 0) true (resolved s b ent w (merge-json-path (segments-at (from .left) (bits b) (from .place))))) (context-number (from .value) (c .before .if3 .taken))))
           (c .alone-number .ensures .1 t),
     )
 
@@ -103,7 +104,7 @@ plainly c =
     let k : (a .recursive && is-lone-name segs) ≡ true → context-place (decoded (from .value)) ≡ none =
     λ e.
     let each = each-true (a .recursive) (is-lone-name segs) e in
-    ⊎-elim (λ w. no-place-told (from .value) (w .4 .left))
+    ⊎-elim (λ w. pathless-number (from .value) (w .4 .left))
     (⊎-elim (λ w. differ (sym (each .1) ∙ sym (w .1 .ensures) ∙ w .2 .left)) (λ w. differ (sym (each .0) ∙ w .left)))
     (c .if1 .came) in
     navigated (a .s .now) (a .b .now) (a .ent .now) (a .tab .now) (c .before .before .before .before .before .before .before .pre .0) (scopes-of (a .sc .now)) (a .used) (a .p) (a .n) (a .recursive) from (c .before .begin .ensures) k
