@@ -1,10 +1,12 @@
 -- What a helper or an expression is about to do: s is the plan, b the bundle, ent the entries of open partials, and t is behind those in use.
-use Prim.Native.Nat.{ℕ, _<_}
+use Prim.Native.Nat.{ℕ, _-_, _<_}
 use mathlib.Core.Bool.{Bool, true, false}
 use mathlib.Core.List.{List, []}
 use mathlib.Core.Option.{Option, none, some}
-use mathlib.Core.Path.{_≡_}
-use lib.Dec.{ltb}
+use mathlib.Core.Path.{_≡_, refl}
+use native.Mathlib.Omega.{arith}
+use lib.Dec.{eqb, ltb}
+use borrow.Author.Tests.{lt-ltb, le-ltb, ne-eqb}
 use Rattle.rules.specs.Bytes.{Bytes, pick}
 use Rattle.rules.specs.Json.{Json, jnull, jbool, jpos, jneg, jstr, jarr, jobj}
 use Rattle.rules.specs.Template as template
@@ -22,6 +24,7 @@ use Rattle.rules.specs.HelperWith.{with-block}
 use Rattle.rules.specs.Helpers.{call-helper}
 use Rattle.rules.specs.Render.{render-helper}
 use Rattle.value.specs.declared.Value.{Value}
+use Rattle.value.specs.Numbers.{decoded}
 use Rattle.meaning.specs.Meaning.{is-missing, json-of, scoped-of}
 use Rattle.meaning.specs.Standing.{Stands}
 use Rattle.members.specs.Turns.{each-turns}
@@ -164,6 +167,27 @@ is-collection (jobj m) = true
 
 abbrev pub shown : Bool → Value → Shows
 shown strict v = pick (is-missing v) (pick strict (shows.Bad 11) shows.Nothing) (shows.Value v)
+
+-- as one number: 0 where it is a helper's, below 255 a refusal, 255 for nothing, else 256 more than the value's
+unfoldable pub shows-of : ℕ → Shows
+shows-of n = pick (eqb n 0) shows.Helper (pick (ltb n 255) (shows.Bad n) (pick (eqb n 255) shows.Nothing (shows.Value (decoded (n - 256)))))
+
+pub shows-helper : shows-of 0 ≡ shows.Helper
+unfolding shows-of
+shows-helper = refl
+
+pub shows-nothing : shows-of 255 ≡ shows.Nothing
+unfolding shows-of
+shows-nothing = refl
+
+module _ (n : ℕ) where
+  pub shows-bad : (n ≡ 0 → ⊥) → n < 255 → shows-of n ≡ shows.Bad n
+  unfolding shows-of
+  shows-bad h lt = rw (ne-eqb n 0 h, lt-ltb n 255 lt)
+
+  pub shows-value : 255 < n → shows-of n ≡ shows.Value (decoded (n - 256))
+  unfolding shows-of
+  shows-value lt = rw (ne-eqb n 0 (λ e. omega arith), le-ltb n 255 (omega arith), ne-eqb n 255 (λ e. omega arith))
 
 abbrev pub rendered : Bool → Got → Shows
 rendered strict (got.Is v) = shown strict v

@@ -28,9 +28,8 @@ ghost use Rattle.lookup.specs.Answers.{Held};
 ghost use Rattle.scope.specs.Words.{scopes-of};
 ghost use Rattle.scope.specs.Standing.{ScopesStand};
 ghost use Rattle.expand.specs.Answers.{Setting, ExpandedHeld};
-ghost use Rattle.helpers.specs.Does.{has, is-known, HelpingFirst, HelpingTruth, HelpingBoth, Decides, DecidesOne, DecidesTwo, Expresses, unless-strict, inverse, in-scope, branch, truth, is-collection, shown, rendered};
+ghost use Rattle.helpers.specs.Does.{has, is-known, HelpingFirst, HelpingTruth, HelpingBoth, Decides, DecidesOne, DecidesTwo, Expresses, unless-strict, inverse, in-scope, branch, truth, is-collection, shown, rendered, shows-of};
 use calls::Parameter;
-use context::Evaluated;
 use expand::Expanded;
 use expand::Got;
 use expand::HelperDef;
@@ -413,6 +412,38 @@ fn rendered(strict: bool, x: Got) -> Shows
 }
 
 // What an expression does that is the path at q and nothing else. Most are such: the name is the path's raw string, which is read where it lies.
+// As one number, for an enum would go through memory: 0 where it is a helper's, below 255 a refusal, 255 for nothing, else 256 more than the value's.
+pub fn bare_number(
+    s: &[u8],
+    tab: &[u64],
+    b: &[u8],
+    ent: &[u64],
+    sc: &[u64],
+    used: usize,
+    options: Options,
+    q: usize,
+) -> u64
+    requires { ⌜ Accepted (now s) (now tab) × (length (now b) ≤ 65536) × (0 < used) × (used ≤ 32) × ((t : ℕ) × ScopesStand (now s) (now b) (now ent) (scopes-of (now sc)) used t) × Holds path (bits (now b)) q × (length (now sc) ≡ 96) ⌝ }
+    ensures { λ r. ⌜ (r < 4294967552) × ((g : Registry) (st : RenderContext) (t d p : ℕ) (ibw : Bool) → Setting (now (s .entry)) (now (b .entry)) (now (ent .entry)) (scopes-of (now (sc .entry))) used options g st t → Holds (call-of (param d)) (bits (now (b .entry))) p → param-view (bits (now (b .entry))) p ≡ Parameter.Path q → field (bits (now (b .entry))) 8 (end path (bits (now (b .entry))) q) ≡ 0 → Expresses (now (s .entry)) (now (b .entry)) (now (ent .entry)) t g (call-at d (bits (now (b .entry))) p) ibw st (render-expression g (call-at d (bits (now (b .entry))) p) ibw st) (shows-of r)) ⌝ }
+{
+    if known(expand::helper_at(b, q)) {
+        return 0;
+    }
+    let found = context::evaluate_number(s, tab, b, ent, sc, used, options.recursive_lookup, q);
+    if found == 0 {
+        return 20;
+    }
+    // one more than the number of what is missing
+    if found % 16 == 1 {
+        if options.strict {
+            return 11;
+        }
+        return 255;
+    }
+    255 + found
+}
+
+// The same as an enum.
 pub fn bare_path(
     s: &[u8],
     tab: &[u64],
@@ -426,14 +457,17 @@ pub fn bare_path(
     requires { ⌜ Accepted (now s) (now tab) × (length (now b) ≤ 65536) × (0 < used) × (used ≤ 32) × ((t : ℕ) × ScopesStand (now s) (now b) (now ent) (scopes-of (now sc)) used t) × Holds path (bits (now b)) q × (length (now sc) ≡ 96) ⌝ }
     ensures { λ r. ⌜ ((g : Registry) (st : RenderContext) (t d p : ℕ) (ibw : Bool) → Setting (now (s .entry)) (now (b .entry)) (now (ent .entry)) (scopes-of (now (sc .entry))) used options g st t → Holds (call-of (param d)) (bits (now (b .entry))) p → param-view (bits (now (b .entry))) p ≡ Parameter.Path q → field (bits (now (b .entry))) 8 (end path (bits (now (b .entry))) q) ≡ 0 → Expresses (now (s .entry)) (now (b .entry)) (now (ent .entry)) t g (call-at d (bits (now (b .entry))) p) ibw st (render-expression g (call-at d (bits (now (b .entry))) p) ibw st) r) ⌝ }
 {
-    if known(expand::helper_at(b, q)) {
+    let r = bare_number(s, tab, b, ent, sc, used, options, q);
+    if r == 0 {
         return Shows::Helper;
     }
-    let found = context::evaluate2(s, tab, b, ent, sc, used, options.recursive_lookup, q);
-    match found {
-        Evaluated::Is(v) => shown(options.strict, v),
-        Evaluated::BadIndex => Shows::Bad(20),
+    if r < 255 {
+        return Shows::Bad(r as u8);
     }
+    if r == 255 {
+        return Shows::Nothing;
+    }
+    Shows::Value(value::decode((r - 256) as u32))
 }
 
 // What an expression does whose name is the path at q: with parameters or a hash it is a helper's.
