@@ -12,7 +12,6 @@ use Rattle.rules.specs.Bytes.{Bytes}
 use Rattle.rules.specs.Bits.{bits}
 use Rattle.rules.specs.Layout.{_then_}
 use Rattle.rules.specs.Bundle.{string, param}
-use Rattle.rules.specs.BundleLaws.{bits-size}
 use Rattle.rules.specs.Plan.{answer}
 use Rattle.rules.specs.Error as rule
 use Rattle.rules.specs.Error.{RenderErrorReason, got, bad, wth}
@@ -22,15 +21,14 @@ use Rattle.rules.specs.Registry.{Registry}
 use Rattle.rules.specs.Expand as rules
 use Rattle.layout.specs.Text.{text-at}
 use Rattle.parts.specs.Holds.{Holds, row}
-use Rattle.parts.specs.Parts.{literal-fits}
-use Rattle.parts.specs.HoldsLaws.{string-in, more-holds}
+use Rattle.parts.specs.HoldsLaws.{more-holds}
 use Rattle.calls.specs.Calls.{param-at, hash-at, no-hash, hash-more}
-use Rattle.places.specs.Nodes.{few-places, short}
 use Rattle.value.specs.declared.Value.{Value}
 use Rattle.value.specs.declared.Value.the-variants.{Missing, Null, False, True, Empty, Context, Place, Literal, Index, IndexText, Name, Text, SaidChar, PackedChar, Merged}
 use Rattle.value.specs.Numbers.{Fits, encoded, decoded, decoded-encoded}
 use Rattle.meaning.specs.Meaning.{scoped-of}
-use Rattle.meaning.specs.Standing.{PlainStands, Stands, plain, merged}
+use Rattle.meaning.specs.Standing.{Stands, plain}
+use Rattle.context.specs.Near as near
 use Rattle.expand.specs.declared.Got.{Got}
 use Rattle.expand.specs.declared.Got.the-variants.{Is, Bad}
 use Rattle.expand.specs.Answers.{Expands}
@@ -38,26 +36,8 @@ use Rattle.including.specs.Values.{pair-place, content-place, number-of,
 
 -- A value that stands has a number
 
-plain-fits : (s b : Bytes) → answer s ≡ 0 → length b ≤ 65536 → (v : Value) → PlainStands s b v → Fits v
-plain-fits s b h le Missing p = tt
-plain-fits s b h le Null p = tt
-plain-fits s b h le False p = tt
-plain-fits s b h le True p = tt
-plain-fits s b h le Empty p = tt
-plain-fits s b h le (Context i) p = omega (arith, p .0, few-places s h)
-plain-fits s b h le (Place i) p = omega (arith, p, few-places s h)
-plain-fits s b h le (Literal q) p = omega (arith, literal-fits (bits b) q p, bits-size b)
-plain-fits s b h le (Index n) p = omega (arith, p)
-plain-fits s b h le (IndexText n) p = omega (arith, p)
-plain-fits s b h le (Name o) p = omega (arith, p .within, short s h)
-plain-fits s b h le (Text q) p = omega (arith, string-in (bits b) q p, bits-size b)
-plain-fits s b h le (SaidChar o n) p = (omega (arith, p .inside .near), p .one .few)
-plain-fits s b h le (PackedChar q n) p = (omega (arith, p .within, bits-size b), p .one .few)
-plain-fits s b h le (Merged k n) p = absurd p
-
 pub stands-fits : (s b : Bytes) (ent : List ℕ) (t : ℕ) → answer s ≡ 0 → length b ≤ 65536 → t ≤ 4096 → (v : Value) → Stands s b ent t v → Fits v
-stands-fits s b ent t h le few v (plain e p) = plain-fits s b h le v p
-stands-fits s b ent t h le few v (merged k n within keys base values bound) = (omega arith, keys .few)
+stands-fits s b ent t h le few = near.stands-fits s b ent t h le (omega arith)
 
 pub encoded-near : (v : Value) → Fits v → encoded v < 4294967296
 encoded-near Missing f = omega arith
