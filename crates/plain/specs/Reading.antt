@@ -1,5 +1,5 @@
 -- What few reads tell of an element.
-use Prim.Native.Nat.{ℕ, _+_, _*_, _/_, _≤_, _<_}
+use Prim.Native.Nat.{ℕ, _+_, _*_, _/_, _%_, _≤_, _<_}
 use mathlib.Core.Bool.{Bool, true, false}
 use mathlib.Core.Logic.{_⊎_, inl, inr}
 use mathlib.Core.Path.{_≡_, refl, sym, ap, _∙_, subst}
@@ -14,7 +14,8 @@ use Rattle.rules.specs.Bundle.{string, path, param, call-of, element-of, body}
 use Rattle.layout.specs.Arms.{written}
 use Rattle.bits.specs.Fields.{field-append}
 use Rattle.parts.specs.Holds.{Holds, end}
-use Rattle.parts.specs.HoldsLaws.{Same, moved, string-end}
+use Rattle.parts.specs.HoldsLaws.{Same, moved, string-end, string-in}
+use Rattle.parts.specs.Parts.{path-raw, path-fits, skip-one, skip-name}
 use Rattle.calls.specs.declared.Parameter.the-variants as parameter
 use Rattle.calls.specs.Calls.{param-of, param-view, param-path, name-end, call-name, bare-end}
 use Rattle.template.specs.declared.Element.{Element}
@@ -22,6 +23,30 @@ use Rattle.template.specs.declared.Element.the-variants.{RawString}
 use Rattle.template.specs.Views.{call-end, flagged-view, kind-view, content-of, content-view}
 use Rattle.template.specs.Content.{raw-string-holds, html-holds, expression-holds, FlaggedHolds, written-holds}
 use Rattle.plain.specs.Plain.{expression-of, TextIs, PathIs}
+
+-- The end of a path at p, by one read behind its raw string: that has m bytes, and y is the kind and what comes behind it
+module _ (b : Bits) (bin : Binary b) (p : ℕ) (H : Holds path b p) (m : ℕ) (hm : m ≡ field b 16 p) where
+  raw-end : p + 16 + 8 * m ≡ end string b p
+  raw-end = omega (arith, string-end b p (path-raw b p H), hm)
+
+  pub raw-fits : p + 16 + 8 * m + 9 ≤ b .size
+  raw-fits = omega (arith, raw-end, path-fits b p H)
+
+  module _ (y : ℕ) (hy : y ≡ field b 27 (p + 16 + 8 * m)) where
+    -- it is one segment, a name
+    pub name-ends : y / 65536 ≡ 4 → (p + 16 + 8 * m + 27 + 8 * (y % 65536) ≡ end path b p) × (p + 16 + 8 * m + 27 + 8 * (y % 65536) ≤ b .size)
+    name-ends h = skip-one b bin p H (p + 16 + 8 * m) y raw-end hy h
+
+    -- it is local
+    pub local-ends : 67108864 ≤ y → (p + 16 + 8 * m + 25 + 8 * (y / 4 % 65536) ≡ end path b p) × (p + 16 + 8 * m + 25 + 8 * (y / 4 % 65536) ≤ b .size)
+    local-ends h =
+        let q = p + 16 + 8 * m in
+        let s = skip-name b bin p H q y raw-end hy (omega arith) in
+        let head : y ≡ field b 9 q * 262144 + field b 18 (q + 9) = hy ∙ field-append b 9 18 q in
+        let name : field b 18 (q + 9) ≡ field b 16 (q + 9) * 4 + field b 2 (q + 9 + 16) = field-append b 16 2 (q + 9) in
+        let n : y / 4 % 65536 ≡ field b 16 (q + 9) = omega (arith, head, name, field-lt b bin 16 (q + 9), field-lt b bin 2 (q + 9 + 16)) in
+        let e : q + 25 + 8 * (y / 4 % 65536) ≡ q + 9 + 16 + 8 * field b 16 (q + 9) = omega (arith, n) in
+        (e ∙ string-end b (q + 9) (s .inner) ∙ s .ends, omega (arith, e, string-in b (q + 9) (s .inner)))
 
 -- x is the kind, and what comes behind it
 module _ (d : ℕ) (b : Bits) (bin : Binary b) (p : ℕ) (H : Holds (element-of (call-of (param d)) (body 16 d)) b p) (x : ℕ) (hx : x ≡ field b 22 p) where
@@ -33,6 +58,12 @@ module _ (d : ℕ) (b : Bits) (bin : Binary b) (p : ℕ) (H : Holds (element-of 
 
   name-first : field b 18 (p + 4) ≡ field b 2 (p + 4) * 65536 + field b 16 (p + 4 + 2)
   name-first = field-append b 2 16 (p + 4)
+
+  -- a path's raw string
+  pub raw-count : x % 65536 ≡ field b 16 (p + 6)
+  raw-count =
+      let z : p + 4 + 2 ≡ p + 6 = omega arith in
+      omega (arith, kind-first, name-first, field-lt b bin 16 (p + 4 + 2), field-lt b bin 2 (p + 4), ap (field b 16) z)
 
   pub text-read : x < 262144 → TextIs d b p (x / 4)
   text-read lt =

@@ -8,10 +8,11 @@ ghost use Prim.Native.Nat.{ℕ, _+_, _-_, _*_, _^_, _≤_, _<_};
 ghost use lib.ListN.{length};
 ghost use Rattle.rules.specs.Bytes.{Bytes};
 ghost use Rattle.rules.specs.Bits.{bits};
-ghost use Rattle.rules.specs.Bundle.{param, call-of, element-of, body};
+ghost use Rattle.rules.specs.Layout.{field};
+ghost use Rattle.rules.specs.Bundle.{path, param, call-of, element-of, body};
 ghost use Rattle.bits.specs.Packed.{bytes-at};
 ghost use Rattle.direct.specs.Direct.{plain as is-plain};
-ghost use Rattle.parts.specs.Holds.{Holds};
+ghost use Rattle.parts.specs.Holds.{Holds, end};
 ghost use Rattle.parts.specs.HoldsLaws.{Passed};
 ghost use Rattle.template.specs.Views.{in-body};
 ghost use Rattle.places.specs.Accepted.{Accepted};
@@ -36,6 +37,34 @@ enum Plain {
     Other,
 }
 
+// The place behind the path at p. (Where a function passes its slice to a call, the compiler stores the slice on the stack when the function begins. This one
+// stands between, so that only the few paths that come here pay for that.)
+fn far_end(b: &[u8], p: usize) -> usize
+    requires { ⌜ (length (now b) ≤ 65536) × Holds path (bits (now b)) p ⌝ }
+    ensures { λ r. ⌜ r ≡ end path (bits (now (b .entry))) p ⌝ }
+{
+    parts::skip_path(b, p)
+}
+
+// The same, where its raw string is known to have m bytes.
+fn path_end(b: &[u8], p: usize, m: usize) -> usize
+    requires { ⌜ (length (now b) ≤ 65536) × Holds path (bits (now b)) p × (m ≡ field (bits (now b)) 16 p) ⌝ }
+    ensures { λ r. ⌜ r ≡ end path (bits (now (b .entry))) p ⌝ }
+{
+    let q = p + 16 + 8 * m;
+    // the local bit, the count or the level, and behind them a first segment's kind and count, or the count of a local value's name
+    let y = bits::field(b, q, 27);
+    // one segment, which is a name
+    if y / 65536 == 4 {
+        return q + 27 + 8 * ((y % 65536) as usize);
+    }
+    // a local value
+    if 67108864 <= y {
+        return q + 25 + 8 * ((y / 4 % 65536) as usize);
+    }
+    far_end(b, p)
+}
+
 // The element whose kind stands at p.
 fn plain_at(b: &[u8], p: usize, d: usize) -> Plain
     requires { ⌜ (length (now b) ≤ 65536) × Holds (element-of (call-of (param d)) (body 16 d)) (bits (now b)) p ⌝ }
@@ -53,7 +82,7 @@ fn plain_at(b: &[u8], p: usize, d: usize) -> Plain
             return Plain::Other;
         }
     }
-    let e = parts::skip_path(b, p + 6);
+    let e = path_end(b, p + 6, (x % 65536) as usize);
     // the counts of parameters and pairs, and the bit behind the call
     if 1 < bits::field(b, e, 9) {
         return Plain::Other;

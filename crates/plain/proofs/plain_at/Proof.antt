@@ -9,14 +9,14 @@ use Rattle.rules.specs.Bundle.{path}
 use Rattle.parts.specs.HoldsLaws.{string-in}
 use Rattle.parts.specs.Parts.{path-raw}
 use Rattle.template.specs.Content.{element-fits}
-use Rattle.plain.specs.Reading.{text-read, path-kind, path-there, path-read}
+use Rattle.plain.specs.Reading.{raw-count, text-read, path-kind, path-there, path-read}
 use borrow.Author.Needs.{needs}
 use Rattle.plain.proofs.plain_at.Statement.{statement}
 use Rattle.plain.proofs.plain_at.Tie as tie
 use Rattle.plain.proofs.plain_at.Reads as reads
 use Rattle.plain.proofs.plain_at.Lts as lts
 use Rattle.bits.proofs.field.Reads as field-reads
-use Rattle.parts.proofs.skip_path.Reads as skip-path-reads
+use Rattle.plain.proofs.path_end.Reads as path-end-reads
 
 field-requires : tie.Need-field-requires
 field-requires c κs = search needs
@@ -27,11 +27,11 @@ returns c = let z = (c .before .before .before) in text-read (z .args .d) (bits 
 returns-2 : tie.Need-returns-2
 returns-2 c = tt
 
-add-skip-path : tie.Need-add-skip-path
-add-skip-path c = let z = (c .before .before .before .before) in omega (arith, z .pre .0, element-fits 16 (z .args .d) (bits (z .args .b .now)) (z .args .p) (z .pre .1), bits-size (z .args .b .now))
+add-path-end : tie.Need-add-path-end
+add-path-end c = let z = (c .before .before .before .before) in omega (arith, z .pre .0, element-fits 16 (z .args .d) (bits (z .args .b .now)) (z .args .p) (z .pre .1), bits-size (z .args .b .now))
 
-skip-path-requires : tie.Need-skip-path-requires
-skip-path-requires c κs = let z = (c .before .before .before .before) in (z .pre .0, path-there (z .args .d) (bits (z .args .b .now)) (bits-binary (z .args .b .now)) (z .args .p) (z .pre .1) ((c .before .before) .field .result) ((c .before .before) .field .ensures) _ (path-kind (z .args .d) (bits (z .args .b .now)) (bits-binary (z .args .b .now)) (z .args .p) (z .pre .1) ((c .before .before) .field .result) ((c .before .before) .field .ensures) _ refl (⊎-elim (λ w. inr (w .1 .left)) (λ w. inl (w .left)) (c .if2 .came))))
+path-end-requires : tie.Need-path-end-requires
+path-end-requires c κs = let z = (c .before .before .before .before) in (z .pre .0, path-there (z .args .d) (bits (z .args .b .now)) (bits-binary (z .args .b .now)) (z .args .p) (z .pre .1) ((c .before .before) .field .result) ((c .before .before) .field .ensures) _ (path-kind (z .args .d) (bits (z .args .b .now)) (bits-binary (z .args .b .now)) (z .args .p) (z .pre .1) ((c .before .before) .field .result) ((c .before .before) .field .ensures) _ refl (⊎-elim (λ w. inr (w .1 .left)) (λ w. inl (w .left)) (c .if2 .came))), raw-count (z .args .d) (bits (z .args .b .now)) (bits-binary (z .args .b .now)) (z .args .p) (z .pre .1) ((c .before .before) .field .result) ((c .before .before) .field .ensures))
 
 field-requires-2 : tie.Need-field-requires-2
 field-requires-2 c κs = search needs
@@ -43,7 +43,7 @@ returns-4 : tie.Need-returns-4
 returns-4 c =
     let z = (c .before .before .before .before .before .before .before) in
     let K = path-kind (z .args .d) (bits (z .args .b .now)) (bits-binary (z .args .b .now)) (z .args .p) (z .pre .1) ((c .before .before .before .before .before) .field .result) ((c .before .before .before .before .before) .field .ensures) _ refl (⊎-elim (λ w. inr (w .1 .left)) (λ w. inl (w .left)) ((c .before .before .before) .if2 .came)) in
-    path-read (z .args .d) (bits (z .args .b .now)) (bits-binary (z .args .b .now)) (z .args .p) (z .pre .1) ((c .before .before .before .before .before) .field .result) ((c .before .before .before .before .before) .field .ensures) _ K ((c .before .before) .skip-path .result) ((c .before) .field2 .result) ((c .before .before) .skip-path .ensures) ((c .before) .field2 .ensures) (omega (arith, c .if4 .left))
+    path-read (z .args .d) (bits (z .args .b .now)) (bits-binary (z .args .b .now)) (z .args .p) (z .pre .1) ((c .before .before .before .before .before) .field .result) ((c .before .before .before .before .before) .field .ensures) _ K ((c .before .before) .path-end .result) ((c .before) .field2 .result) ((c .before .before) .path-end .ensures) ((c .before) .field2 .ensures) (omega (arith, c .if4 .left))
 
 pub plain-at-spec : {M : Type 1} → statement M
 plain-at-spec =
@@ -52,8 +52,8 @@ plain-at-spec =
     field-requires
     returns
     returns-2
-    add-skip-path
-    skip-path-requires
+    add-path-end
+    path-end-requires
     field-requires-2
     returns-3
     returns-4)
