@@ -1,7 +1,10 @@
 -- What a text that is stored at once leaves to the loop: to move its writer on.
 use Prim.Native.Nat.{ℕ, _+_, _-_, _/_, _%_, _^_, _<_}
-use mathlib.Core.Bool.{Bool, true, false}
+use mathlib.Core.Bool.{Bool, true, false, _||_}
+use mathlib.Core.Logic.{inl, inr}
 use mathlib.Core.Path.{_≡_, refl, sym, ap, _∙_}
+use lib.Dec.{eqb}
+use borrow.Author.Tests.{eqb-true}
 use Rattle.rules.specs.Bytes.{Bytes}
 use Rattle.rules.specs.Value.{render}
 use Rattle.output.specs.declared.Writer.{Writer}
@@ -10,6 +13,9 @@ use Rattle.output.specs.Outputs.{outputs}
 use Rattle.support.specs.Feed.{escaped, fed}
 use Rattle.direct.specs.Direct.{behind}
 use Rattle.value.specs.declared.Value.{Value}
+use Rattle.value.specs.Numbers.{decoded}
+use Rattle.context.specs.Numbers.{context-number, place-number}
+use Rattle.print.specs.Span.{InPlan}
 use Rattle.meaning.specs.Forms.{Known}
 use Rattle.meaning.specs.Means.{Means, means-so}
 
@@ -60,3 +66,11 @@ module _ (s b : Bytes) (v : Value) (i : Bytes) (e : Bool) (w u : Writer) (page t
   value-by n c h p k =
       means-so s b v (λ j. outputs (behind n c w) page′ texts′ ≡ fed i (escaped e (render j)) (outputs w page texts)) (λ j. outputs u page′ texts′ ≡ fed i (escaped e (render j)) (outputs w page texts))
       (λ j q. ap (λ (x : Writer). outputs x page′ texts′) h ∙ q) (p .is b k i e)
+
+-- the number of a value that is a place of the plan
+pub number-place : (n : ℕ) → (eqb (n % 16) 5 || eqb (n % 16) 6) ≡ true → InPlan (decoded n) (n / 16)
+number-place n h = by (eqb (n % 16) 5) refl h
+  where
+    by : (t : Bool) → eqb (n % 16) 5 ≡ t → (t || eqb (n % 16) 6) ≡ true → InPlan (decoded n) (n / 16)
+    by true e k = inl (context-number n (eqb-true (n % 16) 5 e))
+    by false e k = inr (place-number n (eqb-true (n % 16) 6 k))

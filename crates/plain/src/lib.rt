@@ -16,6 +16,7 @@ ghost use Rattle.parts.specs.Holds.{Holds, end};
 ghost use Rattle.parts.specs.HoldsLaws.{Passed};
 ghost use Rattle.template.specs.Views.{in-body};
 ghost use Rattle.places.specs.Accepted.{Accepted};
+ghost use Rattle.value.specs.Numbers.{decoded};
 ghost use Rattle.meaning.specs.Forms.{Known};
 ghost use Rattle.state.specs.Context.{whole};
 ghost use Rattle.state.specs.World.{world, Ready};
@@ -23,10 +24,8 @@ ghost use Rattle.plain.specs.Plain.{kept, full-number, PlainIs, run-of};
 ghost use Rattle.plain.specs.Put.{Put, PutPlain, PutValue};
 ghost use Rattle.plain.specs.Plain as plain;
 use expand::Options;
-use helpers::Shows;
 use output::Writer;
 use state::RenderContext;
-use value::Value;
 
 // What an element is, as far as few reads tell.
 enum Plain {
@@ -128,19 +127,23 @@ fn put_bytes(page: &mut [u8], texts: &mut [u8], w: Writer, v: &[u8]) -> usize
     direct::set_bytes(page, w, v)
 }
 
-// What a value prints that stands in the plan so and needs no escaping, where no indent is due.
-fn put_value(page: &mut [u8], texts: &mut [u8], w: Writer, s: &[u8], tab: &[u64], v: Value) -> usize
-    requires { ⌜ Accepted (now s) (now tab) × ((b : Bytes) × Known (now s) b v) ⌝ }
-    ensures { λ r. ⌜ PutValue (now (s .entry)) v w (now (page .entry)) (now (texts .entry)) (now (page .exit)) (now (texts .exit)) r ⌝ }
+// What a value prints that stands in the plan so and needs no escaping, where no indent is due: n is the value's number.
+fn put_number(page: &mut [u8], texts: &mut [u8], w: Writer, s: &[u8], tab: &[u64], n: u32) -> usize
+    requires { ⌜ Accepted (now s) (now tab) × ((b : Bytes) × Known (now s) b (decoded n)) ⌝ }
+    ensures { λ r. ⌜ PutValue (now (s .entry)) (decoded n) w (now (page .entry)) (now (texts .entry)) (now (page .exit)) (now (texts .exit)) r ⌝ }
 {
     if w.has_indent & w.indent_before_write {
         return 0;
     }
-    let p = print::calm_span(s, tab, v);
-    let at = p.start;
-    let e = p.end;
-    if at < e {
-        return put_bytes(page, texts, w, &s[at..e]);
+    // a place of the plan, with the path to it or without
+    let tag = n % 16;
+    if (tag == 5) | (tag == 6) {
+        let p = print::calm_place(s, tab, (n / 16) as usize);
+        let at = p.start;
+        let e = p.end;
+        if at < e {
+            return put_bytes(page, texts, w, &s[at..e]);
+        }
     }
     0
 }
@@ -204,23 +207,24 @@ pub fn draw_run(
                 if html & rc.disable_escape {
                     return run_of(w, k, cur, 0);
                 }
-                match helpers::bare_path(s, tab, b, ent, sc, rc.used, options, q + 6) {
-                    Shows::Bad(n) => {
-                        return run_of(w, k, cur, n);
+                // 0 where it is a helper's, below 255 a refusal, 255 for nothing, else 256 more than the value's number
+                let r = helpers::bare_number(s, tab, b, ent, sc, rc.used, options, q + 6);
+                if r == 0 {
+                    return run_of(w, k, cur, 0);
+                }
+                if r < 255 {
+                    return run_of(w, k, cur, r as u8);
+                }
+                if 255 < r {
+                    let n = (r - 256) as u32;
+                    let put = put_number(page, texts, w, s, tab, n);
+                    if put == 0 {
+                        let escape = !(html | rc.disable_escape);
+                        let v = value::decode(n);
+                        w = writing::write_value(page, texts, indent, w, s, tab, b, v, escape);
+                    } else {
+                        w = direct::behind(w, put / 256, (put % 256) as u8);
                     }
-                    Shows::Helper => {
-                        return run_of(w, k, cur, 0);
-                    }
-                    Shows::Value(v) => {
-                        let put = put_value(page, texts, w, s, tab, v);
-                        if put == 0 {
-                            let escape = !(html | rc.disable_escape);
-                            w = writing::write_value(page, texts, indent, w, s, tab, b, v, escape);
-                        } else {
-                            w = direct::behind(w, put / 256, (put % 256) as u8);
-                        }
-                    }
-                    Shows::Nothing => {}
                 }
                 next = e + 9;
             }

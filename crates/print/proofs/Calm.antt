@@ -8,8 +8,6 @@ use native.Mathlib.Omega.{arith}
 use lib.Dec.{eqb, leb, ltb}
 use lib.ListN.{length, getD, take, drop}
 use lib.Seq.{drop-cons, getD-drop}
-use types.Run.{OneOf, miss}
-use denote.Enum.Declared.{tagOf}
 use borrow.Author.Tests.{eqb-true, leb-true, le-leb, ne-eqb, not-true}
 use Rattle.rules.specs.Bytes.{Bytes, pick, byte-at, run}
 use Rattle.rules.specs.Order.{and-left, and-right, differ}
@@ -19,34 +17,13 @@ use Rattle.scan.proofs.Bounds.{whole-goes}
 use Rattle.support.specs.Runs.{quiet-byte}
 use Rattle.support.specs.Table.{row-in, row-of}
 use Rattle.saying.specs.Said.{is-own, own-end}
-use Rattle.value.proofs.Value.{the-type}
-use Rattle.value.specs.declared.Value.{Value}
-use Rattle.value.specs.declared.Value.the-variants.{Missing, Null, False, True, Empty, Context, Place, Literal, Index, IndexText, Name, Text, SaidChar, PackedChar, Merged}
 use Rattle.places.specs.Places.{start-of, tree-at}
 use Rattle.print.specs.declared.Span.{Span}
-use Rattle.print.specs.Span.{no-span, string-span, number-span, span-at, span-of, value-span, is-calm, calm-end, calm-string, calm-at, calm-of, calm-span}
-use Rattle.print.proofs.Spans.{others}
+use Rattle.print.specs.Span.{no-span, string-span, number-span, span-at, span-of, is-calm, calm-end, calm-string, calm-at, calm-of}
 
 pub calm-number : (s : Bytes) (q : ℕ) → (byte-at s q ≡ 34 → ⊥) → calm-at s q ≡ number-span s q
 unfolding calm-at
 calm-number s q n = rw (ne-eqb (byte-at s q) 34 n)
-
-pub elsewhere : (s : Bytes) (v : Value) → OneOf others (tagOf the-type v) → no-span ≡ calm-span s v
-elsewhere s Missing k = refl
-elsewhere s Null k = refl
-elsewhere s False k = refl
-elsewhere s True k = refl
-elsewhere s Empty k = refl
-elsewhere s (Context i) k = absurd (miss others 5 tt k)
-elsewhere s (Place i) k = absurd (miss others 6 tt k)
-elsewhere s (Literal p) k = refl
-elsewhere s (Index n) k = refl
-elsewhere s (IndexText n) k = refl
-elsewhere s (Name o) k = refl
-elsewhere s (Text p) k = refl
-elsewhere s (SaidChar o n) k = refl
-elsewhere s (PackedChar p n) k = refl
-elsewhere s (Merged h n) k = refl
 
 -- A byte
 
@@ -216,25 +193,8 @@ module _ (s : Bytes) (has : Bool) (p : Span) (some : p .end ≡ 0 → ⊥) where
         quiet = subst (λ (y : Span). Quiet has (take (y .end - y .start) (drop (y .start) s))) (sym k) (number-quiet has s q (λ z. some (ap (λ (y : Span). y .end) k ∙ z)));
       }
 
-  both : (v : Value) → p ≡ calm-span s v → Both s has p (value-span s v)
-  both Missing e = absurd (some (ap (λ (y : Span). y .end) e))
-  both Null e = absurd (some (ap (λ (y : Span). y .end) e))
-  both False e = absurd (some (ap (λ (y : Span). y .end) e))
-  both True e = absurd (some (ap (λ (y : Span). y .end) e))
-  both Empty e = absurd (some (ap (λ (y : Span). y .end) e))
-  both (Context i) e = place-both (start-of (tree-at s i)) e
-  both (Place i) e = place-both (start-of (tree-at s i)) e
-  both (Literal q) e = absurd (some (ap (λ (y : Span). y .end) e))
-  both (Index n) e = absurd (some (ap (λ (y : Span). y .end) e))
-  both (IndexText n) e = absurd (some (ap (λ (y : Span). y .end) e))
-  both (Name o) e = absurd (some (ap (λ (y : Span). y .end) e))
-  both (Text q) e = absurd (some (ap (λ (y : Span). y .end) e))
-  both (SaidChar o n) e = absurd (some (ap (λ (y : Span). y .end) e))
-  both (PackedChar q n) e = absurd (some (ap (λ (y : Span). y .end) e))
-  both (Merged g n) e = absurd (some (ap (λ (y : Span). y .end) e))
+  pub calm-is : (i : ℕ) → p ≡ calm-of s i → p ≡ span-of s i
+  calm-is i e = place-both (start-of (tree-at s i)) e .same
 
-  pub calm-is : (v : Value) → p ≡ calm-span s v → p ≡ value-span s v
-  calm-is v e = both v e .same
-
-  pub calm-means : (v : Value) → p ≡ calm-span s v → run (quiet-byte has true) (take (p .end - p .start) (drop (p .start) s)) ≡ length (take (p .end - p .start) (drop (p .start) s))
-  calm-means v e = both v e .quiet
+  pub calm-means : (i : ℕ) → p ≡ calm-of s i → run (quiet-byte has true) (take (p .end - p .start) (drop (p .start) s)) ≡ length (take (p .end - p .start) (drop (p .start) s))
+  calm-means i e = place-both (start-of (tree-at s i)) e .quiet

@@ -174,6 +174,10 @@ in-plan s (SaidChar o n) p h e = absurd (h (ap (λ (y : Span). y .end) e))
 in-plan s (PackedChar q n) p h e = absurd (h (ap (λ (y : Span). y .end) e))
 in-plan s (Merged g n) p h e = absurd (h (ap (λ (y : Span). y .end) e))
 
+pub plan-span : (s : Bytes) (v : Value) (i : ℕ) → InPlan v i → span-of s i ≡ value-span s v
+plan-span s v i (inl e) = sym (ap (value-span s) e)
+plan-span s v i (inr e) = sym (ap (value-span s) e)
+
 module _ (s b : Bytes) (v : Value) where
   pub plan-within : Known s b v → (i : ℕ) → InPlan v i → i < places s
   plan-within k i (inl e) = subst (Known s b) e k refl .0

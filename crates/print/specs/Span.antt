@@ -71,20 +71,3 @@ calm-at s q = pick (eqb (byte-at s q) 34) (calm-string s (q + 1)) (number-span s
 
 abbrev pub calm-of : Bytes → ℕ → Span
 calm-of s i = calm-at s (start-of (tree-at s i))
-
-abbrev pub calm-span : Bytes → Value → Span
-calm-span s Missing = no-span
-calm-span s Null = no-span
-calm-span s False = no-span
-calm-span s True = no-span
-calm-span s Empty = no-span
-calm-span s (Context i) = calm-of s i
-calm-span s (Place i) = calm-of s i
-calm-span s (Literal p) = no-span
-calm-span s (Index n) = no-span
-calm-span s (IndexText n) = no-span
-calm-span s (Name o) = no-span
-calm-span s (Text p) = no-span
-calm-span s (SaidChar o n) = no-span
-calm-span s (PackedChar p n) = no-span
-calm-span s (Merged h n) = no-span

@@ -19,7 +19,7 @@ ghost use Rattle.meaning.specs.Forms.{Known};
 ghost use Rattle.meaning.specs.Means.{Means};
 ghost use Rattle.text.specs.Strip.{stripped};
 ghost use Rattle.print.specs.Printed.{printed, IsList};
-ghost use Rattle.print.specs.Span.{string-span, span-of, InPlan, value-span, is-calm, calm-end, calm-string, calm-of, calm-span};
+ghost use Rattle.print.specs.Span.{string-span, span-of, InPlan, value-span, is-calm, calm-end, calm-string, calm-of};
 ghost use Rattle.print.specs.Target as target;
 ghost use Rattle.print.specs.Target.{met};
 use meaning::Form;
@@ -271,8 +271,8 @@ fn calm_string(s: &[u8], i: usize) -> Span
     Span { start: 0, end: 0 }
 }
 
-// What the value at the place i prints, if that stands in the plan just so and nothing of it is escaped.
-fn calm_place(s: &[u8], tab: &[u64], i: usize) -> Span
+// What the value at the place i prints, if that stands in the plan just so and nothing of it is escaped: one pass over its bytes tells both.
+pub fn calm_place(s: &[u8], tab: &[u64], i: usize) -> Span
     requires { ⌜ Accepted (now s) (now tab) × (i < places (now s)) ⌝ }
     ensures { λ r. ⌜ r ≡ calm-of (now (s .entry)) i ⌝ }
 {
@@ -282,18 +282,6 @@ fn calm_place(s: &[u8], tab: &[u64], i: usize) -> Span
     }
     let e = scan::whole_end(s, scan::minus_end(s, q));
     Span { start: q, end: e }
-}
-
-// The same of a value: one pass over its bytes tells both.
-pub fn calm_span(s: &[u8], tab: &[u64], v: Value) -> Span
-    requires { ⌜ Accepted (now s) (now tab) × ((i : ℕ) → InPlan v i → i < places (now s)) ⌝ }
-    ensures { λ r. ⌜ r ≡ calm-span (now (s .entry)) v ⌝ }
-{
-    match v {
-        Value::Context(i) => calm_place(s, tab, i),
-        Value::Place(i) => calm_place(s, tab, i),
-        _ => Span { start: 0, end: 0 },
-    }
 }
 
 // What a value prints.

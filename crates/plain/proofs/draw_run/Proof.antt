@@ -19,6 +19,9 @@ use Rattle.template.specs.Bodies.{element-here, placed-fits, placed-holds}
 use Rattle.state.specs.Context.{RenderContext, whole}
 use Rattle.state.specs.World.{World, world, top}
 use Rattle.expressions.specs.Laws.{expression-known}
+use Rattle.value.specs.Numbers.{decoded}
+use Rattle.helpers.specs.declared.Shows.the-variants as shows
+use Rattle.helpers.specs.Does.{shows-of, shows-bad, shows-nothing, shows-value}
 use Rattle.plain.specs.declared.Run as code
 use Rattle.plain.specs.Plain.{kept, full-number, TextIs, PathIs, PlainIs, OneDrawn, Run}
 use Rattle.plain.specs.Laws.{kept-same, full-none, full-bad, one-moved, text-drawn, path-refused, path-number, path-nothing, path-written, drawing-here, Onward, run-left, run-stop, run-more}
@@ -29,12 +32,13 @@ use Rattle.plain.proofs.draw_run.Tie as tie
 use Rattle.plain.proofs.draw_run.Reads as reads
 use Rattle.plain.proofs.draw_run.Lts as lts
 use Rattle.direct.proofs.behind.Reads as behind-reads
-use Rattle.helpers.proofs.bare_path.Reads as bare-path-reads
+use Rattle.helpers.proofs.bare_number.Reads as bare-number-reads
 use Rattle.plain.proofs.full_number.Reads as full-number-reads
 use Rattle.plain.proofs.plain_at.Reads as plain-at-reads
 use Rattle.plain.proofs.put_text.Reads as put-text-reads
-use Rattle.plain.proofs.put_value.Reads as put-value-reads
+use Rattle.plain.proofs.put_number.Reads as put-number-reads
 use Rattle.plain.proofs.run_of.Reads as run-of-reads
+use Rattle.value.proofs.decode.Reads as decode-reads
 use Rattle.writing.proofs.write_packed.Reads as write-packed-reads
 use Rattle.writing.proofs.write_value.Reads as write-value-reads
 
@@ -171,8 +175,8 @@ returns c = let z = (c .before .before .before .before .before .before .before .
     subst (λ (j : code.Run). Run (a .s .now) (a .b .now) (a .options) (a .d) (a .count) (world (whole (a .rc) (a .sc .now)) (a .page .now) (a .texts .now) (a .indent .now) (a .ent .now)) (world (kept (whole (a .rc) (a .sc .now)) (j .writer) (j .bad)) (l .page) (l .texts) (a .indent .now) (a .ent .now)) (a .i) (a .p) (j .i) (j .cur)) (sym (c .run-of .ensures))
     (run-left (a .s .now) (a .b .now) (a .options) (a .d) (a .count) (world (whole (a .rc) (a .sc .now)) (a .page .now) (a .texts .now) (a .indent .now) (a .ent .now)) (world (kept (whole (a .rc) (a .sc .now)) (l .w) 0) (l .page) (l .texts) (a .indent .now) (a .ent .now)) (a .i) (a .p) (l .k) (l .cur) (l .inv .1) (l .inv .0) refl)
 
-add-bare-path : tie.Need-add-bare-path Inv-loop μ-loop
-add-bare-path c = let z = (c .before .before .before .before .before .before .before .before .before .before .before .before .before .before .before .before .before) in
+add-bare-number : tie.Need-add-bare-number Inv-loop μ-loop
+add-bare-number c = let z = (c .before .before .before .before .before .before .before .before .before .before .before .before .before .before .before .before .before) in
     let a = z .args in
     let l = (c .before .before .before .before .before .before .before) .loop in
     let D = l .inv .1 none (z .pre .3 .0) (z .pre .3 .1) in
@@ -182,8 +186,8 @@ add-bare-path c = let z = (c .before .before .before .before .before .before .be
     let k = string-in (bits (a .b .now)) (l .cur + 16 + 16 + 6) (path-raw (bits (a .b .now)) (l .cur + 16 + 16 + 6) (P .leads)) in
     omega (arith, z .pre .1, k, P .fits, bits-size (a .b .now))
 
-bare-path-requires : tie.Need-bare-path-requires Inv-loop μ-loop
-bare-path-requires c κs = let z = (c .before .before .before .before .before .before .before .before .before .before .before .before .before .before .before .before .before) in
+bare-number-requires : tie.Need-bare-number-requires Inv-loop μ-loop
+bare-number-requires c κs = let z = (c .before .before .before .before .before .before .before .before .before .before .before .before .before .before .before .before .before) in
     let a = z .args in
     let l = (c .before .before .before .before .before .before .before) .loop in
     let D = l .inv .1 none (z .pre .3 .0) (z .pre .3 .1) in
@@ -192,33 +196,25 @@ bare-path-requires c κs = let z = (c .before .before .before .before .before .b
     let P : PathIs (a .d) (bits (a .b .now)) (l .cur + 16 + 16) y e = subst (PlainIs (a .d) (bits (a .b .now)) (l .cur + 16 + 16)) ((c .before .before .before) .html .given .1) ((c .before .before .before .before .before) .plain-at .ensures) in
     (z .pre .0, z .pre .1, D .goes .ready .one, D .goes .ready .most, (top (world (kept (whole (a .rc) (a .sc .now)) (l .w) 0) (l .page) (l .texts) (a .indent .now) (a .ent .now)), D .goes .ready .scopes), P .leads, z .pre .4)
 
-enum-known-n-2 : tie.Need-enum-known-n-2 Inv-loop μ-loop
-enum-known-n-2 c = search needs
-
 run-of-requires-2 : tie.Need-run-of-requires-2 Inv-loop μ-loop
 run-of-requires-2 c κs = search needs
 
 same-length-3 : tie.Need-same-length-3 Inv-loop μ-loop
-same-length-3 c = let z = (c .before .before .before .before .before .before .before .before .before .before .before .before .before .before .before .before .before .before .before .before .before .before) in let D = (c .before .before .before .before .before .before .before .before .before .before .before .before) .loop .inv .1 none (z .pre .3 .0) (z .pre .3 .1) in omega (arith, D .goes .sizes .page)
+same-length-3 c = let z = (c .before .before .before .before .before .before .before .before .before .before .before .before .before .before .before .before .before .before .before .before) in let D = (c .before .before .before .before .before .before .before .before .before .before) .loop .inv .1 none (z .pre .3 .0) (z .pre .3 .1) in omega (arith, D .goes .sizes .page)
 
 same-length-4 : tie.Need-same-length-4 Inv-loop μ-loop
-same-length-4 c = let z = (c .before .before .before .before .before .before .before .before .before .before .before .before .before .before .before .before .before .before .before .before .before .before) in let D = (c .before .before .before .before .before .before .before .before .before .before .before .before) .loop .inv .1 none (z .pre .3 .0) (z .pre .3 .1) in omega (arith, D .goes .sizes .texts)
+same-length-4 c = let z = (c .before .before .before .before .before .before .before .before .before .before .before .before .before .before .before .before .before .before .before .before) in let D = (c .before .before .before .before .before .before .before .before .before .before) .loop .inv .1 none (z .pre .3 .0) (z .pre .3 .1) in omega (arith, D .goes .sizes .texts)
 
 returns-2 : tie.Need-returns-2 Inv-loop μ-loop
-returns-2 c = let z = (c .before .before .before .before .before .before .before .before .before .before .before .before .before .before .before .before .before .before .before .before .before .before) in
+returns-2 c = let z = (c .before .before .before .before .before .before .before .before .before .before .before .before .before .before .before .before .before .before .before .before) in
     let a = z .args in
-    let l = (c .before .before .before .before .before .before .before .before .before .before .before .before) .loop in
+    let l = (c .before .before .before .before .before .before .before .before .before .before) .loop in
     let D = l .inv .1 none (z .pre .3 .0) (z .pre .3 .1) in
-    let y = (c .before .before .before .before .before .before .before .before) .html .given .0 .0 in
-    let e = (c .before .before .before .before .before .before .before .before) .html .given .0 .1 .0 in
-    let P : PathIs (a .d) (bits (a .b .now)) (l .cur + 16 + 16) y e = subst (PlainIs (a .d) (bits (a .b .now)) (l .cur + 16 + 16)) ((c .before .before .before .before .before .before .before .before) .html .given .1) ((c .before .before .before .before .before .before .before .before .before .before) .plain-at .ensures) in
     subst (λ (j : code.Run). Run (a .s .now) (a .b .now) (a .options) (a .d) (a .count) (world (whole (a .rc) (a .sc .now)) (a .page .now) (a .texts .now) (a .indent .now) (a .ent .now)) (world (kept (whole (a .rc) (a .sc .now)) (j .writer) (j .bad)) (l .page) (l .texts) (a .indent .now) (a .ent .now)) (a .i) (a .p) (j .i) (j .cur)) (sym (c .run-of2 .ensures))
-    (run-stop (a .s .now) (a .b .now) (a .options) (a .d) (a .count) (world (whole (a .rc) (a .sc .now)) (a .page .now) (a .texts .now) (a .indent .now) (a .ent .now)) (world (kept (whole (a .rc) (a .sc .now)) (l .w) 0) (l .page) (l .texts) (a .indent .now) (a .ent .now)) (a .i) (a .p) (l .k) (l .cur) (l .inv .1) ((c .before .before .before .before .before .before .before .before .before .before .before) .loop-test .taken) (world (kept (whole (a .rc) (a .sc .now)) (l .w) ((c .before .before) .n2 .given .0 .0)) (l .page) (l .texts) (a .indent .now) (a .ent .now)) (e + 9)
-    (path-refused (a .s .now) (a .b .now) (a .options) (a .d) (l .cur) (whole (a .rc) (a .sc .now)) (l .w) (l .page) (l .texts) (a .indent .now) (a .ent .now) (D .goes .ready) y e P ((c .before .before .before .before) .bare-path .result) (λ g st j ibw h. (c .before .before .before .before) .bare-path .ensures g st j (a .d) (l .cur + 16 + 16 + 4) ibw h (P .call) (P .named) (P .bare)) (λ k. sym (ap (λ (x : Bool). x && a .rc .«disable_escape») k) ∙ (c .before .before .before .before .before) .if2 .left) ((c .before .before) .n2 .given .0 .0) ((c .before .before) .n2 .given .1)) (l .inv .0)
-    (path-number (a .s .now) (a .b .now) (a .options) (a .d) (l .cur) (whole (a .rc) (a .sc .now)) (l .w) (l .page) (l .texts) (a .indent .now) (a .ent .now) (D .goes .ready) y e P ((c .before .before .before .before) .bare-path .result) (λ g st j ibw h. (c .before .before .before .before) .bare-path .ensures g st j (a .d) (l .cur + 16 + 16 + 4) ibw h (P .call) (P .named) (P .bare)) ((c .before .before) .n2 .given .0 .0) ((c .before .before) .n2 .given .1)))
+    (run-left (a .s .now) (a .b .now) (a .options) (a .d) (a .count) (world (whole (a .rc) (a .sc .now)) (a .page .now) (a .texts .now) (a .indent .now) (a .ent .now)) (world (kept (whole (a .rc) (a .sc .now)) (l .w) 0) (l .page) (l .texts) (a .indent .now) (a .ent .now)) (a .i) (a .p) (l .k) (l .cur) (l .inv .1) (l .inv .0) refl)
 
-enum-told : tie.Need-enum-told Inv-loop μ-loop
-enum-told c = search needs
+cast-run-of : tie.Need-cast-run-of Inv-loop μ-loop
+cast-run-of c = omega (arith, c .if4 .taken)
 
 run-of-requires-3 : tie.Need-run-of-requires-3 Inv-loop μ-loop
 run-of-requires-3 c κs = search needs
@@ -234,54 +230,66 @@ returns-3 c = let z = (c .before .before .before .before .before .before .before
     let a = z .args in
     let l = (c .before .before .before .before .before .before .before .before .before .before .before) .loop in
     let D = l .inv .1 none (z .pre .3 .0) (z .pre .3 .1) in
+    let y = (c .before .before .before .before .before .before .before) .html .given .0 .0 in
+    let e = (c .before .before .before .before .before .before .before) .html .given .0 .1 .0 in
+    let P : PathIs (a .d) (bits (a .b .now)) (l .cur + 16 + 16) y e = subst (PlainIs (a .d) (bits (a .b .now)) (l .cur + 16 + 16)) ((c .before .before .before .before .before .before .before) .html .given .1) ((c .before .before .before .before .before .before .before .before .before) .plain-at .ensures) in
+    let f = (c .before .before .before) .bare-number in
+    let bad = shows-bad (f .result) ((c .before .before) .if3 .left) ((c .before) .if4 .taken) in
     subst (λ (j : code.Run). Run (a .s .now) (a .b .now) (a .options) (a .d) (a .count) (world (whole (a .rc) (a .sc .now)) (a .page .now) (a .texts .now) (a .indent .now) (a .ent .now)) (world (kept (whole (a .rc) (a .sc .now)) (j .writer) (j .bad)) (l .page) (l .texts) (a .indent .now) (a .ent .now)) (a .i) (a .p) (j .i) (j .cur)) (sym (c .run-of3 .ensures))
-    (run-left (a .s .now) (a .b .now) (a .options) (a .d) (a .count) (world (whole (a .rc) (a .sc .now)) (a .page .now) (a .texts .now) (a .indent .now) (a .ent .now)) (world (kept (whole (a .rc) (a .sc .now)) (l .w) 0) (l .page) (l .texts) (a .indent .now) (a .ent .now)) (a .i) (a .p) (l .k) (l .cur) (l .inv .1) (l .inv .0) refl)
+    (run-stop (a .s .now) (a .b .now) (a .options) (a .d) (a .count) (world (whole (a .rc) (a .sc .now)) (a .page .now) (a .texts .now) (a .indent .now) (a .ent .now)) (world (kept (whole (a .rc) (a .sc .now)) (l .w) 0) (l .page) (l .texts) (a .indent .now) (a .ent .now)) (a .i) (a .p) (l .k) (l .cur) (l .inv .1) ((c .before .before .before .before .before .before .before .before .before .before) .loop-test .taken) (world (kept (whole (a .rc) (a .sc .now)) (l .w) (f .result)) (l .page) (l .texts) (a .indent .now) (a .ent .now)) (e + 9)
+    (path-refused (a .s .now) (a .b .now) (a .options) (a .d) (l .cur) (whole (a .rc) (a .sc .now)) (l .w) (l .page) (l .texts) (a .indent .now) (a .ent .now) (D .goes .ready) y e P (shows-of (f .result)) (λ g st j ibw h. f .ensures .1 g st j (a .d) (l .cur + 16 + 16 + 4) ibw h (P .call) (P .named) (P .bare)) (λ k. sym (ap (λ (x : Bool). x && a .rc .«disable_escape») k) ∙ (c .before .before .before .before) .if2 .left) (f .result) bad) (l .inv .0)
+    (path-number (a .s .now) (a .b .now) (a .options) (a .d) (l .cur) (whole (a .rc) (a .sc .now)) (l .w) (l .page) (l .texts) (a .indent .now) (a .ent .now) (D .goes .ready) y e P (shows-of (f .result)) (λ g st j ibw h. f .ensures .1 g st j (a .d) (l .cur + 16 + 16 + 4) ibw h (P .call) (P .named) (P .bare)) (f .result) bad))
 
-enum-known-v : tie.Need-enum-known-v Inv-loop μ-loop
-enum-known-v c = search needs
+sub-n : tie.Need-sub-n Inv-loop μ-loop
+sub-n c = omega (arith, c .if5 .taken)
 
-put-value-requires : tie.Need-put-value-requires Inv-loop μ-loop
-put-value-requires c κs = let z = (c .before .before .before .before .before .before .before .before .before .before .before .before .before .before .before .before .before .before .before .before .before .before .before) in
+cast-n : tie.Need-cast-n Inv-loop μ-loop
+cast-n c = omega (arith, c .if5 .taken, (c .before .before .before) .bare-number .ensures .0)
+
+put-number-requires : tie.Need-put-number-requires Inv-loop μ-loop
+put-number-requires c κs = let z = (c .before .before .before .before .before .before .before .before .before .before .before .before .before .before .before .before .before .before .before .before .before .before .before) in
     let a = z .args in
     let l = (c .before .before .before .before .before .before .before .before .before .before .before .before .before) .loop in
     let D = l .inv .1 none (z .pre .3 .0) (z .pre .3 .1) in
     let y = (c .before .before .before .before .before .before .before .before .before) .html .given .0 .0 in
     let e = (c .before .before .before .before .before .before .before .before .before) .html .given .0 .1 .0 in
     let P : PathIs (a .d) (bits (a .b .now)) (l .cur + 16 + 16) y e = subst (PlainIs (a .d) (bits (a .b .now)) (l .cur + 16 + 16)) ((c .before .before .before .before .before .before .before .before .before) .html .given .1) ((c .before .before .before .before .before .before .before .before .before .before .before) .plain-at .ensures) in
-    (z .pre .0, (a .b .now, expression-known (a .s .now) (a .b .now) (a .options) (world (kept (whole (a .rc) (a .sc .now)) (l .w) 0) (l .page) (l .texts) (a .indent .now) (a .ent .now)) (D .goes .ready) (call-at (a .d) (bits (a .b .now)) (l .cur + 16 + 16 + 4)) (P .before) ((c .before .before .before .before .before) .bare-path .result) (λ g st j ibw h. (c .before .before .before .before .before) .bare-path .ensures g st j (a .d) (l .cur + 16 + 16 + 4) ibw h (P .call) (P .named) (P .bare)) ((c .before .before .before) .v .given .0 .0) ((c .before .before .before) .v .given .1)))
+    let f = (c .before .before .before .before .before) .bare-number in
+    (z .pre .0, (a .b .now, (expression-known (a .s .now) (a .b .now) (a .options) (world (kept (whole (a .rc) (a .sc .now)) (l .w) 0) (l .page) (l .texts) (a .indent .now) (a .ent .now)) (D .goes .ready) (call-at (a .d) (bits (a .b .now)) (l .cur + 16 + 16 + 4)) (P .before) (shows-of (f .result)) (λ g st j ibw h. f .ensures .1 g st j (a .d) (l .cur + 16 + 16 + 4) ibw h (P .call) (P .named) (P .bare)) (decoded (f .result - 256)) (shows-value (f .result) ((c .before .before) .if5 .taken)))))
+
+decode-requires : tie.Need-decode-requires Inv-loop μ-loop
+decode-requires c κs = search needs
 
 write-value-requires : tie.Need-write-value-requires Inv-loop μ-loop
-write-value-requires c κs = let z = (c .before .before .before .before .before .before .before .before .before .before .before .before .before .before .before .before .before .before .before .before .before .before .before .before .before .before .before .before .before .before .before .before) in
+write-value-requires c κs = let z = (c .before .before .before .before .before .before .before .before .before .before .before .before .before .before .before .before .before .before .before .before .before .before .before .before .before .before .before .before .before .before .before .before .before) in
     let a = z .args in
-    let l = (c .before .before .before .before .before .before .before .before .before .before .before .before .before .before .before .before .before .before .before .before .before .before) .loop in
+    let l = (c .before .before .before .before .before .before .before .before .before .before .before .before .before .before .before .before .before .before .before .before .before .before .before) .loop in
     let D = l .inv .1 none (z .pre .3 .0) (z .pre .3 .1) in
-    let y = (c .before .before .before .before .before .before .before .before .before .before .before .before .before .before .before .before .before .before) .html .given .0 .0 in
-    let e = (c .before .before .before .before .before .before .before .before .before .before .before .before .before .before .before .before .before .before) .html .given .0 .1 .0 in
-    let P : PathIs (a .d) (bits (a .b .now)) (l .cur + 16 + 16) y e = subst (PlainIs (a .d) (bits (a .b .now)) (l .cur + 16 + 16)) ((c .before .before .before .before .before .before .before .before .before .before .before .before .before .before .before .before .before .before) .html .given .1) ((c .before .before .before .before .before .before .before .before .before .before .before .before .before .before .before .before .before .before .before .before) .plain-at .ensures) in
-    (z .pre .0, z .pre .1, expression-known (a .s .now) (a .b .now) (a .options) (world (kept (whole (a .rc) (a .sc .now)) (l .w) 0) (l .page) (l .texts) (a .indent .now) (a .ent .now)) (D .goes .ready) (call-at (a .d) (bits (a .b .now)) (l .cur + 16 + 16 + 4)) (P .before) ((c .before .before .before .before .before .before .before .before .before .before .before .before .before .before) .bare-path .result) (λ g st j ibw h. (c .before .before .before .before .before .before .before .before .before .before .before .before .before .before) .bare-path .ensures g st j (a .d) (l .cur + 16 + 16 + 4) ibw h (P .call) (P .named) (P .bare)) ((c .before .before .before .before .before .before .before .before .before .before .before .before) .v .given .0 .0) ((c .before .before .before .before .before .before .before .before .before .before .before .before) .v .given .1))
+    let y = (c .before .before .before .before .before .before .before .before .before .before .before .before .before .before .before .before .before .before .before) .html .given .0 .0 in
+    let e = (c .before .before .before .before .before .before .before .before .before .before .before .before .before .before .before .before .before .before .before) .html .given .0 .1 .0 in
+    let P : PathIs (a .d) (bits (a .b .now)) (l .cur + 16 + 16) y e = subst (PlainIs (a .d) (bits (a .b .now)) (l .cur + 16 + 16)) ((c .before .before .before .before .before .before .before .before .before .before .before .before .before .before .before .before .before .before .before) .html .given .1) ((c .before .before .before .before .before .before .before .before .before .before .before .before .before .before .before .before .before .before .before .before .before) .plain-at .ensures) in
+    let f = (c .before .before .before .before .before .before .before .before .before .before .before .before .before .before .before) .bare-number in
+    (z .pre .0, z .pre .1, (expression-known (a .s .now) (a .b .now) (a .options) (world (kept (whole (a .rc) (a .sc .now)) (l .w) 0) (l .page) (l .texts) (a .indent .now) (a .ent .now)) (D .goes .ready) (call-at (a .d) (bits (a .b .now)) (l .cur + 16 + 16 + 4)) (P .before) (shows-of (f .result)) (λ g st j ibw h. f .ensures .1 g st j (a .d) (l .cur + 16 + 16 + 4) ibw h (P .call) (P .named) (P .bare)) (c .before .before .decode .result) (shows-value (f .result) ((c .before .before .before .before .before .before .before .before .before .before .before .before) .if5 .taken) ∙ ap shows.Value (sym (c .before .before .decode .ensures)))))
 
 cast-behind-2 : tie.Need-cast-behind-2 Inv-loop μ-loop
-cast-behind-2 c = omega (arith, (c .before .before .before .before .before) .put-value .ensures .some (c .if3 .left) .byte)
+cast-behind-2 c = omega (arith, (c .before .before .before .before .before) .put-number .ensures .some (c .if6 .left) .byte)
 
 behind-requires-2 : tie.Need-behind-requires-2 Inv-loop μ-loop
-behind-requires-2 c κs = (c .before .before .before .before .before) .put-value .ensures .some (c .if3 .left) .fits
-
-enum-told-2 : tie.Need-enum-told-2 Inv-loop μ-loop
-enum-told-2 c = search needs
+behind-requires-2 c κs = (c .before .before .before .before .before) .put-number .ensures .some (c .if6 .left) .fits
 
 add-next-3 : tie.Need-add-next-3 Inv-loop μ-loop
-add-next-3 c = let z = (c .before .before .before .before .before .before .before .before .before .before .before .before .before .before .before .before .before .before .before) in
+add-next-3 c = let z = (c .before .before .before .before .before .before .before .before .before .before .before .before .before .before .before .before .before .before .before .before .before) in
     let a = z .args in
-    let l = (c .before .before .before .before .before .before .before .before .before) .loop in
+    let l = (c .before .before .before .before .before .before .before .before .before .before .before) .loop in
     let D = l .inv .1 none (z .pre .3 .0) (z .pre .3 .1) in
-    let y = (c .before .before .before .before .before) .html .given .0 .0 in
-    let e = (c .before .before .before .before .before) .html .given .0 .1 .0 in
-    let P : PathIs (a .d) (bits (a .b .now)) (l .cur + 16 + 16) y e = subst (PlainIs (a .d) (bits (a .b .now)) (l .cur + 16 + 16)) ((c .before .before .before .before .before) .html .given .1) ((c .before .before .before .before .before .before .before) .plain-at .ensures) in
+    let y = (c .before .before .before .before .before .before .before) .html .given .0 .0 in
+    let e = (c .before .before .before .before .before .before .before) .html .given .0 .1 .0 in
+    let P : PathIs (a .d) (bits (a .b .now)) (l .cur + 16 + 16) y e = subst (PlainIs (a .d) (bits (a .b .now)) (l .cur + 16 + 16)) ((c .before .before .before .before .before .before .before) .html .given .1) ((c .before .before .before .before .before .before .before .before .before) .plain-at .ensures) in
     let k = string-in (bits (a .b .now)) (l .cur + 16 + 16 + 6) (path-raw (bits (a .b .now)) (l .cur + 16 + 16 + 6) (P .leads)) in
     omega (arith, z .pre .1, k, P .fits, bits-size (a .b .now))
 
-enum-told-3 : tie.Need-enum-told-3 Inv-loop μ-loop
-enum-told-3 c = search needs
+enum-told : tie.Need-enum-told Inv-loop μ-loop
+enum-told c = search needs
 
 run-of-requires-4 : tie.Need-run-of-requires-4 Inv-loop μ-loop
 run-of-requires-4 c κs = search needs
@@ -317,10 +325,10 @@ same-length-9 c = let z = (c .before .before .before .before .before .before .be
     (λ t. let q = t .10 in
     let h : length (q .page) ≡ length (l .page) = ⊎-elim (λ v. omega (arith, ap length (v .8), v .3 .kept .0, t .5 .kept .0)) (λ v. omega (arith, ap length (v .2), t .5 .kept .0)) (q .came) in
     omega (arith, ap length (t .11), h))
-    (λ t. let q = t .6 in
+    (λ t. let q = t .8 in
     let h : length (q .page) ≡ length (l .page) =
-    ⊎-elim (λ v. omega (arith, ap length (v .19), v .14 .kept .0, v .5 .kept .0)) (⊎-elim (λ v. omega (arith, ap length (v .12), v .5 .kept .0)) (λ v. omega (arith, ap length (v .2)))) (q .came) in
-    omega (arith, ap length (t .7), h))
+    ⊎-elim (λ v. omega (arith, ap length (v .18), v .13 .kept .0, v .3 .kept .0)) (⊎-elim (λ v. omega (arith, ap length (v .10), v .3 .kept .0)) (λ v. omega (arith, ap length (v .1)))) (q .came) in
+    omega (arith, ap length (t .9), h))
     (x .came) in
     omega (arith, e, D .goes .sizes .page)
 
@@ -335,10 +343,10 @@ same-length-10 c = let z = (c .before .before .before .before .before .before .b
     (λ t. let q = t .10 in
     let h : length (q .texts) ≡ length (l .texts) = ⊎-elim (λ v. omega (arith, ap length (v .9), v .3 .kept .1 .0, t .5 .kept .1 .0)) (λ v. omega (arith, ap length (v .3), t .5 .kept .1 .0)) (q .came) in
     omega (arith, ap length (t .12), h))
-    (λ t. let q = t .6 in
+    (λ t. let q = t .8 in
     let h : length (q .texts) ≡ length (l .texts) =
-    ⊎-elim (λ v. omega (arith, ap length (v .20), v .14 .kept .1 .0, v .5 .kept .1 .0)) (⊎-elim (λ v. omega (arith, ap length (v .13), v .5 .kept .1 .0)) (λ v. omega (arith, ap length (v .3)))) (q .came) in
-    omega (arith, ap length (t .8), h))
+    ⊎-elim (λ v. omega (arith, ap length (v .19), v .13 .kept .1 .0, v .3 .kept .1 .0)) (⊎-elim (λ v. omega (arith, ap length (v .11), v .3 .kept .1 .0)) (λ v. omega (arith, ap length (v .2)))) (q .came) in
+    omega (arith, ap length (t .10), h))
     (x .came) in
     omega (arith, e, D .goes .sizes .texts)
 
@@ -371,30 +379,32 @@ returns-5 c = let z = (c .before .before .before .before .before .before .before
     let h = t .1 .given .0 .0 in
     let e = t .1 .given .0 .1 .0 in
     let P : PathIs (a .d) (bits (a .b .now)) (l .cur + 16 + 16) h e = subst (PlainIs (a .d) (bits (a .b .now)) (l .cur + 16 + 16)) (t .1 .given .1) (f .ensures) in
-    let q = t .6 in
-    one-moved (a .s .now) (a .b .now) (a .options) (a .d) (l .cur) (world (kept (whole (a .rc) (a .sc .now)) (l .w) 0) (l .page) (l .texts) (a .indent .now) (a .ent .now)) (whole (a .rc) (a .sc .now)) (a .indent .now) (a .ent .now) (q .w) (x .w) (q .page) (x .page) (q .texts) (x .texts) (e + 9) (x .next) (t .7) (t .8) (t .9) (t .10)
+    let n = t .5 in
+    let q = t .8 in
+    one-moved (a .s .now) (a .b .now) (a .options) (a .d) (l .cur) (world (kept (whole (a .rc) (a .sc .now)) (l .w) 0) (l .page) (l .texts) (a .indent .now) (a .ent .now)) (whole (a .rc) (a .sc .now)) (a .indent .now) (a .ent .now) (q .w) (x .w) (q .page) (x .page) (q .texts) (x .texts) (e + 9) (x .next) (t .9) (t .10) (t .11) (t .12)
     (⊎-elim
     (λ v.
-    let y = v .14 in
-    let g = v .5 in
-    one-moved (a .s .now) (a .b .now) (a .options) (a .d) (l .cur) (world (kept (whole (a .rc) (a .sc .now)) (l .w) 0) (l .page) (l .texts) (a .indent .now) (a .ent .now)) (whole (a .rc) (a .sc .now)) (a .indent .now) (a .ent .now) (y .result) (q .w) (y .last .0) (q .page) (y .last .1 .0) (q .texts) (e + 9) (e + 9) (v .19) (v .20) (v .21) refl
-    (path-written (a .s .now) (a .b .now) (a .options) (a .d) (l .cur) (whole (a .rc) (a .sc .now)) (l .w) (l .page) (l .texts) (a .indent .now) (a .ent .now) (D .goes .ready) h e P (t .5 .result) (λ g st j ibw h. t .5 .ensures g st j (a .d) (l .cur + 16 + 16 + 4) ibw h (P .call) (P .named) (P .bare)) (λ k. sym (ap (λ (x : Bool). x && a .rc .«disable_escape») k) ∙ t .4 .left) (v .1 .given .0 .0) (v .1 .given .1) (y .result) (y .last .0) (y .last .1 .0)
-    (value-same (a .s .now) (a .b .now) (v .1 .given .0 .0) (a .indent .now) (not (h || a .rc .«disable_escape»)) (l .w) (y .result) (l .page) (l .texts) (g .last .0) (g .last .1 .0) (y .last .0) (y .last .1 .0) (g .ensures .none (v .10 .taken)) (y .ensures))))
+    let y = v .13 in
+    let g = v .3 in
+    one-moved (a .s .now) (a .b .now) (a .options) (a .d) (l .cur) (world (kept (whole (a .rc) (a .sc .now)) (l .w) 0) (l .page) (l .texts) (a .indent .now) (a .ent .now)) (whole (a .rc) (a .sc .now)) (a .indent .now) (a .ent .now) (y .result) (q .w) (y .last .0) (q .page) (y .last .1 .0) (q .texts) (e + 9) (e + 9) (v .18) (v .19) (v .20) refl
+    (path-written (a .s .now) (a .b .now) (a .options) (a .d) (l .cur) (whole (a .rc) (a .sc .now)) (l .w) (l .page) (l .texts) (a .indent .now) (a .ent .now) (D .goes .ready) h e P (shows-of (n .result)) (λ g st j ibw h. n .ensures .1 g st j (a .d) (l .cur + 16 + 16 + 4) ibw h (P .call) (P .named) (P .bare)) (λ k. sym (ap (λ (x : Bool). x && a .rc .«disable_escape») k) ∙ t .4 .left) (v .10 .result) (shows-value (n .result) (v .0 .taken) ∙ ap shows.Value (sym (v .10 .ensures))) (y .result) (y .last .0) (y .last .1 .0)
+    (value-same (a .s .now) (a .b .now) (v .10 .result) (a .indent .now) (not (h || a .rc .«disable_escape»)) (l .w) (y .result) (l .page) (l .texts) (g .last .0) (g .last .1 .0) (y .last .0) (y .last .1 .0) (g .ensures .none (v .8 .taken)) (y .ensures))))
     (⊎-elim
     (λ v.
-    let y = v .11 in
-    let g = v .5 in
-    one-moved (a .s .now) (a .b .now) (a .options) (a .d) (l .cur) (world (kept (whole (a .rc) (a .sc .now)) (l .w) 0) (l .page) (l .texts) (a .indent .now) (a .ent .now)) (whole (a .rc) (a .sc .now)) (a .indent .now) (a .ent .now) (y .result) (q .w) (g .last .0) (q .page) (g .last .1 .0) (q .texts) (e + 9) (e + 9) (v .12) (v .13) (v .14) refl
-    (path-written (a .s .now) (a .b .now) (a .options) (a .d) (l .cur) (whole (a .rc) (a .sc .now)) (l .w) (l .page) (l .texts) (a .indent .now) (a .ent .now) (D .goes .ready) h e P (t .5 .result) (λ g st j ibw h. t .5 .ensures g st j (a .d) (l .cur + 16 + 16 + 4) ibw h (P .call) (P .named) (P .bare)) (λ k. sym (ap (λ (x : Bool). x && a .rc .«disable_escape») k) ∙ t .4 .left) (v .1 .given .0 .0) (v .1 .given .1) (y .result) (g .last .0) (g .last .1 .0)
-    (value-by (a .s .now) (a .b .now) (v .1 .given .0 .0) (a .indent .now) (not (h || a .rc .«disable_escape»)) (l .w) (y .result) (l .page) (l .texts) (g .last .0) (g .last .1 .0) (g .result / 256) (g .result % 256) (y .ensures) (g .ensures .some (v .10 .left))
-    (expression-known (a .s .now) (a .b .now) (a .options) (world (kept (whole (a .rc) (a .sc .now)) (l .w) 0) (l .page) (l .texts) (a .indent .now) (a .ent .now)) (D .goes .ready) (call-at (a .d) (bits (a .b .now)) (l .cur + 16 + 16 + 4)) (P .before) (t .5 .result) (λ g st j ibw h. t .5 .ensures g st j (a .d) (l .cur + 16 + 16 + 4) ibw h (P .call) (P .named) (P .bare)) (v .1 .given .0 .0) (v .1 .given .1)))))
-    (λ v. one-moved (a .s .now) (a .b .now) (a .options) (a .d) (l .cur) (world (kept (whole (a .rc) (a .sc .now)) (l .w) 0) (l .page) (l .texts) (a .indent .now) (a .ent .now)) (whole (a .rc) (a .sc .now)) (a .indent .now) (a .ent .now) (l .w) (q .w) (l .page) (q .page) (l .texts) (q .texts) (e + 9) (e + 9) (v .2) (v .3) (v .4) refl
-    (path-nothing (a .s .now) (a .b .now) (a .options) (a .d) (l .cur) (whole (a .rc) (a .sc .now)) (l .w) (l .page) (l .texts) (a .indent .now) (a .ent .now) (D .goes .ready) h e P (t .5 .result) (λ g st j ibw h. t .5 .ensures g st j (a .d) (l .cur + 16 + 16 + 4) ibw h (P .call) (P .named) (P .bare)) (λ k. sym (ap (λ (x : Bool). x && a .rc .«disable_escape») k) ∙ t .4 .left) (v .1 .given .1))))
+    let y = v .9 in
+    let g = v .3 in
+    let u = decoded (n .result - 256) in
+    one-moved (a .s .now) (a .b .now) (a .options) (a .d) (l .cur) (world (kept (whole (a .rc) (a .sc .now)) (l .w) 0) (l .page) (l .texts) (a .indent .now) (a .ent .now)) (whole (a .rc) (a .sc .now)) (a .indent .now) (a .ent .now) (y .result) (q .w) (g .last .0) (q .page) (g .last .1 .0) (q .texts) (e + 9) (e + 9) (v .10) (v .11) (v .12) refl
+    (path-written (a .s .now) (a .b .now) (a .options) (a .d) (l .cur) (whole (a .rc) (a .sc .now)) (l .w) (l .page) (l .texts) (a .indent .now) (a .ent .now) (D .goes .ready) h e P (shows-of (n .result)) (λ g st j ibw h. n .ensures .1 g st j (a .d) (l .cur + 16 + 16 + 4) ibw h (P .call) (P .named) (P .bare)) (λ k. sym (ap (λ (x : Bool). x && a .rc .«disable_escape») k) ∙ t .4 .left) u (shows-value (n .result) (v .0 .taken)) (y .result) (g .last .0) (g .last .1 .0)
+    (value-by (a .s .now) (a .b .now) u (a .indent .now) (not (h || a .rc .«disable_escape»)) (l .w) (y .result) (l .page) (l .texts) (g .last .0) (g .last .1 .0) (g .result / 256) (g .result % 256) (y .ensures) (g .ensures .some (v .8 .left))
+    (expression-known (a .s .now) (a .b .now) (a .options) (world (kept (whole (a .rc) (a .sc .now)) (l .w) 0) (l .page) (l .texts) (a .indent .now) (a .ent .now)) (D .goes .ready) (call-at (a .d) (bits (a .b .now)) (l .cur + 16 + 16 + 4)) (P .before) (shows-of (n .result)) (λ g st j ibw h. n .ensures .1 g st j (a .d) (l .cur + 16 + 16 + 4) ibw h (P .call) (P .named) (P .bare)) u (shows-value (n .result) (v .0 .taken))))))
+    (λ v. one-moved (a .s .now) (a .b .now) (a .options) (a .d) (l .cur) (world (kept (whole (a .rc) (a .sc .now)) (l .w) 0) (l .page) (l .texts) (a .indent .now) (a .ent .now)) (whole (a .rc) (a .sc .now)) (a .indent .now) (a .ent .now) (l .w) (q .w) (l .page) (q .page) (l .texts) (q .texts) (e + 9) (e + 9) (v .1) (v .2) (v .3) refl
+    (path-nothing (a .s .now) (a .b .now) (a .options) (a .d) (l .cur) (whole (a .rc) (a .sc .now)) (l .w) (l .page) (l .texts) (a .indent .now) (a .ent .now) (D .goes .ready) h e P (shows-of (n .result)) (λ g st j ibw h. n .ensures .1 g st j (a .d) (l .cur + 16 + 16 + 4) ibw h (P .call) (P .named) (P .bare)) (λ k. sym (ap (λ (x : Bool). x && a .rc .«disable_escape») k) ∙ t .4 .left) (let z : n .result ≡ 255 = omega (arith, t .7 .left, v .0 .left) in ap shows-of z ∙ shows-nothing))))
     (q .came)))
     (x .came) in
     subst (λ (j : code.Run). Run (a .s .now) (a .b .now) (a .options) (a .d) (a .count) (world (whole (a .rc) (a .sc .now)) (a .page .now) (a .texts .now) (a .indent .now) (a .ent .now)) (world (kept (whole (a .rc) (a .sc .now)) (j .writer) (j .bad)) (x .page) (x .texts) (a .indent .now) (a .ent .now)) (a .i) (a .p) (j .i) (j .cur)) (sym (c .run-of5 .ensures))
     (subst (λ (n : ℕ). Run (a .s .now) (a .b .now) (a .options) (a .d) (a .count) (world (whole (a .rc) (a .sc .now)) (a .page .now) (a .texts .now) (a .indent .now) (a .ent .now)) (world (kept (whole (a .rc) (a .sc .now)) (x .w) n) (x .page) (x .texts) (a .indent .now) (a .ent .now)) (a .i) (a .p) (l .k) (l .cur)) (sym ((c .before) .full-number .ensures))
-    (run-stop (a .s .now) (a .b .now) (a .options) (a .d) (a .count) (world (whole (a .rc) (a .sc .now)) (a .page .now) (a .texts .now) (a .indent .now) (a .ent .now)) (world (kept (whole (a .rc) (a .sc .now)) (l .w) 0) (l .page) (l .texts) (a .indent .now) (a .ent .now)) (a .i) (a .p) (l .k) (l .cur) (l .inv .1) ((c .before .before .before .before .before) .loop-test .taken) (world (kept (whole (a .rc) (a .sc .now)) (x .w) (full-number (x .w))) (x .page) (x .texts) (a .indent .now) (a .ent .now)) (x .next) O (l .inv .0) (full-bad (x .w) ((c .before .before) .if4 .taken))))
+    (run-stop (a .s .now) (a .b .now) (a .options) (a .d) (a .count) (world (whole (a .rc) (a .sc .now)) (a .page .now) (a .texts .now) (a .indent .now) (a .ent .now)) (world (kept (whole (a .rc) (a .sc .now)) (l .w) 0) (l .page) (l .texts) (a .indent .now) (a .ent .now)) (a .i) (a .p) (l .k) (l .cur) (l .inv .1) ((c .before .before .before .before .before) .loop-test .taken) (world (kept (whole (a .rc) (a .sc .now)) (x .w) (full-number (x .w))) (x .page) (x .texts) (a .indent .now) (a .ent .now)) (x .next) O (l .inv .0) (full-bad (x .w) ((c .before .before) .if7 .taken))))
 
 add-k : tie.Need-add-k Inv-loop μ-loop
 add-k c = omega (arith, (c .before .before .before) .loop-test .taken, (c .before .before .before .before .before .before .before .before .before .before .before .before .before .before) .good .1 .1 .1 .1 .1 .1 .1 .1 .1 .0)
@@ -431,28 +441,30 @@ loop-again c = let z = (c .before .before .before .before .before .before .befor
     let h = t .1 .given .0 .0 in
     let e = t .1 .given .0 .1 .0 in
     let P : PathIs (a .d) (bits (a .b .now)) (l .cur + 16 + 16) h e = subst (PlainIs (a .d) (bits (a .b .now)) (l .cur + 16 + 16)) (t .1 .given .1) (f .ensures) in
-    let q = t .6 in
-    one-moved (a .s .now) (a .b .now) (a .options) (a .d) (l .cur) (world (kept (whole (a .rc) (a .sc .now)) (l .w) 0) (l .page) (l .texts) (a .indent .now) (a .ent .now)) (whole (a .rc) (a .sc .now)) (a .indent .now) (a .ent .now) (q .w) (x .w) (q .page) (x .page) (q .texts) (x .texts) (e + 9) (x .next) (t .7) (t .8) (t .9) (t .10)
+    let n = t .5 in
+    let q = t .8 in
+    one-moved (a .s .now) (a .b .now) (a .options) (a .d) (l .cur) (world (kept (whole (a .rc) (a .sc .now)) (l .w) 0) (l .page) (l .texts) (a .indent .now) (a .ent .now)) (whole (a .rc) (a .sc .now)) (a .indent .now) (a .ent .now) (q .w) (x .w) (q .page) (x .page) (q .texts) (x .texts) (e + 9) (x .next) (t .9) (t .10) (t .11) (t .12)
     (⊎-elim
     (λ v.
-    let y = v .14 in
-    let g = v .5 in
-    one-moved (a .s .now) (a .b .now) (a .options) (a .d) (l .cur) (world (kept (whole (a .rc) (a .sc .now)) (l .w) 0) (l .page) (l .texts) (a .indent .now) (a .ent .now)) (whole (a .rc) (a .sc .now)) (a .indent .now) (a .ent .now) (y .result) (q .w) (y .last .0) (q .page) (y .last .1 .0) (q .texts) (e + 9) (e + 9) (v .19) (v .20) (v .21) refl
-    (path-written (a .s .now) (a .b .now) (a .options) (a .d) (l .cur) (whole (a .rc) (a .sc .now)) (l .w) (l .page) (l .texts) (a .indent .now) (a .ent .now) (D .goes .ready) h e P (t .5 .result) (λ g st j ibw h. t .5 .ensures g st j (a .d) (l .cur + 16 + 16 + 4) ibw h (P .call) (P .named) (P .bare)) (λ k. sym (ap (λ (x : Bool). x && a .rc .«disable_escape») k) ∙ t .4 .left) (v .1 .given .0 .0) (v .1 .given .1) (y .result) (y .last .0) (y .last .1 .0)
-    (value-same (a .s .now) (a .b .now) (v .1 .given .0 .0) (a .indent .now) (not (h || a .rc .«disable_escape»)) (l .w) (y .result) (l .page) (l .texts) (g .last .0) (g .last .1 .0) (y .last .0) (y .last .1 .0) (g .ensures .none (v .10 .taken)) (y .ensures))))
+    let y = v .13 in
+    let g = v .3 in
+    one-moved (a .s .now) (a .b .now) (a .options) (a .d) (l .cur) (world (kept (whole (a .rc) (a .sc .now)) (l .w) 0) (l .page) (l .texts) (a .indent .now) (a .ent .now)) (whole (a .rc) (a .sc .now)) (a .indent .now) (a .ent .now) (y .result) (q .w) (y .last .0) (q .page) (y .last .1 .0) (q .texts) (e + 9) (e + 9) (v .18) (v .19) (v .20) refl
+    (path-written (a .s .now) (a .b .now) (a .options) (a .d) (l .cur) (whole (a .rc) (a .sc .now)) (l .w) (l .page) (l .texts) (a .indent .now) (a .ent .now) (D .goes .ready) h e P (shows-of (n .result)) (λ g st j ibw h. n .ensures .1 g st j (a .d) (l .cur + 16 + 16 + 4) ibw h (P .call) (P .named) (P .bare)) (λ k. sym (ap (λ (x : Bool). x && a .rc .«disable_escape») k) ∙ t .4 .left) (v .10 .result) (shows-value (n .result) (v .0 .taken) ∙ ap shows.Value (sym (v .10 .ensures))) (y .result) (y .last .0) (y .last .1 .0)
+    (value-same (a .s .now) (a .b .now) (v .10 .result) (a .indent .now) (not (h || a .rc .«disable_escape»)) (l .w) (y .result) (l .page) (l .texts) (g .last .0) (g .last .1 .0) (y .last .0) (y .last .1 .0) (g .ensures .none (v .8 .taken)) (y .ensures))))
     (⊎-elim
     (λ v.
-    let y = v .11 in
-    let g = v .5 in
-    one-moved (a .s .now) (a .b .now) (a .options) (a .d) (l .cur) (world (kept (whole (a .rc) (a .sc .now)) (l .w) 0) (l .page) (l .texts) (a .indent .now) (a .ent .now)) (whole (a .rc) (a .sc .now)) (a .indent .now) (a .ent .now) (y .result) (q .w) (g .last .0) (q .page) (g .last .1 .0) (q .texts) (e + 9) (e + 9) (v .12) (v .13) (v .14) refl
-    (path-written (a .s .now) (a .b .now) (a .options) (a .d) (l .cur) (whole (a .rc) (a .sc .now)) (l .w) (l .page) (l .texts) (a .indent .now) (a .ent .now) (D .goes .ready) h e P (t .5 .result) (λ g st j ibw h. t .5 .ensures g st j (a .d) (l .cur + 16 + 16 + 4) ibw h (P .call) (P .named) (P .bare)) (λ k. sym (ap (λ (x : Bool). x && a .rc .«disable_escape») k) ∙ t .4 .left) (v .1 .given .0 .0) (v .1 .given .1) (y .result) (g .last .0) (g .last .1 .0)
-    (value-by (a .s .now) (a .b .now) (v .1 .given .0 .0) (a .indent .now) (not (h || a .rc .«disable_escape»)) (l .w) (y .result) (l .page) (l .texts) (g .last .0) (g .last .1 .0) (g .result / 256) (g .result % 256) (y .ensures) (g .ensures .some (v .10 .left))
-    (expression-known (a .s .now) (a .b .now) (a .options) (world (kept (whole (a .rc) (a .sc .now)) (l .w) 0) (l .page) (l .texts) (a .indent .now) (a .ent .now)) (D .goes .ready) (call-at (a .d) (bits (a .b .now)) (l .cur + 16 + 16 + 4)) (P .before) (t .5 .result) (λ g st j ibw h. t .5 .ensures g st j (a .d) (l .cur + 16 + 16 + 4) ibw h (P .call) (P .named) (P .bare)) (v .1 .given .0 .0) (v .1 .given .1)))))
-    (λ v. one-moved (a .s .now) (a .b .now) (a .options) (a .d) (l .cur) (world (kept (whole (a .rc) (a .sc .now)) (l .w) 0) (l .page) (l .texts) (a .indent .now) (a .ent .now)) (whole (a .rc) (a .sc .now)) (a .indent .now) (a .ent .now) (l .w) (q .w) (l .page) (q .page) (l .texts) (q .texts) (e + 9) (e + 9) (v .2) (v .3) (v .4) refl
-    (path-nothing (a .s .now) (a .b .now) (a .options) (a .d) (l .cur) (whole (a .rc) (a .sc .now)) (l .w) (l .page) (l .texts) (a .indent .now) (a .ent .now) (D .goes .ready) h e P (t .5 .result) (λ g st j ibw h. t .5 .ensures g st j (a .d) (l .cur + 16 + 16 + 4) ibw h (P .call) (P .named) (P .bare)) (λ k. sym (ap (λ (x : Bool). x && a .rc .«disable_escape») k) ∙ t .4 .left) (v .1 .given .1))))
+    let y = v .9 in
+    let g = v .3 in
+    let u = decoded (n .result - 256) in
+    one-moved (a .s .now) (a .b .now) (a .options) (a .d) (l .cur) (world (kept (whole (a .rc) (a .sc .now)) (l .w) 0) (l .page) (l .texts) (a .indent .now) (a .ent .now)) (whole (a .rc) (a .sc .now)) (a .indent .now) (a .ent .now) (y .result) (q .w) (g .last .0) (q .page) (g .last .1 .0) (q .texts) (e + 9) (e + 9) (v .10) (v .11) (v .12) refl
+    (path-written (a .s .now) (a .b .now) (a .options) (a .d) (l .cur) (whole (a .rc) (a .sc .now)) (l .w) (l .page) (l .texts) (a .indent .now) (a .ent .now) (D .goes .ready) h e P (shows-of (n .result)) (λ g st j ibw h. n .ensures .1 g st j (a .d) (l .cur + 16 + 16 + 4) ibw h (P .call) (P .named) (P .bare)) (λ k. sym (ap (λ (x : Bool). x && a .rc .«disable_escape») k) ∙ t .4 .left) u (shows-value (n .result) (v .0 .taken)) (y .result) (g .last .0) (g .last .1 .0)
+    (value-by (a .s .now) (a .b .now) u (a .indent .now) (not (h || a .rc .«disable_escape»)) (l .w) (y .result) (l .page) (l .texts) (g .last .0) (g .last .1 .0) (g .result / 256) (g .result % 256) (y .ensures) (g .ensures .some (v .8 .left))
+    (expression-known (a .s .now) (a .b .now) (a .options) (world (kept (whole (a .rc) (a .sc .now)) (l .w) 0) (l .page) (l .texts) (a .indent .now) (a .ent .now)) (D .goes .ready) (call-at (a .d) (bits (a .b .now)) (l .cur + 16 + 16 + 4)) (P .before) (shows-of (n .result)) (λ g st j ibw h. n .ensures .1 g st j (a .d) (l .cur + 16 + 16 + 4) ibw h (P .call) (P .named) (P .bare)) u (shows-value (n .result) (v .0 .taken))))))
+    (λ v. one-moved (a .s .now) (a .b .now) (a .options) (a .d) (l .cur) (world (kept (whole (a .rc) (a .sc .now)) (l .w) 0) (l .page) (l .texts) (a .indent .now) (a .ent .now)) (whole (a .rc) (a .sc .now)) (a .indent .now) (a .ent .now) (l .w) (q .w) (l .page) (q .page) (l .texts) (q .texts) (e + 9) (e + 9) (v .1) (v .2) (v .3) refl
+    (path-nothing (a .s .now) (a .b .now) (a .options) (a .d) (l .cur) (whole (a .rc) (a .sc .now)) (l .w) (l .page) (l .texts) (a .indent .now) (a .ent .now) (D .goes .ready) h e P (shows-of (n .result)) (λ g st j ibw h. n .ensures .1 g st j (a .d) (l .cur + 16 + 16 + 4) ibw h (P .call) (P .named) (P .bare)) (λ k. sym (ap (λ (x : Bool). x && a .rc .«disable_escape») k) ∙ t .4 .left) (let z : n .result ≡ 255 = omega (arith, t .7 .left, v .0 .left) in ap shows-of z ∙ shows-nothing))))
     (q .came)))
     (x .came) in
-    let e = full-none (x .w) (c .if4 .left) in (
+    let e = full-none (x .w) (c .if7 .left) in (
       omega (arith, l .inv .0),
       subst (λ (n : ℕ). Onward (a .s .now) (a .b .now) (a .options) (a .d) (a .count) (world (whole (a .rc) (a .sc .now)) (a .page .now) (a .texts .now) (a .indent .now) (a .ent .now)) (world (kept (whole (a .rc) (a .sc .now)) (x .w) n) (x .page) (x .texts) (a .indent .now) (a .ent .now)) (a .i) (a .p) (l .k + 1) (x .next)) e
           (run-more (a .s .now) (a .b .now) (a .options) (a .d) (a .count) (world (whole (a .rc) (a .sc .now)) (a .page .now) (a .texts .now) (a .indent .now) (a .ent .now)) (world (kept (whole (a .rc) (a .sc .now)) (l .w) 0) (l .page) (l .texts) (a .indent .now) (a .ent .now)) (a .i) (a .p) (l .k) (l .cur) (l .inv .1) ((c .before .before .before) .loop-test .taken) (world (kept (whole (a .rc) (a .sc .now)) (x .w) (full-number (x .w))) (x .page) (x .texts) (a .indent .now) (a .ent .now)) (x .next) O e),
@@ -501,26 +513,26 @@ draw-run-spec =
     same-length
     same-length-2
     returns
-    add-bare-path
-    bare-path-requires
-    enum-known-n-2
+    add-bare-number
+    bare-number-requires
     run-of-requires-2
     same-length-3
     same-length-4
     returns-2
-    enum-told
+    cast-run-of
     run-of-requires-3
     same-length-5
     same-length-6
     returns-3
-    enum-known-v
-    put-value-requires
+    sub-n
+    cast-n
+    put-number-requires
+    decode-requires
     write-value-requires
     cast-behind-2
     behind-requires-2
-    enum-told-2
     add-next-3
-    enum-told-3
+    enum-told
     run-of-requires-4
     same-length-7
     same-length-8

@@ -1,0 +1,100 @@
+-- `plain::put_number` meets its contract.
+use Prim.Native.Nat.{ℕ, _+_, _-_, _*_, _/_, _%_}
+use mathlib.Core.Bool.{Bool, true, false}
+use mathlib.Core.Path.{_≡_, refl, sym, ap, _∙_}
+use native.Mathlib.Omega.{arith}
+use lib.ListN.{length, take, drop, length-take, length-drop}
+use borrow.Author.Tests.{eq-eqb}
+use Rattle.rules.specs.Bytes.{Bytes, run}
+use Rattle.rules.specs.Value.{render}
+use Rattle.output.specs.Outputs.{outputs}
+use Rattle.support.specs.Feed.{escaped, fed}
+use Rattle.places.specs.Nodes.{short}
+use Rattle.print.proofs.Spans.{plan-within, plan-span, span-within, span-means}
+use Rattle.support.specs.Runs.{quiet-byte}
+use Rattle.print.proofs.Calm.{calm-is, calm-means}
+use Rattle.value.specs.Numbers.{decoded}
+use Rattle.direct.specs.Direct.{behind}
+use Rattle.plain.specs.Put.{either-escaped, number-place}
+use borrow.Author.Needs.{needs}
+use Rattle.plain.proofs.put_number.Statement.{statement}
+use Rattle.plain.proofs.put_number.Tie as tie
+use Rattle.plain.proofs.put_number.Reads as reads
+use Rattle.plain.proofs.put_number.Lts as lts
+use Rattle.plain.proofs.put_bytes.Reads as put-bytes-reads
+use Rattle.print.proofs.calm_place.Reads as calm-place-reads
+
+returns : tie.Need-returns
+returns c = record { none = λ _. (refl, refl); some = λ z. absurd (z refl) }
+
+cast-calm-place : tie.Need-cast-calm-place
+cast-calm-place c = search needs
+
+calm-place-requires : tie.Need-calm-place-requires
+calm-place-requires c κs = let s = c .before .before .before .before .before .before .before in let a = s .args in (s .pre .0, plan-within (a .s .now) (s .pre .1 .0) (decoded (a .n)) (s .pre .1 .1) (a .n / 16) (number-place (a .n) (c .if2 .taken)))
+
+sub-put-bytes : tie.Need-sub-put-bytes
+sub-put-bytes c = search needs
+
+part-put-bytes-start : tie.Need-part-put-bytes-start
+part-put-bytes-start c = search needs
+
+part-put-bytes-end : tie.Need-part-put-bytes-end
+part-put-bytes-end c = let s = c .before .before .before .before .before .before .before .before .before .before .before in let a = s .args in let i = number-place (a .n) (c .before .before .before .before .if2 .taken) in let p = c .before .before .before .calm-place in let lt = c .before .before .if3 .taken in let sp = calm-is (a .s .now) (a .w .«has_indent») (p .result) (λ y. absurd (omega (arith, y, lt))) (a .n / 16) (p .ensures) ∙ plan-span (a .s .now) (decoded (a .n)) (a .n / 16) i in span-within (a .s .now) (s .pre .1 .0) (decoded (a .n)) (s .pre .0 .answers) (s .pre .1 .1) (p .result) (λ y. absurd (omega (arith, y, lt))) sp lt
+
+put-bytes-requires : tie.Need-put-bytes-requires
+put-bytes-requires c κs = let s = c .before .before .before .before .before .before .before .before .before .before .before .before in
+    let a = s .args in
+    let f = c .before .before .before .before .calm-place in
+    let p = f .result in
+    let lt = c .before .before .before .if3 .taken in
+    let v : Bytes = take (p .end - p .start) (drop (p .start) (a .s .now)) in (
+      omega (arith, length-take (p .end - p .start) (drop (p .start) (a .s .now)), length-drop (p .start) (a .s .now), short (a .s .now) (s .pre .0 .answers)),
+      eq-eqb (run (quiet-byte (a .w .«has_indent») true) v) (length v) (calm-means (a .s .now) (a .w .«has_indent») p (λ z. absurd (omega (arith, z, lt))) (a .n / 16) (f .ensures)),
+    )
+
+same-length : tie.Need-same-length
+same-length c = search needs
+
+same-length-2 : tie.Need-same-length-2
+same-length-2 c = search needs
+
+returns-2 : tie.Need-returns-2
+returns-2 c = let s = c .before .before .before .before .before .before .before .before .before .before .before .before .before .before .before .before .before in
+    let a = s .args in
+    let i = number-place (a .n) (c .before .before .before .before .before .before .before .before .before .before .if2 .taken) in let p = c .before .before .before .before .before .before .before .before .before .calm-place in let lt = c .before .before .before .before .before .before .before .before .if3 .taken in let sp = calm-is (a .s .now) (a .w .«has_indent») (p .result) (λ y. absurd (omega (arith, y, lt))) (a .n / 16) (p .ensures) ∙ plan-span (a .s .now) (decoded (a .n)) (a .n / 16) i in
+    let f = c .before .before .before .before .put-bytes in
+    let v : Bytes = take (p .result .end - p .result .start) (drop (p .result .start) (a .s .now)) in
+    record {
+      none = f .ensures .put .none;
+      some = λ z. let q = f .ensures .put .some z in record {
+        byte = q .byte;
+        fits = q .fits;
+        is = λ b known i e. span-means (a .s .now) b (decoded (a .n)) (s .pre .0 .answers) known (p .result) (λ y. absurd (omega (arith, y, lt))) sp
+            (λ j. outputs (behind (f .result / 256) (f .result % 256) (a .w)) (f .last .0) (f .last .1 .0) ≡ fed i (escaped e (render j)) (outputs (a .w) (a .page .now) (a .texts .now)))
+            (λ j m. q .is i ∙ ap (λ (x : Bytes). fed i x (outputs (a .w) (a .page .now) (a .texts .now))) (sym (either-escaped e v (f .ensures .same z)) ∙ ap (escaped e) (sym m)));
+      };
+    }
+
+returns-3 : tie.Need-returns-3
+returns-3 c = record { none = λ _. (refl, refl); some = λ z. absurd (z refl) }
+
+returns-4 : tie.Need-returns-4
+returns-4 c = record { none = λ _. (refl, refl); some = λ z. absurd (z refl) }
+
+pub put-number-spec : {M : Type 1} → statement M
+put-number-spec =
+    tie.close
+    (tie.spec
+    returns
+    cast-calm-place
+    calm-place-requires
+    sub-put-bytes
+    part-put-bytes-start
+    part-put-bytes-end
+    put-bytes-requires
+    same-length
+    same-length-2
+    returns-2
+    returns-3
+    returns-4)
