@@ -338,15 +338,26 @@ module _ (w d : ℕ) (b : Bits) (p : ℕ) (H : Holds (element-of (call-of (param
       let o = bodied-holds w d b (p + 4) (m .inner) in
       ap (λ (r : Bodied). content-of (DecoratorBlock (p + 4) (r .body) (r .indent) (r .before)) (r .next)) h ∙ seen 5 e _ (tail-next _ (o .tail) ∙ o .ends ∙ m .ends)
 
-  pub partial-at : k ≡ 6 → Holds (call-of (param d) then indent then flag) b (p + 4)
+  partial-at : k ≡ 6 → Holds (call-of (param d) then indent then flag) b (p + 4)
   partial-at e = partial-holds w d b p H (kind 6 e) .inner
 
-  pub partial-seen : k ≡ 6 → (r : Tail) → r ≡ tail-view b (call-end d b (p + 4))
+  partial-seen : k ≡ 6 → (r : Tail) → r ≡ tail-view b (call-end d b (p + 4))
       → content-of (PartialExpression (p + 4) (r .indent) (r .before)) (r .next) ≡ content-view w d b p
   partial-seen e r h =
       let m = partial-holds w d b p H (kind 6 e) in
       let o = bodiless-holds w d b (p + 4) (m .inner) in
       ap (λ (r : Tail). content-of (PartialExpression (p + 4) (r .indent) (r .before)) (r .next)) h ∙ seen 6 e _ (tail-next _ (o .tail) ∙ o .ends ∙ m .ends)
+
+  pub partial-call : k ≡ 6 → Holds (call-of (param d)) b (p + 4)
+  partial-call e = bodiless-call d b (p + 4) (partial-at e)
+
+  -- the tail behind a partial's call, which ends at q
+  module _ (e : k ≡ 6) (q : ℕ) (hq : q ≡ call-end d b (p + 4)) where
+    pub partial-tail : Holds (indent then flag) b q
+    partial-tail = bodiless-tail d b (p + 4) (partial-at e) q hq
+
+    pub partial-made : (r : Tail) → r ≡ tail-view b q → content-of (PartialExpression (p + 4) (r .indent) (r .before)) (r .next) ≡ content-view w d b p
+    partial-made r h = partial-seen e r (h ∙ ap (tail-view b) hq)
 
   pub partial-block-at : k ≡ 7 → Holds (call-of (param d) then body w d then indent then flag) b (p + 4)
   partial-block-at e = partial-block-holds w d b p H (kind 7 e) .inner

@@ -301,9 +301,17 @@ pub fn content_at(b: &[u8], p: usize, w: usize, d: usize) -> Content
         return found(Element::DecoratorBlock(q, r.body, indent, r.before), r.next);
     }
     if k == 6 {
-        let r = bodiless_at(b, q, d);
-        let indent = r.indent;
-        return found(Element::PartialExpression(q, indent, r.before), r.next);
+        // the most frequent of those with a tail: read here, for a tail that is handed back goes through memory
+        let e = skip_bare(b, q, d);
+        let y = bits::field(b, e, 2);
+        if y < 2 {
+            return found(Element::PartialExpression(q, Maybe::Nothing, y == 1), e + 2);
+        }
+        let f = parts::skip_string(b, e + 1);
+        return found(
+            Element::PartialExpression(q, Maybe::At(e + 1), flag_at(b, f)),
+            f + 1,
+        );
     }
     if k == 7 {
         let r = bodied_at(b, q, w, d);

@@ -2,9 +2,10 @@
 use native.Mathlib.Omega.{arith}
 use mathlib.Core.Path.{_∙_}
 use Rattle.template.proofs.Places.{raw-string-at, raw-string-seen, html-at, html-seen, expression-at, expression-seen, helper-at, helper-seen, decorator-at, decorator-seen}
-use Rattle.template.proofs.Places.{decorator-block-at, decorator-block-seen, partial-at, partial-seen, partial-block-at, partial-block-seen, comment-at, comment-seen, eight-on}
+use Rattle.template.proofs.Places.{decorator-block-at, decorator-block-seen, partial-call, partial-tail, partial-made, partial-block-at, partial-block-seen, comment-at, comment-seen, eight-on}
+use Rattle.template.proofs.Places.{plain-tail-fits, plain-tail-made, indented-fits, indented-string, indented-last, indented-made}
 use Rattle.template.specs.Content.{element-fits}
-use Rattle.rules.specs.BundleLaws.{bits-size}
+use Rattle.rules.specs.BundleLaws.{bits-size, bits-binary}
 use Rattle.rules.specs.Bits.{bits}
 use borrow.Author.Needs.{needs}
 use Rattle.template.proofs.content_at.Statement.{statement}
@@ -70,32 +71,87 @@ found-requires-6 c κs = search needs
 returns-6 : tie.Need-returns-6
 returns-6 c = let s = c .before .before .before .before .before .before .before .before .before .before in c .found6 .ensures ∙ decorator-block-seen (s .args .w) (s .args .d) (bits (s .args .b .now)) (s .args .p) (s .pre .1) _ (c .before .before .before .before .before .before .before .before .field .ensures) (c .before .before .if6 .taken) _ (c .before .bodied-at .ensures)
 
-bodiless-at-requires-2 : tie.Need-bodiless-at-requires-2
-bodiless-at-requires-2 c κs = let s = c .before .before .before .before .before .before .before .before .before in (s .pre .0, partial-at (s .args .w) (s .args .d) (bits (s .args .b .now)) (s .args .p) (s .pre .1) _ (c .before .before .before .before .before .before .before .field .ensures) (c .if7 .taken))
+skip-bare-requires : tie.Need-skip-bare-requires
+skip-bare-requires c κs = let s = c .before .before .before .before .before .before .before .before .before in (s .pre .0, partial-call (s .args .w) (s .args .d) (bits (s .args .b .now)) (s .args .p) (s .pre .1) _ (c .before .before .before .before .before .before .before .field .ensures) (c .if7 .taken))
+
+field-requires-2 : tie.Need-field-requires-2
+field-requires-2 c κs = search needs
+
+add-found : tie.Need-add-found
+add-found c =
+    let s = c .before .before .before .before .before .before .before .before .before .before .before .before in
+    let b = bits (s .args .b .now) in
+    let t = partial-tail (s .args .w) (s .args .d) (bits (s .args .b .now)) (s .args .p) (s .pre .1) _ (c .before .before .before .before .before .before .before .before .before .before .field .ensures) (c .before .before .before .if7 .taken) _ (c .before .before .skip-bare .ensures) in
+    omega (arith, plain-tail-fits b _ t _ (c .before .field2 .ensures) (c .if8 .taken), bits-size (s .args .b .now))
 
 found-requires-7 : tie.Need-found-requires-7
 found-requires-7 c κs = search needs
 
 returns-7 : tie.Need-returns-7
-returns-7 c = let s = c .before .before .before .before .before .before .before .before .before .before .before in c .found7 .ensures ∙ partial-seen (s .args .w) (s .args .d) (bits (s .args .b .now)) (s .args .p) (s .pre .1) _ (c .before .before .before .before .before .before .before .before .before .field .ensures) (c .before .before .if7 .taken) _ (c .before .bodiless-at2 .ensures)
+returns-7 c =
+    let s = c .before .before .before .before .before .before .before .before .before .before .before .before .before in
+    let b = bits (s .args .b .now) in
+    let t = partial-tail (s .args .w) (s .args .d) (bits (s .args .b .now)) (s .args .p) (s .pre .1) _ (c .before .before .before .before .before .before .before .before .before .before .before .field .ensures) (c .before .before .before .before .if7 .taken) _ (c .before .before .before .skip-bare .ensures) in
+    c .found7 .ensures ∙ partial-made (s .args .w) (s .args .d) (bits (s .args .b .now)) (s .args .p) (s .pre .1) _ (c .before .before .before .before .before .before .before .before .before .before .before .field .ensures) (c .before .before .before .before .if7 .taken) _ (c .before .before .before .skip-bare .ensures) _ (plain-tail-made b _ t _ (c .before .before .field2 .ensures) (c .before .if8 .taken))
 
-bodied-at-requires-2 : tie.Need-bodied-at-requires-2
-bodied-at-requires-2 c κs = let s = c .before .before .before .before .before .before .before .before .before .before in (s .pre .0, partial-block-at (s .args .w) (s .args .d) (bits (s .args .b .now)) (s .args .p) (s .pre .1) _ (c .before .before .before .before .before .before .before .before .field .ensures) (c .if8 .taken))
+add-skip-string : tie.Need-add-skip-string
+add-skip-string c =
+    let s = c .before .before .before .before .before .before .before .before .before .before .before .before in
+    let b = bits (s .args .b .now) in
+    let t = partial-tail (s .args .w) (s .args .d) (bits (s .args .b .now)) (s .args .p) (s .pre .1) _ (c .before .before .before .before .before .before .before .before .before .before .field .ensures) (c .before .before .before .if7 .taken) _ (c .before .before .skip-bare .ensures) in
+    omega (arith, indented-fits b _ t _ (c .before .field2 .ensures) (bits-binary (s .args .b .now)) (c .if8 .left), bits-size (s .args .b .now))
+
+skip-string-requires-2 : tie.Need-skip-string-requires-2
+skip-string-requires-2 c κs =
+    let s = c .before .before .before .before .before .before .before .before .before .before .before .before in
+    let b = bits (s .args .b .now) in
+    let t = partial-tail (s .args .w) (s .args .d) (bits (s .args .b .now)) (s .args .p) (s .pre .1) _ (c .before .before .before .before .before .before .before .before .before .before .field .ensures) (c .before .before .before .if7 .taken) _ (c .before .before .skip-bare .ensures) in
+    (s .pre .0, indented-string b _ t _ (c .before .field2 .ensures) (bits-binary (s .args .b .now)) (c .if8 .left))
+
+add-t34 : tie.Need-add-t34
+add-t34 c =
+    let s = c .before .before .before .before .before .before .before .before .before .before .before .before .before in
+    let b = bits (s .args .b .now) in
+    let t = partial-tail (s .args .w) (s .args .d) (bits (s .args .b .now)) (s .args .p) (s .pre .1) _ (c .before .before .before .before .before .before .before .before .before .before .before .field .ensures) (c .before .before .before .before .if7 .taken) _ (c .before .before .before .skip-bare .ensures) in
+    omega (arith, indented-fits b _ t _ (c .before .before .field2 .ensures) (bits-binary (s .args .b .now)) (c .before .if8 .left), bits-size (s .args .b .now))
+
+flag-at-requires : tie.Need-flag-at-requires
+flag-at-requires c κs = search needs
+
+add-found-2 : tie.Need-add-found-2
+add-found-2 c =
+    let s = c .before .before .before .before .before .before .before .before .before .before .before .before .before .before in
+    let b = bits (s .args .b .now) in
+    let t = partial-tail (s .args .w) (s .args .d) (bits (s .args .b .now)) (s .args .p) (s .pre .1) _ (c .before .before .before .before .before .before .before .before .before .before .before .before .field .ensures) (c .before .before .before .before .before .if7 .taken) _ (c .before .before .before .before .skip-bare .ensures) in
+    omega (arith, indented-last b _ t _ (c .before .before .before .field2 .ensures) (bits-binary (s .args .b .now)) (c .before .before .if8 .left) _ (c .before .skip-string2 .ensures), bits-size (s .args .b .now))
 
 found-requires-8 : tie.Need-found-requires-8
 found-requires-8 c κs = search needs
 
 returns-8 : tie.Need-returns-8
-returns-8 c = let s = c .before .before .before .before .before .before .before .before .before .before .before .before in c .found8 .ensures ∙ partial-block-seen (s .args .w) (s .args .d) (bits (s .args .b .now)) (s .args .p) (s .pre .1) _ (c .before .before .before .before .before .before .before .before .before .before .field .ensures) (c .before .before .if8 .taken) _ (c .before .bodied-at2 .ensures)
+returns-8 c =
+    let s = c .before .before .before .before .before .before .before .before .before .before .before .before .before .before .before in
+    let b = bits (s .args .b .now) in
+    let t = partial-tail (s .args .w) (s .args .d) (bits (s .args .b .now)) (s .args .p) (s .pre .1) _ (c .before .before .before .before .before .before .before .before .before .before .before .before .before .field .ensures) (c .before .before .before .before .before .before .if7 .taken) _ (c .before .before .before .before .before .skip-bare .ensures) in
+    c .found8 .ensures ∙ partial-made (s .args .w) (s .args .d) (bits (s .args .b .now)) (s .args .p) (s .pre .1) _ (c .before .before .before .before .before .before .before .before .before .before .before .before .before .field .ensures) (c .before .before .before .before .before .before .if7 .taken) _ (c .before .before .before .before .before .skip-bare .ensures) _ (indented-made b _ t _ (c .before .before .before .before .field2 .ensures) (bits-binary (s .args .b .now)) (c .before .before .before .if8 .left) _ (c .before .before .skip-string2 .ensures) _ (c .before .flag-at .ensures))
 
-skip-string-requires-2 : tie.Need-skip-string-requires-2
-skip-string-requires-2 c κs = let s = c .before .before .before .before .before .before .before .before .before .before in (s .pre .0, comment-at (s .args .w) (s .args .d) (bits (s .args .b .now)) (s .args .p) (s .pre .1) _ (c .before .before .before .before .before .before .before .before .field .ensures) (eight-on _ (c .before .before .before .before .before .before .before .if1 .left) (c .before .before .before .before .before .before .if2 .left) (c .before .before .before .before .before .if3 .left) (c .before .before .before .before .if4 .left) (c .before .before .before .if5 .left) (c .before .before .if6 .left) (c .before .if7 .left) (c .if8 .left)))
+bodied-at-requires-2 : tie.Need-bodied-at-requires-2
+bodied-at-requires-2 c κs = let s = c .before .before .before .before .before .before .before .before .before .before in (s .pre .0, partial-block-at (s .args .w) (s .args .d) (bits (s .args .b .now)) (s .args .p) (s .pre .1) _ (c .before .before .before .before .before .before .before .before .field .ensures) (c .if9 .taken))
 
 found-requires-9 : tie.Need-found-requires-9
 found-requires-9 c κs = search needs
 
 returns-9 : tie.Need-returns-9
-returns-9 c = let s = c .before .before .before .before .before .before .before .before .before .before .before .before in c .found9 .ensures ∙ comment-seen (s .args .w) (s .args .d) (bits (s .args .b .now)) (s .args .p) (s .pre .1) _ (c .before .before .before .before .before .before .before .before .before .before .field .ensures) (eight-on _ (c .before .before .before .before .before .before .before .before .before .if1 .left) (c .before .before .before .before .before .before .before .before .if2 .left) (c .before .before .before .before .before .before .before .if3 .left) (c .before .before .before .before .before .before .if4 .left) (c .before .before .before .before .before .if5 .left) (c .before .before .before .before .if6 .left) (c .before .before .before .if7 .left) (c .before .before .if8 .left)) _ (c .before .skip-string2 .ensures)
+returns-9 c = let s = c .before .before .before .before .before .before .before .before .before .before .before .before in c .found9 .ensures ∙ partial-block-seen (s .args .w) (s .args .d) (bits (s .args .b .now)) (s .args .p) (s .pre .1) _ (c .before .before .before .before .before .before .before .before .before .before .field .ensures) (c .before .before .if9 .taken) _ (c .before .bodied-at2 .ensures)
+
+skip-string-requires-3 : tie.Need-skip-string-requires-3
+skip-string-requires-3 c κs = let s = c .before .before .before .before .before .before .before .before .before .before in (s .pre .0, comment-at (s .args .w) (s .args .d) (bits (s .args .b .now)) (s .args .p) (s .pre .1) _ (c .before .before .before .before .before .before .before .before .field .ensures) (eight-on _ (c .before .before .before .before .before .before .before .if1 .left) (c .before .before .before .before .before .before .if2 .left) (c .before .before .before .before .before .if3 .left) (c .before .before .before .before .if4 .left) (c .before .before .before .if5 .left) (c .before .before .if6 .left) (c .before .if7 .left) (c .if9 .left)))
+
+found-requires-10 : tie.Need-found-requires-10
+found-requires-10 c κs = search needs
+
+returns-10 : tie.Need-returns-10
+returns-10 c = let s = c .before .before .before .before .before .before .before .before .before .before .before .before in c .found10 .ensures ∙ comment-seen (s .args .w) (s .args .d) (bits (s .args .b .now)) (s .args .p) (s .pre .1) _ (c .before .before .before .before .before .before .before .before .before .before .field .ensures) (eight-on _ (c .before .before .before .before .before .before .before .before .before .if1 .left) (c .before .before .before .before .before .before .before .before .if2 .left) (c .before .before .before .before .before .before .before .if3 .left) (c .before .before .before .before .before .before .if4 .left) (c .before .before .before .before .before .if5 .left) (c .before .before .before .before .if6 .left) (c .before .before .before .if7 .left) (c .before .before .if9 .left)) _ (c .before .skip-string3 .ensures)
 
 pub content-at-spec : {M : Type 1} → statement M
 content-at-spec =
@@ -121,12 +177,21 @@ content-at-spec =
     bodied-at-requires
     found-requires-6
     returns-6
-    bodiless-at-requires-2
+    skip-bare-requires
+    field-requires-2
+    add-found
     found-requires-7
     returns-7
-    bodied-at-requires-2
+    add-skip-string
+    skip-string-requires-2
+    add-t34
+    flag-at-requires
+    add-found-2
     found-requires-8
     returns-8
-    skip-string-requires-2
+    bodied-at-requires-2
     found-requires-9
-    returns-9)
+    returns-9
+    skip-string-requires-3
+    found-requires-10
+    returns-10)
