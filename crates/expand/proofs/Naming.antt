@@ -6,7 +6,7 @@ use mathlib.Core.List.{List, [], _∷_}
 use mathlib.Core.Option.{none, some}
 use mathlib.Core.Path.{_≡_, refl, sym, ap, ap₂, _∙_}
 use lib.Dec.{eqb, ltb}
-use lib.ListN.{length, getD}
+use lib.ListN.{length}
 use borrow.Author.Tests.{eq-eqb, ne-eqb, ltb-true}
 use types.Run.{OneOf, miss}
 use denote.Enum.Declared.{tagOf}
@@ -20,7 +20,7 @@ use Rattle.rules.specs.Value.{render}
 use Rattle.rules.specs.Registry as registry
 use Rattle.rules.specs.Registry.{get-helper}
 use Rattle.bits.specs.Fields.{field-none, field-append}
-use Rattle.bits.specs.Packed.{bytes-at, bytes-length, bytes-get}
+use Rattle.bits.specs.Packed.{bytes-at, bytes-length}
 use Rattle.layout.specs.Text.{text-at}
 use Rattle.value.specs.declared.Value.{Value}
 use Rattle.meaning.proofs.Form.{the-type as form-type}
@@ -85,29 +85,6 @@ module _ (b : Bits) (p : ℕ) where
       let n : field b 16 p ≡ suc k = omega (arith, field-append b 16 8 p, field-lt b bin 8 (p + 16)) in
       let f : field b 8 (p + 16) ≡ c = omega (arith, field-append b 16 8 p, field-lt b bin 8 (p + 16)) in
       rw (n, f)
-
-  -- where they are not those of a name
-  text-other : (c : ℕ) (l : Bytes) → (field b 24 p ≡ suc (length l) * 256 + c → ⊥) → same (text-at b p) (c ∷ l) ≡ false
-  text-other c l g = go (same (text-at b p) (c ∷ l)) refl
-    where
-      go : (x : Bool) → same (text-at b p) (c ∷ l) ≡ x → x ≡ false
-      go false e = refl
-      go true e =
-          let q = same-eq (text-at b p) (c ∷ l) e in
-          let n : field b 16 p ≡ suc (length l) = sym (bytes-length b (p + 16) (field b 16 p)) ∙ ap length q in
-          let z : p + 16 ≡ p + 16 + 8 * 0 = omega arith in
-          let f : field b 8 (p + 16) ≡ c = ap (field b 8) z ∙ sym (bytes-get b (p + 16) (field b 16 p) 0 (omega arith)) ∙ ap (λ (s : Bytes). getD s 0 0) q in
-          absurd (g (omega (arith, field-append b 16 8 p)))
-
-  pub get-elsewhere : (x : ℕ) → x ≡ field b 24 p → (x ≡ 1125 → ⊥) → (x ≡ 1143 → ⊥) → (x ≡ 617 → ⊥) → (x ≡ 1653 → ⊥) → (x ≡ 1644 → ⊥) → Unknown ≡ helper-of (get-helper (text-at b p))
-  get-elsewhere x e f g h i j =
-      rw (
-        text-other 101 (97 ∷ 99 ∷ 104 ∷ []) (λ q. f (e ∙ q)),
-        text-other 119 (105 ∷ 116 ∷ 104 ∷ []) (λ q. g (e ∙ q)),
-        text-other 105 (102 ∷ []) (λ q. h (e ∙ q)),
-        text-other 117 (110 ∷ 108 ∷ 101 ∷ 115 ∷ 115 ∷ []) (λ q. i (e ∙ q)),
-        text-other 108 (111 ∷ 111 ∷ 107 ∷ 117 ∷ 112 ∷ []) (λ q. j (e ∙ q)),
-      )
 
 -- Bytes compared as one number
 

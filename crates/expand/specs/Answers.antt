@@ -1,6 +1,6 @@
 -- What working a parameter out answers: s is the plan, b the bundle, ent the entries of open partials.
 use Prim.Native.Nat.{ℕ, _+_, _*_, _≤_}
-use mathlib.Core.Bool.{Bool, false}
+use mathlib.Core.Bool.{Bool, false, _||_}
 use mathlib.Core.List.{List, [], _∷_}
 use mathlib.Core.Option.{Option, none, some}
 use mathlib.Core.Path.{_≡_}
@@ -126,6 +126,10 @@ helper-of (some registry.HelperDef.with) = With
 helper-of (some registry.HelperDef.if) = If
 helper-of (some registry.HelperDef.unless) = Unless
 helper-of (some registry.HelperDef.lookup) = Lookup
+
+-- whether x, a string's count and first byte as one number, is that of a helper's name
+abbrev pub may-name : ℕ → Bool
+may-name x = eqb x 1125 || eqb x 1143 || eqb x 617 || eqb x 1653 || eqb x 1644
 
 -- bytes as one number, the first the most significant
 abbrev pub packed-onto : ℕ → Bytes → ℕ

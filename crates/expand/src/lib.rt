@@ -25,7 +25,7 @@ ghost use Rattle.meaning.specs.Means.{Means};
 ghost use Rattle.scope.specs.Words.{scopes-of};
 ghost use Rattle.scope.specs.Standing.{ScopesStand};
 ghost use Rattle.context.specs.Evaluated.{present};
-ghost use Rattle.expand.specs.Answers.{Setting, Expands, Names, ExpandsAll, ExpandsHash, IsTemplate, ExpandedHeld, helper-of, written, in-scope, unless-strict, Calls, Finishes, joined, first-of, gathered, bare, with-one, zero-or, GotKnown, Paired, packed};
+ghost use Rattle.expand.specs.Answers.{Setting, Expands, Names, ExpandsAll, ExpandsHash, IsTemplate, ExpandedHeld, helper-of, may-name, written, in-scope, unless-strict, Calls, Finishes, joined, first-of, gathered, bare, with-one, zero-or, GotKnown, Paired, packed};
 use calls::Parameter;
 use calls::Short;
 use context::Evaluated;
@@ -169,6 +169,15 @@ pub fn helper_at(b: &[u8], p: usize) -> HelperDef
         return if_bits(b, p, 48, packed(b"lookup"), HelperDef::Lookup);
     }
     HelperDef::Unknown
+}
+
+// Whether the string at p may be the name of a helper: whether its count and first byte are those of one.
+// Where few are, to ask this before `helper_at` costs less than to ask that alone.
+pub fn may_name(b: &[u8], p: usize) -> bool
+    ensures { λ r. ⌜ r ≡ may-name (field (bits (now (b .entry))) 24 p) ⌝ }
+{
+    let x = bits::field(b, p, 24);
+    (x == 1125) | (x == 1143) | (x == 617) | (x == 1653) | (x == 1644)
 }
 
 // The helper whose name a value prints. Only a string prints one.

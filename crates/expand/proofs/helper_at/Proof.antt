@@ -9,7 +9,8 @@ use Rattle.rules.specs.Layout.{field}
 use Rattle.rules.specs.BundleLaws.{bits-binary}
 use Rattle.layout.specs.Text.{text-at}
 use Rattle.expand.specs.declared.HelperDef.the-variants.{Each, With, If, Unless, Lookup, Unknown}
-use Rattle.expand.proofs.Naming.{get-each, get-with, get-if, get-unless, get-lookup, text-first, text-packed, get-elsewhere, by-bits}
+use Rattle.expand.specs.Names.{get-elsewhere}
+use Rattle.expand.proofs.Naming.{get-each, get-with, get-if, get-unless, get-lookup, text-first, text-packed, by-bits}
 use borrow.Author.Needs.{needs}
 use Rattle.expand.proofs.helper_at.Statement.{statement}
 use Rattle.expand.proofs.helper_at.Tie as tie
