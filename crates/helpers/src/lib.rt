@@ -19,6 +19,7 @@ ghost use Rattle.rules.specs.HelperIf.{if-helper};
 ghost use Rattle.rules.specs.Helpers.{lookup-helper};
 ghost use Rattle.rules.specs.Render.{render-expression};
 ghost use Rattle.rules.specs.Layout.{field};
+ghost use Rattle.layout.specs.Text.{text-at};
 ghost use Rattle.parts.specs.Holds.{Holds, end};
 ghost use Rattle.calls.specs.Calls.{param-view, param-at, call-at};
 ghost use Rattle.places.specs.Accepted.{Accepted};
@@ -387,6 +388,17 @@ fn is_helper(s: &[u8], tab: &[u64], b: &[u8], v: Value) -> bool
     known(expand::get_helper(s, tab, b, v))
 }
 
+// Whether the string at p is the name of a helper. Few are, and one number tells that of most.
+fn names_helper(b: &[u8], p: usize) -> bool
+    requires { ⌜ p ≤ 524288 ⌝ }
+    ensures { λ r. ⌜ r ≡ has (get-helper (text-at (bits (now (b .entry))) p)) ⌝ }
+{
+    if expand::may_name(b, p) {
+        return known(expand::helper_at(b, p));
+    }
+    false
+}
+
 // A missing value is nothing, or an error under strict.
 fn shown(strict: bool, v: Value) -> Shows
     ensures { λ r. ⌜ r ≡ shown strict v ⌝ }
@@ -426,7 +438,7 @@ pub fn bare_number(
     requires { ⌜ Accepted (now s) (now tab) × (length (now b) ≤ 65536) × (0 < used) × (used ≤ 32) × ((t : ℕ) × ScopesStand (now s) (now b) (now ent) (scopes-of (now sc)) used t) × Holds path (bits (now b)) q × (length (now sc) ≡ 96) ⌝ }
     ensures { λ r. ⌜ (r < 4294967552) × ((g : Registry) (st : RenderContext) (t d p : ℕ) (ibw : Bool) → Setting (now (s .entry)) (now (b .entry)) (now (ent .entry)) (scopes-of (now (sc .entry))) used options g st t → Holds (call-of (param d)) (bits (now (b .entry))) p → param-view (bits (now (b .entry))) p ≡ Parameter.Path q → field (bits (now (b .entry))) 8 (end path (bits (now (b .entry))) q) ≡ 0 → Expresses (now (s .entry)) (now (b .entry)) (now (ent .entry)) t g (call-at d (bits (now (b .entry))) p) ibw st (render-expression g (call-at d (bits (now (b .entry))) p) ibw st) (shows-of r)) ⌝ }
 {
-    if known(expand::helper_at(b, q)) {
+    if names_helper(b, q) {
         return 0;
     }
     let found = context::evaluate_number(s, tab, b, ent, sc, used, options.recursive_lookup, q);

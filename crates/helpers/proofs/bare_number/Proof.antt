@@ -18,38 +18,33 @@ use Rattle.context.specs.Numbers.{evaluated-missing, evaluated-present}
 use Rattle.expand.specs.declared.Got.the-variants.{Is, Bad}
 use Rattle.helpers.specs.declared.Shows.the-variants as shows
 use Rattle.helpers.specs.Does.{has, shows-of, shows-helper, shows-bad, shows-nothing, shows-value}
-use Rattle.helpers.proofs.Expressing.{known-helper}
 use Rattle.helpers.proofs.Pathing.{path-helper, path-value}
 use borrow.Author.Needs.{needs}
 use Rattle.helpers.proofs.bare_number.Statement.{statement}
 use Rattle.helpers.proofs.bare_number.Tie as tie
 
-helper-at-requires : tie.Need-helper-at-requires
-helper-at-requires c κs =
+names-helper-requires : tie.Need-names-helper-requires
+names-helper-requires c κs =
     let z = c .before .before .before .before .before in
     omega (arith, z .pre .1, string-in (bits (z .args .b .now)) (z .args .q) (path-raw (bits (z .args .b .now)) (z .args .q) (z .pre .5)), bits-size (z .args .b .now))
 
-known-requires : tie.Need-known-requires
-known-requires c κs = search needs
-
 returns : tie.Need-returns
 returns c =
-    let a = c .before .before .before .before .before .before .before .before .args in
-    let k = sym (known-helper (text-at (bits (a .b .now)) (a .q)) (c .before .before .helper-at .result) (c .before .before .helper-at .ensures)) ∙ sym (c .before .known .ensures) ∙ c .if1 .taken in (
+    let a = c .before .before .before .before .before .before .before .args in (
       omega arith,
-      λ g st t d p ibw h H W Z. rw shows-helper (path-helper (a .s .now) (a .b .now) (a .ent .now) t g st ibw d p (a .q) H W _ _ refl refl Z k),
+      λ g st t d p ibw h H W Z. rw shows-helper (path-helper (a .s .now) (a .b .now) (a .ent .now) t g st ibw d p (a .q) H W _ _ refl refl Z (sym (c .before .names-helper .ensures) ∙ c .if1 .taken)),
     )
 
 evaluate-number-requires : tie.Need-evaluate-number-requires
 evaluate-number-requires c κs = search needs
 
 -- the name is no helper's
-unnamed : (c : tie.Else1) → has (get-helper (text-at (bits (c .before .before .before .before .before .before .before .before .args .b .now)) (c .before .before .before .before .before .before .before .before .args .q))) ≡ false
-unnamed c = sym (known-helper (text-at (bits (c .before .before .before .before .before .before .before .before .args .b .now)) (c .before .before .before .before .before .before .before .before .args .q)) (c .before .before .helper-at .result) (c .before .before .helper-at .ensures)) ∙ sym (c .before .known .ensures) ∙ c .if1 .left
+unnamed : (c : tie.Else1) → has (get-helper (text-at (bits (c .before .before .before .before .before .before .before .args .b .now)) (c .before .before .before .before .before .before .before .args .q))) ≡ false
+unnamed c = sym (c .before .names-helper .ensures) ∙ c .if1 .left
 
 returns-2 : tie.Need-returns-2
 returns-2 c =
-    let a = c .before .before .before .before .before .before .before .before .before .before .args in (
+    let a = c .before .before .before .before .before .before .before .before .before .args in (
       omega arith,
       λ g st t d p ibw h H W Z.
           let e = subst (Evaluates (a .s .now) (a .b .now) (a .ent .now) t _) (ap evaluated-of (c .if2 .taken)) (c .before .evaluate-number .ensures .1 g st t (h .plan) (h .recursive) (h .open-scopes) (h .stand)) in
@@ -58,7 +53,7 @@ returns-2 c =
 
 returns-3 : tie.Need-returns-3
 returns-3 c =
-    let a = c .before .before .before .before .before .before .before .before .before .before .before .before .args in (
+    let a = c .before .before .before .before .before .before .before .before .before .before .before .args in (
       omega arith,
       λ g st t d p ibw h H W Z.
           let e = subst (Evaluates (a .s .now) (a .b .now) (a .ent .now) t _) (evaluated-missing (c .before .before .before .evaluate-number .result) (c .before .if3 .taken)) (c .before .before .before .evaluate-number .ensures .1 g st t (h .plan) (h .recursive) (h .open-scopes) (h .stand)) in
@@ -68,7 +63,7 @@ returns-3 c =
 
 returns-4 : tie.Need-returns-4
 returns-4 c =
-    let a = c .before .before .before .before .before .before .before .before .before .before .before .before .args in (
+    let a = c .before .before .before .before .before .before .before .before .before .before .before .args in (
       omega arith,
       λ g st t d p ibw h H W Z.
           let e = subst (Evaluates (a .s .now) (a .b .now) (a .ent .now) t _) (evaluated-missing (c .before .before .before .evaluate-number .result) (c .before .if3 .taken)) (c .before .before .before .evaluate-number .ensures .1 g st t (h .plan) (h .recursive) (h .open-scopes) (h .stand)) in
@@ -81,7 +76,7 @@ add-result c = omega (arith, c .before .before .evaluate-number .ensures .0)
 
 returns-5 : tie.Need-returns-5
 returns-5 c =
-    let a = c .before .before .before .before .before .before .before .before .before .before .before .args in
+    let a = c .before .before .before .before .before .before .before .before .before .before .args in
     let n = c .before .before .evaluate-number .result in
     let v = decoded (n - 1) in
     let back : 255 + n - 256 ≡ n - 1 = omega (arith, c .before .if2 .left) in (
@@ -96,8 +91,7 @@ pub bare-number-spec : {M : Type 1} → statement M
 bare-number-spec =
     tie.close
     (tie.spec
-    helper-at-requires
-    known-requires
+    names-helper-requires
     returns
     evaluate-number-requires
     returns-2
