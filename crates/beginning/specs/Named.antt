@@ -3,7 +3,7 @@ use Prim.Native.Nat.{ℕ, _+_, _<_}
 use mathlib.Core.Bool.{Bool}
 use mathlib.Core.List.{List}
 use mathlib.Core.Path.{_≡_, refl, sym, _∙_, subst}
-use lib.ListN.{length}
+use lib.ListN.{length, replicate}
 use Rattle.rules.specs.Bytes.{Bytes}
 use Rattle.rules.specs.Value.{ScopedJson}
 use Rattle.rules.specs.Bits.{bits}
@@ -20,8 +20,8 @@ use Rattle.calls.specs.Calls.{call-at, call-view, hash-at, call-stands}
 use Rattle.expand.specs.declared.Options.{Options}
 use Rattle.expand.specs.declared.Expanded.{Expanded}
 use Rattle.expand.specs.Answers.{Setting, Works, IsTemplate}
-use Rattle.including.specs.declared.Hashed.{Hashed}
-use Rattle.including.specs.Values.{HashValues}
+use Rattle.including.specs.Values.{HashValuesIn}
+use Rattle.including.specs.ValuesLaws.{values-in-zeros}
 use Rattle.including.specs.Hashing.{plain-pairs, PlainCall, plain-read, asked, asked-given, zero-works}
 use Rattle.state.specs.Setters.{marked}
 use Rattle.state.specs.World.{World, top, abs, Ready}
@@ -35,37 +35,37 @@ named-pairs b d p k r H c e =
     subst (λ (q : ℕ). Holds (row (string then param d) k) (bits b) q) (c .pair ∙ sym e)
     (subst (λ (n : ℕ). Holds (row (string then param d) n) (bits b) (call-view d (bits b) p .pair)) (c .pairs) (call-stands d (bits b) p H .pairs))
 
--- the call at p has the k pairs at r, which h works out
-module _ (s b : Bytes) (o : Options) (w : World) (d p k r : ℕ) (h : Hashed) (ready : Ready s b w) (H : Holds (call-of (param d)) (bits b) p) (is : k ≡ plain-pairs (bits b) p) (few : k < 16)
+-- the call at p has the k pairs at r: values are their numbers, or bad is the number of a refusal
+module _ (s b : Bytes) (o : Options) (w : World) (d p k r : ℕ) (values : List ℕ) (bad : ℕ) (ready : Ready s b w) (H : Holds (call-of (param d)) (bits b) p) (is : k ≡ plain-pairs (bits b) p) (few : k < 16)
     (place : r ≡ end string (bits b) (p + 2) + 8)
-    (hashed : (g : Registry) (st : rules.RenderContext) (t : ℕ) → Setting s b (w .ent) (w .rc .scopes) (w .rc .used) o g st t → Works (λ _. HashValues s b (w .ent) t d r k g st (h .values)) (expand.expand-hash g st (hash-at d k (bits b) r)) (h .bad)) where
+    (hashed : (g : Registry) (st : rules.RenderContext) (t : ℕ) → Setting s b (w .ent) (w .rc .scopes) (w .rc .used) o g st t → Works (λ _. HashValuesIn s b (w .ent) t d r k g st (replicate 15 0) values) (expand.expand-hash g st (hash-at d k (bits b) r)) bad) where
   call : PlainCall d (bits b) p k
   call = plain-read d (bits b) (bits-binary b) p H k is few
 
   abbrev g : Registry
   g = registry-of s b o (length (w .page))
 
-  there : Works (λ _. HashValues s b (w .ent) (top w) d r k g (abs s b w) (h .values)) (expand.expand-hash g (abs s b w) (hash-at d k (bits b) (end string (bits b) (p + 2) + 8))) (h .bad)
-  there = subst (λ (q : ℕ). Works (λ _. HashValues s b (w .ent) (top w) d r k g (abs s b w) (h .values)) (expand.expand-hash g (abs s b w) (hash-at d k (bits b) q)) (h .bad)) place (hashed g (abs s b w) (top w) (setting s b o w ready (length (w .page))))
+  there : Works (λ _. HashValuesIn s b (w .ent) (top w) d r k g (abs s b w) (replicate 15 0) values) (expand.expand-hash g (abs s b w) (hash-at d k (bits b) (end string (bits b) (p + 2) + 8))) bad
+  there = subst (λ (q : ℕ). Works (λ _. HashValuesIn s b (w .ent) (top w) d r k g (abs s b w) (replicate 15 0) values) (expand.expand-hash g (abs s b w) (hash-at d k (bits b) q)) bad) place (hashed g (abs s b w) (top w) (setting s b o w ready (length (w .page))))
 
-  pub zeroes : (z : Bool) × Works (λ (l : List (Bytes × ScopedJson)). include-zero l ≡ z) (expand.expand-hash g (abs s b w) (hash-at d k (bits b) (end string (bits b) (p + 2) + 8))) (h .bad)
-  zeroes = zero-works (λ _. HashValues s b (w .ent) (top w) d r k g (abs s b w) (h .values)) _ (h .bad) there
+  pub zeroes : (z : Bool) × Works (λ (l : List (Bytes × ScopedJson)). include-zero l ≡ z) (expand.expand-hash g (abs s b w) (hash-at d k (bits b) (end string (bits b) (p + 2) + 8))) bad
+  zeroes = zero-works (λ _. HashValuesIn s b (w .ent) (top w) d r k g (abs s b w) (replicate 15 0) values) _ bad there
 
   -- what it is worked out to
   abbrev pub named-call : Expanded
-  named-call = asked (p + 2) (zeroes .0) (h .bad)
+  named-call = asked (p + 2) (zeroes .0) bad
 
   pub named-worked : IsTemplate s b (w .ent) (top w) (try-from-template g (abs s b w) (call-at d (bits b) p)) named-call
-  named-worked = asked-given s b (w .ent) (top w) d p k H call g (abs s b w) (zeroes .0) (h .bad) (zeroes .1)
+  named-worked = asked-given s b (w .ent) (top w) d p k H call g (abs s b w) (zeroes .0) bad (zeroes .1)
 
   pub named-held : Holds string (bits b) (p + 2)
   named-held = call .held
 
-  pub named-plainly : (m : Bool) → h .bad ≡ 0 → Plainly s b (w .ent) o (marked (w .rc) m) d p named-call r k (h .values)
+  pub named-plainly : (m : Bool) → bad ≡ 0 → Plainly s b (w .ent) o (marked (w .rc) m) d p named-call r k values
   named-plainly m e = record {
     call = H;
     none = refl;
     pairs = call .pairs;
     pair = call .pair ∙ sym place;
-    values = λ g st t S. hashed g st t S .fine e .2;
+    values = λ g st t S. values-in-zeros s b (w .ent) t d r g st 15 k values (hashed g st t S .fine e .2);
   }

@@ -227,7 +227,7 @@ fn enter_named(
     sc: &mut [u64],
     r: usize,
     n: usize,
-    values: [u32; 15],
+    values: &[u32],
     q: usize,
     e: usize,
     name: usize,
@@ -236,8 +236,8 @@ fn enter_named(
     d: usize,
     rc: RenderContext,
 ) -> Begun
-    requires { ⌜ EnterableBy (now s) (now tab) (now b) (now ent) (now indent) (whole rc (now sc)) d r n values q e name own at × (length (now sc) ≡ 96) ⌝ }
-    ensures { λ y. ⌜ EntersBy (now (s .entry)) (now (b .entry)) (now (ent .entry)) (now (ent .exit)) (now (indent .entry)) (now (indent .exit)) (whole rc (now (sc .entry))) (whole (y .rc) (now (sc .exit))) d r n values q e name own at (y .next) ⌝ }
+    requires { ⌜ EnterableBy (now s) (now tab) (now b) (now ent) (now indent) (whole rc (now sc)) d r n (now values) q e name own at × (length (now sc) ≡ 96) × (n ≤ length (now values)) ⌝ }
+    ensures { λ y. ⌜ EntersBy (now (s .entry)) (now (b .entry)) (now (ent .entry)) (now (ent .exit)) (now (indent .entry)) (now (indent .exit)) (whole rc (now (sc .entry))) (whole (y .rc) (now (sc .exit))) d r n (now (values .entry)) q e name own at (y .next) ⌝ }
 {
     let total = opening::open_named(s, tab, b, ent, sc, r, n, values, d, rc);
     if 4096 < total {
@@ -284,9 +284,10 @@ fn begin_named(
     ensures { λ r. ⌜ PartialBegun (now (s .entry)) (now (b .entry)) options (world (whole rc (now (sc .entry))) (now (page .entry)) (now (texts .entry)) (now (indent .entry)) (now (ent .entry))) (world (whole (r .rc) (now (sc .exit))) (now (page .exit)) (now (texts .exit)) (now (indent .exit)) (now (ent .exit))) d (partial-rule (now (b .entry)) d p own at before) own at (r .next) ⌝ }
 {
     let r = parts::skip_string(b, p + 2) + 8;
-    let h = including::hash_all(s, tab, b, ent, sc, rc.used, options, r, k, d);
-    if h.bad != 0 {
-        return done(state::failed(rc, h.bad));
+    let mut values: [u32; 15] = [0; 15];
+    let bad = including::hash_all(s, tab, b, ent, sc, rc.used, options, r, k, d, &mut values);
+    if bad != 0 {
+        return done(state::failed(rc, bad));
     }
     let writer = rc.writer;
     if !decorators::indent_fits(b, writer.has_indent, writer.indent, at) {
@@ -306,7 +307,6 @@ fn begin_named(
             }
         }
         Target::Body(t, e, n, m) => {
-            let values = h.values;
             enter_named(
                 s,
                 tab,
@@ -316,7 +316,7 @@ fn begin_named(
                 sc,
                 r,
                 k,
-                values,
+                &values,
                 t,
                 e,
                 n,

@@ -46,10 +46,14 @@ pub record Numbered (s b : Bytes) (ent : List ℕ) (t : ℕ) (x : rule.Got Scope
   pub near : k < 4294967296
   pub stands : Stands s b ent t (decoded k)
 
--- the numbers of the n hash values behind the keys at p
-pub record HashValues (s b : Bytes) (ent : List ℕ) (t d p n : ℕ) (g : Registry) (st : RenderContext) (l : List ℕ) : Type 0 where
+-- the numbers of the n hash values behind the keys at p, in a list that was k: behind them it is as it was
+pub record HashValuesIn (s b : Bytes) (ent : List ℕ) (t d p n : ℕ) (g : Registry) (st : RenderContext) (k l : List ℕ) : Type 0 where
   pub each : (i : ℕ) → i < n → Numbered s b ent t (rules.expand g st (param-at d (bits b) (content-place d (bits b) p i))) (getD l i 0)
-  pub rest : (i : ℕ) → n ≤ i → getD l i 0 ≡ 0
+  pub rest : (i : ℕ) → n ≤ i → getD l i 0 ≡ getD k i 0
+
+-- the same where behind them is 0
+abbrev pub HashValues : Bytes → Bytes → List ℕ → ℕ → ℕ → ℕ → ℕ → Registry → RenderContext → List ℕ → Type 0
+HashValues s b ent t d p n g st l = HashValuesIn s b ent t d p n g st [] l
 
 -- the n pairs from number i on, as the rules have them
 abbrev pub hash-pairs : Bytes → Bytes → List ℕ → ℕ → ℕ → List ℕ → ℕ → ℕ → List (Bytes × ScopedJson)

@@ -32,7 +32,7 @@ use Rattle.context.specs.Near as near
 use Rattle.expand.specs.declared.Got.{Got}
 use Rattle.expand.specs.declared.Got.the-variants.{Is, Bad}
 use Rattle.expand.specs.Answers.{Expands}
-use Rattle.including.specs.Values.{pair-place, content-place, number-of, GotFits, Numbered, HashValues, hash-pairs}
+use Rattle.including.specs.Values.{pair-place, content-place, number-of, GotFits, Numbered, HashValuesIn, HashValues, hash-pairs}
 
 -- A value that stands has a number
 
@@ -86,16 +86,23 @@ module _ (s b : Bytes) (ent : List ℕ) (t : ℕ) where
 -- One value after the other
 
 module _ (s b : Bytes) (ent : List ℕ) (t d p : ℕ) (g : Registry) (st : RenderContext) where
-  pub values-none : (m : ℕ) → HashValues s b ent t d p 0 g st (replicate m 0)
-  values-none m = record { each = λ i lt. absurd (omega arith); rest = λ i le. go m i }
-    where
-      go : (m i : ℕ) → _≡_ {A = ℕ} (getD (replicate m 0) i 0) 0
-      go zero i = refl
-      go (suc m) zero = refl
-      go (suc m) (suc i) = go m i
+  zeros : (m i : ℕ) → _≡_ {A = ℕ} (getD (replicate m 0) i 0) 0
+  zeros zero i = refl
+  zeros (suc m) zero = refl
+  zeros (suc m) (suc i) = zeros m i
 
-  pub values-more : (i : ℕ) (l : List ℕ) (k : ℕ) → i < length l → HashValues s b ent t d p i g st l
-      → Numbered s b ent t (rules.expand g st (param-at d (bits b) (content-place d (bits b) p i))) k → HashValues s b ent t d p (suc i) g st (set l i k)
+  pub values-none : (m : ℕ) → HashValues s b ent t d p 0 g st (replicate m 0)
+  values-none m = record { each = λ i lt. absurd (omega arith); rest = λ i le. zeros m i }
+
+  pub values-as-were : (o : List ℕ) → HashValuesIn s b ent t d p 0 g st o o
+  values-as-were o = record { each = λ i lt. absurd (omega arith); rest = λ i le. refl }
+
+  -- in a list that was cleared
+  pub values-in-zeros : (m n : ℕ) (l : List ℕ) → HashValuesIn s b ent t d p n g st (replicate m 0) l → HashValues s b ent t d p n g st l
+  values-in-zeros m n l h = record { each = h .each; rest = λ i le. h .rest i le ∙ zeros m i }
+
+  pub values-more : {o : List ℕ} (i : ℕ) (l : List ℕ) (k : ℕ) → i < length l → HashValuesIn s b ent t d p i g st o l
+      → Numbered s b ent t (rules.expand g st (param-at d (bits b) (content-place d (bits b) p i))) k → HashValuesIn s b ent t d p (suc i) g st o (set l i k)
   values-more i l k lt h x = record { each = each; rest = λ j le. getD-set-other l i j k 0 (λ e. omega arith) ∙ h .rest j (omega arith) }
     where
       each : (j : ℕ) → j < suc i → Numbered s b ent t (rules.expand g st (param-at d (bits b) (content-place d (bits b) p j))) (getD (set l i k) j 0)

@@ -24,7 +24,7 @@ ghost use Rattle.value.specs.Numbers.{Fits, encoded, decoded};
 ghost use Rattle.value.specs.declared.Value.the-variants.{Merged};
 ghost use Rattle.meaning.specs.Meaning.{json-of};
 ghost use Rattle.members.specs.Parts.{Parts};
-ghost use Rattle.including.specs.Values.{number-of, GotFits, HashValues};
+ghost use Rattle.including.specs.Values.{number-of, GotFits, HashValuesIn, HashValues};
 ghost use Rattle.including.specs.Pairs.{with-pairs};
 ghost use Rattle.including.specs.Starting.{StartsPartial};
 ghost use Rattle.including.specs.Included.{included, entries-of};
@@ -107,13 +107,13 @@ pub fn merge_into(
     b: &[u8],
     t: usize,
     base: u32,
-    values: [u32; 15],
+    values: &[u32],
     p: usize,
     n: usize,
     d: usize,
 )
-    requires { ⌜ (length (now b) ≤ 65536) × (n < 16) × (t + n ≤ 4096) × (2 * (t + n) ≤ length (now ent)) × Holds (row (string then param d) n) (bits (now b)) p ⌝ }
-    ensures { λ _. ⌜ now (ent .exit) ≡ with-pairs (now (ent .entry)) (bits (now (b .entry))) t base values d p n ⌝ }
+    requires { ⌜ (length (now b) ≤ 65536) × (n < 16) × (t + n ≤ 4096) × (2 * (t + n) ≤ length (now ent)) × Holds (row (string then param d) n) (bits (now b)) p × (n ≤ length (now values)) ⌝ }
+    ensures { λ _. ⌜ now (ent .exit) ≡ with-pairs (now (ent .entry)) (bits (now (b .entry))) t base (now (values .entry)) d p n ⌝ }
 {
     let mut at = p;
     let mut i: usize = 0;
@@ -138,7 +138,7 @@ pub fn merge(
     requires { ⌜ (length (now b) ≤ 65536) × Fits base × (n < 16) × (t + n ≤ 4096) × (2 * (t + n) ≤ length (now ent)) × Holds (row (string then param d) n) (bits (now b)) p ⌝ }
     ensures { λ _. ⌜ now (ent .exit) ≡ with-pairs (now (ent .entry)) (bits (now (b .entry))) t (encoded base) values d p n ⌝ }
 {
-    merge_into(ent, b, t, value::encode(base), values, p, n, d);
+    merge_into(ent, b, t, value::encode(base), &values, p, n, d);
 }
 
 // The scope of a partial with n hash pairs in the entries from t on: its block names are those of the hash, its local variables those of the
@@ -206,13 +206,8 @@ fn hash_value(
     }
 }
 
-// The numbers of hash values, and 0 or the number of the refusal.
-pub struct Hashed {
-    pub values: [u32; 15],
-    pub bad: u8,
-}
-
-// The values of the n hash pairs at p, one by one up to the first that is refused; from there on they are 0.
+// The numbers of the values of the n hash pairs at p, one by one up to the first that is refused: from there on what is lent stays as it was. The answer
+// is the number of the refusal, or 0.
 pub fn hash_all(
     s: &[u8],
     tab: &[u64],
@@ -224,11 +219,11 @@ pub fn hash_all(
     p: usize,
     n: usize,
     d: usize,
-) -> Hashed
-    requires { ⌜ Accepted (now s) (now tab) × (length (now b) ≤ 65536) × (0 < used) × (used ≤ 32) × ((t : ℕ) × ScopesStand (now s) (now b) (now ent) (scopes-of (now sc)) used t × (t ≤ 4096)) × (n < 16) × Holds (row (string then param d) n) (bits (now b)) p × (length (now sc) ≡ 96) ⌝ }
-    ensures { λ r. ⌜ ((g : Registry) (st : RenderContext) (t : ℕ) → Setting (now (s .entry)) (now (b .entry)) (now (ent .entry)) (scopes-of (now (sc .entry))) used options g st t → Works (λ _. HashValues (now (s .entry)) (now (b .entry)) (now (ent .entry)) t d p n g st (r .values)) (rules.expand-hash g st (hash-at d n (bits (now (b .entry))) p)) (r .bad)) × ((g : Registry) (st : RenderContext) (t : ℕ) → Setting (now (s .entry)) (now (b .entry)) (now (ent .entry)) (scopes-of (now (sc .entry))) used options g st t → HashValues (now (s .entry)) (now (b .entry)) (now (ent .entry)) t d p (worked (now (b .entry)) d p g st n 0) g st (r .values)) ⌝ }
+    values: &mut [u32],
+) -> u8
+    requires { ⌜ Accepted (now s) (now tab) × (length (now b) ≤ 65536) × (0 < used) × (used ≤ 32) × ((t : ℕ) × ScopesStand (now s) (now b) (now ent) (scopes-of (now sc)) used t × (t ≤ 4096)) × (n < 16) × Holds (row (string then param d) n) (bits (now b)) p × (length (now sc) ≡ 96) × (n ≤ length (now values)) ⌝ }
+    ensures { λ r. ⌜ ((g : Registry) (st : RenderContext) (t : ℕ) → Setting (now (s .entry)) (now (b .entry)) (now (ent .entry)) (scopes-of (now (sc .entry))) used options g st t → Works (λ _. HashValuesIn (now (s .entry)) (now (b .entry)) (now (ent .entry)) t d p n g st (now (values .entry)) (now (values .exit))) (rules.expand-hash g st (hash-at d n (bits (now (b .entry))) p)) r) × ((g : Registry) (st : RenderContext) (t : ℕ) → Setting (now (s .entry)) (now (b .entry)) (now (ent .entry)) (scopes-of (now (sc .entry))) used options g st t → HashValuesIn (now (s .entry)) (now (b .entry)) (now (ent .entry)) t d p (worked (now (b .entry)) d p g st n 0) g st (now (values .entry)) (now (values .exit))) ⌝ }
 {
-    let mut r: [u32; 15] = [0; 15];
     let mut at = p;
     let mut i: usize = 0;
     while i < n {
@@ -236,12 +231,12 @@ pub fn hash_all(
         let q = parts::skip_string(b, at);
         let x = hash_value(s, tab, b, ent, sc, used, options, q, d);
         if let Got::Bad(k) = x {
-            return Hashed { values: r, bad: k };
+            return k;
         }
-        r[i] = number_of(x);
+        values[i] = number_of(x);
         i += 1;
     }
-    Hashed { values: r, bad: 0 }
+    0
 }
 
 // The number of a value without its path. Most are places of the plan, told by the last four bits.

@@ -92,12 +92,12 @@ fn open_pairs(
     sc: &mut [u64],
     q: usize,
     n: usize,
-    values: [u32; 15],
+    values: &[u32],
     d: usize,
     rc: RenderContext,
 ) -> usize
-    requires { ⌜ Accepted (now s) (now tab) × (length (now b) ≤ 65536) × SomePlainly (now s) (now b) (now ent) (whole rc (now sc)) d q n values × (n ≡ 0 → ⊥) × (length (now sc) ≡ 96) ⌝ }
-    ensures { λ r. ⌜ OpensBy (now (s .entry)) (now (b .entry)) (now (ent .entry)) (now (ent .exit)) (whole rc (now (sc .entry))) (whole rc (now (sc .exit))) d q n values r ⌝ }
+    requires { ⌜ Accepted (now s) (now tab) × (length (now b) ≤ 65536) × SomePlainly (now s) (now b) (now ent) (whole rc (now sc)) d q n (now values) × (n ≡ 0 → ⊥) × (length (now sc) ≡ 96) × (n ≤ length (now values)) ⌝ }
+    ensures { λ r. ⌜ OpensBy (now (s .entry)) (now (b .entry)) (now (ent .entry)) (now (ent .exit)) (whole rc (now (sc .entry))) (whole rc (now (sc .exit))) d q n (now (values .entry)) r ⌝ }
 {
     let t = end_of(sc, rc);
     if 4096 < t + n {
@@ -127,12 +127,12 @@ pub fn open_named(
     sc: &mut [u64],
     q: usize,
     n: usize,
-    values: [u32; 15],
+    values: &[u32],
     d: usize,
     rc: RenderContext,
 ) -> usize
-    requires { ⌜ Accepted (now s) (now tab) × (length (now b) ≤ 65536) × SomePlainly (now s) (now b) (now ent) (whole rc (now sc)) d q n values × (length (now sc) ≡ 96) ⌝ }
-    ensures { λ r. ⌜ OpensBy (now (s .entry)) (now (b .entry)) (now (ent .entry)) (now (ent .exit)) (whole rc (now (sc .entry))) (whole rc (now (sc .exit))) d q n values r ⌝ }
+    requires { ⌜ Accepted (now s) (now tab) × (length (now b) ≤ 65536) × SomePlainly (now s) (now b) (now ent) (whole rc (now sc)) d q n (now values) × (length (now sc) ≡ 96) × (n ≤ length (now values)) ⌝ }
+    ensures { λ r. ⌜ OpensBy (now (s .entry)) (now (b .entry)) (now (ent .entry)) (now (ent .exit)) (whole rc (now (sc .entry))) (whole rc (now (sc .exit))) d q n (now (values .entry)) r ⌝ }
 {
     if n != 0 {
         return open_pairs(s, tab, b, ent, sc, q, n, values, d, rc);

@@ -25,10 +25,10 @@ use Rattle.beginning.proofs.enter_named.Tie as tie
 
 open-named-requires : tie.Need-open-named-requires
 open-named-requires c κs =
-    let a = c .before .before .before .before .before .before .before .before .args in
-    let z = c .before .before .before .before .before .before .before .before .pre .0 in
+    let a = c .before .before .before .before .before .before .before .before .before .args in
+    let z = c .before .before .before .before .before .before .before .before .before .pre .0 in
     let f = z .enterable in
-    (f .plan, f .small, record { o = z .o; p = z .p; x = z .x; so = z .so; some = record { page = f .page; texts = f .texts; indent = a .indent .now; expanded = f .expanded; ready = f .ready; worked = f .worked } }, c .before .before .before .before .before .before .before .before .pre .1)
+    (f .plan, f .small, record { o = z .o; p = z .p; x = z .x; so = z .so; some = record { page = f .page; texts = f .texts; indent = a .indent .now; expanded = f .expanded; ready = f .ready; worked = f .worked } }, c .before .before .before .before .before .before .before .before .before .pre .1, c .before .before .before .before .before .before .before .before .before .pre .2)
 
 sub-failed : tie.Need-sub-failed
 sub-failed c = search needs
@@ -50,8 +50,8 @@ same-length-2 c = search needs
 
 returns : tie.Need-returns
 returns c =
-    let a = c .before .before .before .before .before .before .before .before .before .before .before .before .before .before .before .before .args in
-    let z = c .before .before .before .before .before .before .before .before .before .before .before .before .before .before .before .before .pre .0 in
+    let a = c .before .before .before .before .before .before .before .before .before .before .before .before .before .before .before .before .before .args in
+    let z = c .before .before .before .before .before .before .before .before .before .before .before .before .before .before .before .before .before .pre .0 in
     let ent′ : List ℕ = c .before .before .before .before .before .before .before .open-named .last .1 .1 .1 .0 in
     let sc′ : List ℕ = c .before .before .before .before .before .before .before .open-named .last .1 .1 .1 .1 .0 in
     let n = c .before .before .before .before .before .before .before .open-named .result in
@@ -63,8 +63,8 @@ returns c =
 
 deeper-requires : tie.Need-deeper-requires
 deeper-requires c κs =
-    let a = c .before .before .before .before .before .before .before .before .before .before .before .before .before .before .args in
-    let z = c .before .before .before .before .before .before .before .before .before .before .before .before .before .before .pre .0 in
+    let a = c .before .before .before .before .before .before .before .before .before .before .before .before .before .before .before .args in
+    let z = c .before .before .before .before .before .before .before .before .before .before .before .before .before .before .before .pre .0 in
     let f = z .enterable in
     let sc′ : List ℕ = c .before .before .before .before .before .open-named .last .1 .1 .1 .1 .0 in
     let n = c .before .before .before .before .before .open-named .result in
@@ -86,28 +86,28 @@ enum-told c = search needs
 
 no-text-requires : tie.Need-no-text-requires
 no-text-requires c κs =
-    let a = c .before .before .before .before .before .before .before .before .before .before .before .before .before .before .before .before .before .before .before .args in
-    let z = c .before .before .before .before .before .before .before .before .before .before .before .before .before .before .before .before .before .before .before .pre .0 in
+    let a = c .before .before .before .before .before .before .before .before .before .before .before .before .before .before .before .before .before .before .before .before .args in
+    let z = c .before .before .before .before .before .before .before .before .before .before .before .before .before .before .before .before .before .before .before .before .pre .0 in
     let ent′ : List ℕ = c .before .before .before .before .before .before .before .before .before .before .open-named .last .1 .1 .1 .0 in
     let sc′ : List ℕ = c .before .before .before .before .before .before .before .before .before .before .open-named .last .1 .1 .1 .1 .0 in
     let u : RenderContext = whole (c .before .before .before .before .deeper .result) sc′ in
     let same : deeper (whole (a .rc) sc′) (c .before .before .before .before .before .before .before .before .before .before .open-named .result) ≡ u = sym (c .before .before .before .before .deeper .ensures sc′) in
-    let scope : (o : Options) (p : ℕ) (x : Expanded) → Plainly (a .s .now) (a .b .now) (a .ent .now) o (whole (a .rc) (a .sc .now)) (a .d) p x (a .r) (a .n) (a .values) → ScopeOpened (a .s .now) (a .b .now) (a .ent .now) ent′ o (whole (a .rc) (a .sc .now)) u (a .d) p x = λ o p x so.
+    let scope : (o : Options) (p : ℕ) (x : Expanded) → Plainly (a .s .now) (a .b .now) (a .ent .now) o (whole (a .rc) (a .sc .now)) (a .d) p x (a .r) (a .n) (a .values .now) → ScopeOpened (a .s .now) (a .b .now) (a .ent .now) ent′ o (whole (a .rc) (a .sc .now)) u (a .d) p x = λ o p x so.
     subst (λ (v : RenderContext). ScopeOpened (a .s .now) (a .b .now) (a .ent .now) ent′ o (whole (a .rc) (a .sc .now)) v (a .d) p x) (sym (opened-well (whole (a .rc) sc′) (c .before .before .before .before .before .before .before .before .before .before .open-named .result) (omega (arith, c .before .before .before .before .before .if1 .left))) ∙ same) (c .before .before .before .before .before .before .before .before .before .before .open-named .ensures .1 o p x so) in
     let f = z .enterable in
     let fine : u .bad ≡ 0 = ap (λ (v : RenderContext). v .bad) (sym same) ∙ f .ready .fine in
     let r = scope (z .o) (z .p) (z .x) (z .so) .at (f .page) (f .texts) (a .indent .now) (f .ready) (f .expanded) (f .worked) (a .q) (a .e) (a .name) Nothing (a .at) .within fine .ready in
-    (r .one, r .most, c .before .before .before .before .before .before .before .before .before .before .open-named .kept .1 .1 .1 .1 .0 ∙ c .before .before .before .before .before .before .before .before .before .before .before .before .before .before .before .before .before .before .before .pre .1)
+    (r .one, r .most, c .before .before .before .before .before .before .before .before .before .before .open-named .kept .1 .1 .1 .1 .0 ∙ c .before .before .before .before .before .before .before .before .before .before .before .before .before .before .before .before .before .before .before .before .pre .1)
 
 begin-body-requires : tie.Need-begin-body-requires
 begin-body-requires c κs =
-    let a = c .before .before .before .before .before .before .before .before .before .before .before .before .before .before .before .before .before .before .before .before .before .before .args in
-    let z = c .before .before .before .before .before .before .before .before .before .before .before .before .before .before .before .before .before .before .before .before .before .before .pre .0 in
+    let a = c .before .before .before .before .before .before .before .before .before .before .before .before .before .before .before .before .before .before .before .before .before .before .before .args in
+    let z = c .before .before .before .before .before .before .before .before .before .before .before .before .before .before .before .before .before .before .before .before .before .before .before .pre .0 in
     let ent′ : List ℕ = c .before .before .before .before .before .before .before .before .before .before .before .before .before .open-named .last .1 .1 .1 .0 in
     let sc′ : List ℕ = c .before .before .before .before .before .before .before .before .before .before .before .before .before .open-named .last .1 .1 .1 .1 .0 in
     let u : RenderContext = whole (c .before .before .before .before .before .before .before .deeper .result) sc′ in
     let same : deeper (whole (a .rc) sc′) (c .before .before .before .before .before .before .before .before .before .before .before .before .before .open-named .result) ≡ u = sym (c .before .before .before .before .before .before .before .deeper .ensures sc′) in
-    let scope : (o : Options) (p : ℕ) (x : Expanded) → Plainly (a .s .now) (a .b .now) (a .ent .now) o (whole (a .rc) (a .sc .now)) (a .d) p x (a .r) (a .n) (a .values) → ScopeOpened (a .s .now) (a .b .now) (a .ent .now) ent′ o (whole (a .rc) (a .sc .now)) u (a .d) p x = λ o p x so.
+    let scope : (o : Options) (p : ℕ) (x : Expanded) → Plainly (a .s .now) (a .b .now) (a .ent .now) o (whole (a .rc) (a .sc .now)) (a .d) p x (a .r) (a .n) (a .values .now) → ScopeOpened (a .s .now) (a .b .now) (a .ent .now) ent′ o (whole (a .rc) (a .sc .now)) u (a .d) p x = λ o p x so.
     subst (λ (v : RenderContext). ScopeOpened (a .s .now) (a .b .now) (a .ent .now) ent′ o (whole (a .rc) (a .sc .now)) v (a .d) p x) (sym (opened-well (whole (a .rc) sc′) (c .before .before .before .before .before .before .before .before .before .before .before .before .before .open-named .result) (omega (arith, c .before .before .before .before .before .before .before .before .if1 .left))) ∙ same) (c .before .before .before .before .before .before .before .before .before .before .before .before .before .open-named .ensures .1 o p x so) in
     let f = z .enterable in
     let w : World = world (whole (a .rc) (a .sc .now)) (f .page) (f .texts) (a .indent .now) (a .ent .now) in
@@ -125,13 +125,13 @@ same-length-4 c = search needs
 
 returns-2 : tie.Need-returns-2
 returns-2 c =
-    let a = c .before .before .before .before .before .before .before .before .before .before .before .before .before .before .before .before .before .before .before .before .args in
-    let z = c .before .before .before .before .before .before .before .before .before .before .before .before .before .before .before .before .before .before .before .before .pre .0 in
+    let a = c .before .before .before .before .before .before .before .before .before .before .before .before .before .before .before .before .before .before .before .before .before .args in
+    let z = c .before .before .before .before .before .before .before .before .before .before .before .before .before .before .before .before .before .before .before .before .before .pre .0 in
     let ent′ : List ℕ = c .before .before .before .before .before .before .before .before .before .before .before .open-named .last .1 .1 .1 .0 in
     let sc′ : List ℕ = c .before .before .before .before .before .before .before .before .before .before .before .open-named .last .1 .1 .1 .1 .0 in
     let u : RenderContext = whole (c .before .before .before .before .before .deeper .result) sc′ in
     let same : deeper (whole (a .rc) sc′) (c .before .before .before .before .before .before .before .before .before .before .before .open-named .result) ≡ u = sym (c .before .before .before .before .before .deeper .ensures sc′) in
-    let scope : (o : Options) (p : ℕ) (x : Expanded) → Plainly (a .s .now) (a .b .now) (a .ent .now) o (whole (a .rc) (a .sc .now)) (a .d) p x (a .r) (a .n) (a .values) → ScopeOpened (a .s .now) (a .b .now) (a .ent .now) ent′ o (whole (a .rc) (a .sc .now)) u (a .d) p x = λ o p x so.
+    let scope : (o : Options) (p : ℕ) (x : Expanded) → Plainly (a .s .now) (a .b .now) (a .ent .now) o (whole (a .rc) (a .sc .now)) (a .d) p x (a .r) (a .n) (a .values .now) → ScopeOpened (a .s .now) (a .b .now) (a .ent .now) ent′ o (whole (a .rc) (a .sc .now)) u (a .d) p x = λ o p x so.
     subst (λ (v : RenderContext). ScopeOpened (a .s .now) (a .b .now) (a .ent .now) ent′ o (whole (a .rc) (a .sc .now)) v (a .d) p x) (sym (opened-well (whole (a .rc) sc′) (c .before .before .before .before .before .before .before .before .before .before .before .open-named .result) (omega (arith, c .before .before .before .before .before .before .if1 .left))) ∙ same) (c .before .before .before .before .before .before .before .before .before .before .before .open-named .ensures .1 o p x so) in
     let f = z .enterable in
     let t = c .before .before .before .own .given .0 .0 in
@@ -152,7 +152,7 @@ returns-2 c =
     }
 
 same-length-5 : tie.Need-same-length-5
-same-length-5 c = let y = c .before .before .before .before .before .before .before .before .before .before .before .before .before .before .before .before .open-named in let z = c .before .before .before .before .before .before .before .before .before .before .before .before .before .before .before .ent in let x = c .before .before .before .before .before .before .before .before .before .before .before .before .before .before .before .before .before .before .before .before .slice-known2 in search needs
+same-length-5 c = let y = c .before .before .before .before .before .before .before .before .before .before .before .before .before .before .before .before .open-named in let z = c .before .before .before .before .before .before .before .before .before .before .before .before .before .before .before .ent in let x = c .before .before .before .before .before .before .before .before .before .before .before .before .before .before .before .before .before .before .before .before .before .slice-known2 in search needs
 
 same-length-6 : tie.Need-same-length-6
 same-length-6 c = search needs
@@ -162,13 +162,13 @@ same-length-7 c = search needs
 
 returns-3 : tie.Need-returns-3
 returns-3 c =
-    let a = c .before .before .before .before .before .before .before .before .before .before .before .before .before .before .before .before .before .before .before .before .before .before .before .before .before .args in
-    let z = c .before .before .before .before .before .before .before .before .before .before .before .before .before .before .before .before .before .before .before .before .before .before .before .before .before .pre .0 in
+    let a = c .before .before .before .before .before .before .before .before .before .before .before .before .before .before .before .before .before .before .before .before .before .before .before .before .before .before .args in
+    let z = c .before .before .before .before .before .before .before .before .before .before .before .before .before .before .before .before .before .before .before .before .before .before .before .before .before .before .pre .0 in
     let ent′ : List ℕ = c .before .before .before .before .before .before .before .before .before .before .before .before .before .before .before .before .open-named .last .1 .1 .1 .0 in
     let sc′ : List ℕ = c .before .before .before .before .before .before .before .before .before .before .before .before .before .before .before .before .open-named .last .1 .1 .1 .1 .0 in
     let u : RenderContext = whole (c .before .before .before .before .before .before .before .before .before .before .deeper .result) sc′ in
     let same : deeper (whole (a .rc) sc′) (c .before .before .before .before .before .before .before .before .before .before .before .before .before .before .before .before .open-named .result) ≡ u = sym (c .before .before .before .before .before .before .before .before .before .before .deeper .ensures sc′) in
-    let scope : (o : Options) (p : ℕ) (x : Expanded) → Plainly (a .s .now) (a .b .now) (a .ent .now) o (whole (a .rc) (a .sc .now)) (a .d) p x (a .r) (a .n) (a .values) → ScopeOpened (a .s .now) (a .b .now) (a .ent .now) ent′ o (whole (a .rc) (a .sc .now)) u (a .d) p x = λ o p x so.
+    let scope : (o : Options) (p : ℕ) (x : Expanded) → Plainly (a .s .now) (a .b .now) (a .ent .now) o (whole (a .rc) (a .sc .now)) (a .d) p x (a .r) (a .n) (a .values .now) → ScopeOpened (a .s .now) (a .b .now) (a .ent .now) ent′ o (whole (a .rc) (a .sc .now)) u (a .d) p x = λ o p x so.
     subst (λ (v : RenderContext). ScopeOpened (a .s .now) (a .b .now) (a .ent .now) ent′ o (whole (a .rc) (a .sc .now)) v (a .d) p x) (sym (opened-well (whole (a .rc) sc′) (c .before .before .before .before .before .before .before .before .before .before .before .before .before .before .before .before .open-named .result) (omega (arith, c .before .before .before .before .before .before .before .before .before .before .before .if1 .left))) ∙ same) (c .before .before .before .before .before .before .before .before .before .before .before .before .before .before .before .before .open-named .ensures .1 o p x so) in
     let f = z .enterable in
     let sc″ : List ℕ = c .before .before .before .before .before .no-text .last .0 in

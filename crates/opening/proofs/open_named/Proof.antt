@@ -19,7 +19,7 @@ use Rattle.opening.proofs.open_named.Statement.{statement}
 use Rattle.opening.proofs.open_named.Tie as tie
 
 open-pairs-requires : tie.Need-open-pairs-requires
-open-pairs-requires c κs = let z = c .before .before .before .before .before .before .before .before in (z .pre .0, z .pre .1, z .pre .2, c .before .before .if1 .taken, z .pre .3)
+open-pairs-requires c κs = let z = c .before .before .before .before .before .before .before .before .before in (z .pre .0, z .pre .1, z .pre .2, c .before .before .if1 .taken, z .pre .3, z .pre .4)
 
 same-length : tie.Need-same-length
 same-length c = search needs
@@ -32,7 +32,7 @@ returns c = c .before .before .before .before .open-pairs .ensures
 
 returns-2 : tie.Need-returns-2
 returns-2 c =
-    let z = c .before .before .before .before .before .before .before .before in
+    let z = c .before .before .before .before .before .before .before .before .before in
     let a = z .args in
     let P = z .pre .2 in
     let r = P .some .ready in
@@ -40,12 +40,12 @@ returns-2 c =
       omega arith,
       λ o p x so.
           subst (λ (y : RenderContext). ScopeOpened (a .s .now) (a .b .now) (a .ent .now) (a .ent .now) o (whole (a .rc) (a .sc .now)) y (a .d) p x) (sym (plainly-deep (without-path (base-of (getD (scopes-of (a .sc .now)) (a .rc .used - 1) blank))) (end-of (whole (a .rc) (a .sc .now))) (whole (a .rc) (a .sc .now)) (omega (arith, c .if2 .taken))))
-          (plain-none (a .s .now) (a .b .now) (a .ent .now) o (whole (a .rc) (a .sc .now)) (a .d) p x (a .q) (a .n) (a .values) (z .pre .0 .answers) (z .pre .1) one so (c .before .before .if1 .left) (omega (arith, r .enough, r .few)) (omega (arith, r .few))),
+          (plain-none (a .s .now) (a .b .now) (a .ent .now) o (whole (a .rc) (a .sc .now)) (a .d) p x (a .q) (a .n) (a .values .now) (z .pre .0 .answers) (z .pre .1) one so (c .before .before .if1 .left) (omega (arith, r .enough, r .few)) (omega (arith, r .few))),
     )
 
 end-of-requires : tie.Need-end-of-requires
 end-of-requires c κs =
-    let z = c .before .before .before .before .before .before .before .before .before in
+    let z = c .before .before .before .before .before .before .before .before .before .before in
     let a = z .args in
     let P = z .pre .2 in
     let r = P .some .ready in
@@ -54,16 +54,16 @@ end-of-requires c κs =
 
 current-number-requires : tie.Need-current-number-requires
 current-number-requires c κs =
-    let z = c .before .before .before .before .before .before .before .before .before .before .before in
+    let z = c .before .before .before .before .before .before .before .before .before .before .before .before in
     let a = z .args in
     let P = z .pre .2 in
     let r = P .some .ready in
     let one : 0 < a .rc .used = omega (arith, r .one) in
-    (one, r .most, z .pre .3, plain-base (a .s .now) (a .b .now) (a .ent .now) (P .o) (whole (a .rc) (a .sc .now)) (a .d) (P .p) (P .x) (a .q) (a .n) (a .values) (z .pre .0 .answers) (z .pre .1) one (P .so) (P .some))
+    (one, r .most, z .pre .3, plain-base (a .s .now) (a .b .now) (a .ent .now) (P .o) (whole (a .rc) (a .sc .now)) (a .d) (P .p) (P .x) (a .q) (a .n) (a .values .now) (z .pre .0 .answers) (z .pre .1) one (P .so) (P .some))
 
 cast-child : tie.Need-cast-child
 cast-child c =
-    let z = c .before .before .before .before .before .before .before .before .before .before .before .before in
+    let z = c .before .before .before .before .before .before .before .before .before .before .before .before .before in
     let a = z .args in
     let P = z .pre .2 in
     let r = P .some .ready in
@@ -75,7 +75,7 @@ child-requires c κs = search needs
 
 front-requires : tie.Need-front-requires
 front-requires c κs =
-    let z = c .before .before .before .before .before .before .before .before .before .before .before .before .before .before in
+    let z = c .before .before .before .before .before .before .before .before .before .before .before .before .before .before .before in
     let a = z .args in
     let P = z .pre .2 in
     let r = P .some .ready in
@@ -87,7 +87,7 @@ with-locals-requires c κs = search needs
 
 put-scope-requires : tie.Need-put-scope-requires
 put-scope-requires c κs =
-    let z = c .before .before .before .before .before .before .before .before .before .before .before .before .before .before .before .before .before in
+    let z = c .before .before .before .before .before .before .before .before .before .before .before .before .before .before .before .before .before .before in
     let a = z .args in
     let P = z .pre .2 in
     let r = P .some .ready in
@@ -99,7 +99,7 @@ same-length-3 c = search needs
 
 returns-3 : tie.Need-returns-3
 returns-3 c =
-    let z = c .before .before .before .before .before .before .before .before .before .before .before .before .before .before .before .before .before .before .before .before in
+    let z = c .before .before .before .before .before .before .before .before .before .before .before .before .before .before .before .before .before .before .before .before .before in
     let a = z .args in
     let P = z .pre .2 in
     let r = P .some .ready in
@@ -113,7 +113,7 @@ returns-3 c =
       omega (arith, r .few),
       λ o p x so.
           subst (λ (y : RenderContext). ScopeOpened (a .s .now) (a .b .now) (a .ent .now) (a .ent .now) o (whole (a .rc) (a .sc .now)) y (a .d) p x) (sym (plainly-room (without-path (base-of (getD (scopes-of (a .sc .now)) (a .rc .used - 1) blank))) (end-of (whole (a .rc) (a .sc .now))) (whole (a .rc) (a .sc .now)) lt) ∙ is)
-          (plain-none (a .s .now) (a .b .now) (a .ent .now) o (whole (a .rc) (a .sc .now)) (a .d) p x (a .q) (a .n) (a .values) (z .pre .0 .answers) (z .pre .1) one so (c .before .before .before .before .before .before .before .before .before .before .before .before .before .before .if1 .left) (omega (arith, r .enough, r .few)) (omega (arith, r .few))),
+          (plain-none (a .s .now) (a .b .now) (a .ent .now) o (whole (a .rc) (a .sc .now)) (a .d) p x (a .q) (a .n) (a .values .now) (z .pre .0 .answers) (z .pre .1) one so (c .before .before .before .before .before .before .before .before .before .before .before .before .before .before .if1 .left) (omega (arith, r .enough, r .few)) (omega (arith, r .few))),
     )
 
 pub open-named-spec : {M : Type 1} → statement M
