@@ -214,6 +214,9 @@ found-place (suc (suc c)) h le =
 pub number-found : (r n : ℕ) → r ≡ 2 + n → FoundIs (decoded n) ≡ numbered-found r
 number-found r n e = let f : r ≡ suc (suc n) = omega arith in sym (ap numbered-found f)
 
+pub number-some : (n : ℕ) → ltb 0 (2 + n) ≡ true
+number-some n = lt-ltb 0 (2 + n) (omega arith)
+
 module _ (s b : Bytes) (u : ℕ) (h : (eqb (u % 16) 5 || eqb (u % 16) 6) ≡ true) where
   base-within : PlainHeld s b (decoded u) → u / 16 < places s
   base-within held =

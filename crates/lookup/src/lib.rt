@@ -593,7 +593,7 @@ fn looked_any(s: &[u8], tab: &[u64], b: &[u8], ent: &[u64], v: Value, i: Value) 
 // What the object at i has under the string at q of m bytes.
 fn object_key(s: &[u8], tab: &[u64], b: &[u8], i: usize, q: usize, m: usize) -> u64
     requires { ⌜ Accepted (now s) (now tab) × (length (now b) ≤ 65536) × (i < places (now s)) × Holds string (bits (now b)) q × (m ≡ field (bits (now b)) 16 q) ⌝ }
-    ensures { λ r. ⌜ KeyNumber (now (s .entry)) (now (b .entry)) (json-at (now (s .entry)) i) (text-at (bits (now (b .entry))) q) r ⌝ }
+    ensures { λ r. ⌜ KeyNumber (now (s .entry)) (now (b .entry)) i (text-at (bits (now (b .entry))) q) r ⌝ }
 {
     placed_number(place_number(s, tab, b, i, q, m), 6)
 }
@@ -625,10 +625,10 @@ fn merged_key(
     0
 }
 
-// What the value v has under the literal at l.
-fn keyed_number(s: &[u8], tab: &[u64], b: &[u8], ent: &[u64], v: Value, l: usize) -> u64
+// What the value v has under the literal at l: 0 where it is not told, 1 for nothing, else two more than a value's number.
+pub fn keyed_number(s: &[u8], tab: &[u64], b: &[u8], ent: &[u64], v: Value, l: usize) -> u64
     requires { ⌜ Accepted (now s) (now tab) × (length (now b) ≤ 65536) × Held (now s) (now b) (now ent) v × Holds literal (bits (now b)) l ⌝ }
-    ensures { λ r. ⌜ LookedNumber (now (s .entry)) (now (b .entry)) (now (ent .entry)) v (literal-json (literal-at (bits (now (b .entry))) l)) r ⌝ }
+    ensures { λ r. ⌜ LookedNumber (now (s .entry)) (now (b .entry)) (now (ent .entry)) v l r ⌝ }
 {
     // the kind of the literal, and the count of the string that 5 is
     let x = bits::field(b, l, 19);

@@ -3,13 +3,11 @@ use native.Mathlib.Omega.{arith}
 use mathlib.Core.Path.{ap, sym, subst}
 use Rattle.layout.specs.Text.{text-at}
 use Rattle.rules.specs.Bits.{bits}
-use Rattle.rules.specs.Template.{literal-json}
-use Rattle.parts.specs.Says.{literal-at}
 use Rattle.value.specs.declared.Value.{Value}
 use Rattle.value.specs.declared.Value.the-variants.{Merged}
 use Rattle.lookup.specs.Answers.{Held, pathless}
-use Rattle.lookup.specs.Keyed.{MergedNumber}
-use Rattle.lookup.proofs.Keyed.{string-literal, looked-place, looked-merged, not-looked}
+use Rattle.lookup.specs.Keyed.{key-told, MergedNumber}
+use Rattle.lookup.proofs.Keyed.{string-literal, not-string, looked-place, looked-merged, looked-other}
 use Rattle.lookup.proofs.Leading.{placed-within}
 use Rattle.lookup.proofs.Ordered.{string-near}
 use borrow.Author.Needs.{needs}
@@ -22,7 +20,7 @@ field-requires c κs = search needs
 returns : tie.Need-returns
 returns c =
     let a = c .before .before .before .before .before .before .args in
-    not-looked (a .s .now) (a .b .now) (a .ent .now) (a .v) (literal-json (literal-at (bits (a .b .now)) (a .l)))
+    not-string (a .s .now) (a .b .now) (a .ent .now) (a .v) (a .l) _ (c .before .field .ensures) (c .if1 .taken)
 
 enum-known-v : tie.Need-enum-known-v
 enum-known-v c = search needs
@@ -80,14 +78,14 @@ returns-2 c =
     let z = c .before .before .before .before .before .before .before .before .before .before in
     let a = z .args in
     let x = string-literal (a .b .now) (a .l) (c .before .before .before .before .before .field .result) (z .pre .3) (c .before .before .before .before .before .field .ensures) (omega (arith, c .before .before .before .before .if1 .left)) in
-    looked-place (a .s .now) (a .b .now) (a .ent .now) (a .v) _ (text-at (bits (a .b .now)) (a .l + 3)) (x .is) (c .before .before .v .given .0 .0) (ap pathless (c .before .before .v .given .1)) (c .object-key .result) (c .object-key .ensures)
+    looked-place (a .s .now) (a .b .now) (a .ent .now) (a .v) (a .l) _ (c .before .before .before .before .before .field .ensures) (omega (arith, c .before .before .before .before .if1 .left)) x (c .before .before .v .given .0 .0) (ap pathless (c .before .before .v .given .1)) (ap (key-told (a .s .now) (a .b .now) (a .ent .now) (text-at (bits (a .b .now)) (a .l + 3))) (c .before .before .v .given .1)) (c .object-key .result) (c .object-key .ensures)
 
 returns-3 : tie.Need-returns-3
 returns-3 c =
     let z = c .before .before .before .before .before .before .before .before .before .before in
     let a = z .args in
     let x = string-literal (a .b .now) (a .l) (c .before .before .before .before .before .field .result) (z .pre .3) (c .before .before .before .before .before .field .ensures) (omega (arith, c .before .before .before .before .if1 .left)) in
-    looked-place (a .s .now) (a .b .now) (a .ent .now) (a .v) _ (text-at (bits (a .b .now)) (a .l + 3)) (x .is) (c .before .before .v2 .given .0 .0) (ap pathless (c .before .before .v2 .given .1)) (c .object-key2 .result) (c .object-key2 .ensures)
+    looked-place (a .s .now) (a .b .now) (a .ent .now) (a .v) (a .l) _ (c .before .before .before .before .before .field .ensures) (omega (arith, c .before .before .before .before .if1 .left)) x (c .before .before .v2 .given .0 .0) (ap pathless (c .before .before .v2 .given .1)) (ap (key-told (a .s .now) (a .b .now) (a .ent .now) (text-at (bits (a .b .now)) (a .l + 3))) (c .before .before .v2 .given .1)) (c .object-key2 .result) (c .object-key2 .ensures)
 
 returns-4 : tie.Need-returns-4
 returns-4 c =
@@ -95,13 +93,16 @@ returns-4 c =
     let a = z .args in
     let k = text-at (bits (a .b .now)) (a .l + 3) in
     let x = string-literal (a .b .now) (a .l) (c .before .before .before .before .before .field .result) (z .pre .3) (c .before .before .before .before .before .field .ensures) (omega (arith, c .before .before .before .before .if1 .left)) in
-    looked-merged (a .s .now) (a .b .now) (a .ent .now) (a .v) _ k (x .is) (c .before .before .v3 .given .0 .0) (c .before .before .v3 .given .0 .1 .0) (c .before .before .v3 .given .1) (z .pre .2) (c .merged-key .result)
+    looked-merged (a .s .now) (a .b .now) (a .ent .now) (a .v) (a .l) _ (c .before .before .before .before .before .field .ensures) (omega (arith, c .before .before .before .before .if1 .left)) x (c .before .before .v3 .given .0 .0) (c .before .before .v3 .given .0 .1 .0) (c .before .before .v3 .given .1) (z .pre .2) (c .merged-key .result)
     (subst (λ (v : Value). MergedNumber (a .s .now) (a .b .now) (a .ent .now) v k (c .merged-key .result)) (sym (c .before .before .v3 .given .1)) (c .merged-key .ensures))
 
 returns-5 : tie.Need-returns-5
 returns-5 c =
-    let a = c .before .before .before .before .before .before .before .args in
-    not-looked (a .s .now) (a .b .now) (a .ent .now) (a .v) (literal-json (literal-at (bits (a .b .now)) (a .l)))
+    let z = c .before .before .before .before .before .before .before in
+    let a = z .args in
+    let le : 327680 ≤ c .before .before .field .result = omega (arith, c .before .if1 .left) in
+    let x = string-literal (a .b .now) (a .l) (c .before .before .field .result) (z .pre .3) (c .before .before .field .ensures) le in
+    looked-other (a .s .now) (a .b .now) (a .ent .now) (a .v) (a .l) _ (c .before .before .field .ensures) le x (c .match .keys4)
 
 pub keyed-number-spec : {M : Type 1} → statement M
 keyed-number-spec =

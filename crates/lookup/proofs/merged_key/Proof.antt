@@ -12,9 +12,10 @@ use Rattle.merging.specs.Lookup.{find-last}
 use Rattle.lookup.specs.Answers as answers
 use Rattle.lookup.specs.Keys.{KeyFound}
 use Rattle.lookup.specs.Numbers.{pair-at}
+use Rattle.lookup.specs.Telling.{stands-object}
 use Rattle.lookup.proofs.Finding.{inward-start, inward-merged, inward-room, inward-found}
-use Rattle.lookup.proofs.Keyed.{key-within, key-found}
-use Rattle.lookup.proofs.Numbers.{pair-some, number-found}
+use Rattle.lookup.proofs.Keyed.{key-pair, key-base, key-within, key-found}
+use Rattle.lookup.proofs.Numbers.{pair-some, number-found, number-some, no-object}
 use Rattle.lookup.proofs.Ordered.{string-near}
 use borrow.Author.Needs.{needs}
 use Rattle.lookup.proofs.merged_key.Statement.{statement}
@@ -68,12 +69,13 @@ returns c =
     let v = Merged (a .h) (a .n) in
     let k = text-at (bits (a .b .now)) (a .q) in
     let w = inward-start (a .s .now) (a .b .now) (a .ent .now) v k (z .pre .2) in
+    let K = subst (KeyFound (a .s .now) (a .b .now) (a .ent .now) (a .h) (a .n) (find-last (pairs (a .b .now) (a .ent .now) (json-of (a .s .now) (a .b .now) (a .ent .now)) (a .h) (a .n)) k)) (pair-some (a .h) (c .before .before .before .last-pair .result) (omega (arith, c .before .before .if1 .taken))) (c .before .before .before .last-pair .ensures (a .s .now)) in
     record {
       small = omega arith;
+      known = number-some (c .pathless-number .result) ∙ sym (key-pair (a .s .now) (a .b .now) (a .ent .now) (a .h) (a .n) k _ (K .value));
       told = λ ne.
           subst (answers.Finds (a .s .now) (a .b .now) (a .ent .now) v (get-member (base-map (json-of (a .s .now) (a .b .now) (a .ent .now) v)) k)) (number-found _ (c .pathless-number .result) refl)
-          (inward-found (a .s .now) (a .b .now) (a .ent .now) v k v w (a .h) (a .n) refl _
-          (subst (KeyFound (a .s .now) (a .b .now) (a .ent .now) (a .h) (a .n) (find-last (pairs (a .b .now) (a .ent .now) (json-of (a .s .now) (a .b .now) (a .ent .now)) (a .h) (a .n)) k)) (pair-some (a .h) (c .before .before .before .last-pair .result) (omega (arith, c .before .before .if1 .taken))) (c .before .before .before .last-pair .ensures (a .s .now)))
+          (inward-found (a .s .now) (a .b .now) (a .ent .now) v k v w (a .h) (a .n) refl _ K
           (decoded (c .pathless-number .result)) (c .pathless-number .ensures ∙ ap (λ (n : ℕ). answers.pathless (decoded n)) (c .before .low .ensures)));
     }
 
@@ -106,7 +108,16 @@ returns-2 c =
     key-found (a .s .now) (a .b .now) (a .ent .now) (a .h) (a .n) k (z .pre .2) (c .before .before .high .result) (ap decoded (c .before .before .high .ensures)) o (c .before .if2 .taken) (c .object-key .result) (c .object-key .ensures)
 
 returns-3 : tie.Need-returns-3
-returns-3 c = record { small = omega arith; told = λ ne. absurd (ne refl) }
+returns-3 c =
+    let z = c .before .before .before .before .before .before .before .before in
+    let a = z .args in
+    let k = text-at (bits (a .b .now)) (a .q) in
+    let o = subst (λ (i : ℕ). KeyFound (a .s .now) (a .b .now) (a .ent .now) (a .h) (a .n) (find-last (pairs (a .b .now) (a .ent .now) (json-of (a .s .now) (a .b .now) (a .ent .now)) (a .h) (a .n)) k) (pair-at (a .h) i)) (c .before .before .if1 .left) (c .before .before .before .last-pair .ensures (a .s .now)) in
+    record {
+      small = omega arith;
+      known = sym (key-base (a .s .now) (a .b .now) (a .ent .now) (a .h) (a .n) k o ∙ ap (λ (n : ℕ). stands-object (a .s .now) (decoded n)) (sym (c .before .high .ensures)) ∙ no-object (a .s .now) (c .before .high .result) (c .if2 .left));
+      told = λ ne. absurd (ne refl);
+    }
 
 pub merged-key-spec : {M : Type 1} → statement M
 merged-key-spec =

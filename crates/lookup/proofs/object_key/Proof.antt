@@ -1,7 +1,6 @@
 use native.Mathlib.Omega.{arith}
 use mathlib.Core.Path.{sym, subst}
 use Rattle.layout.specs.Text.{text-at}
-use Rattle.places.specs.Places.{json-at}
 use Rattle.rules.specs.Bits.{bits}
 use Rattle.lookup.specs.Keyed.{KeyNumber}
 use Rattle.lookup.proofs.Keyed.{object-key}
@@ -19,7 +18,7 @@ returns : tie.Need-returns
 returns c =
     let z = c .before .before .before .before .before in
     let a = z .args in
-    subst (KeyNumber (a .s .now) (a .b .now) (json-at (a .s .now) (a .i)) (text-at (bits (a .b .now)) (a .q))) (sym (c .placed-number .ensures))
+    subst (KeyNumber (a .s .now) (a .b .now) (a .i) (text-at (bits (a .b .now)) (a .q))) (sym (c .placed-number .ensures))
     (object-key (a .s .now) (a .b .now) (a .tab .now) (z .pre .0) (a .i) (z .pre .2) (text-at (bits (a .b .now)) (a .q)) (c .before .place-number .result) (c .before .place-number .ensures))
 
 pub object-key-spec : {M : Type 1} → statement M
