@@ -1,3 +1,3 @@
-mod Deciding
-mod Expressing
+pub mod Deciding
+pub mod Expressing
 mod Pathing

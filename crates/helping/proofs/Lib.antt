@@ -1,2 +1,2 @@
 -- What the proofs share.
-mod Deciding
+pub mod Deciding

@@ -124,12 +124,10 @@ module _ (d : ℕ) (b : Bits) (bin : Binary b) (p : ℕ) (H : Holds (call-of (pa
         first-path 0 h,
       )
 
-  -- the call ends where the pairs would begin, and their count
-  pub one-ends : field b 6 (p + 18 + 8 * x) ≡ 5 → field b 4 (end path b (p + 18 + 8 * x + 6)) ≡ 0
-      → (end path b (p + 18 + 8 * x + 6) + 4 ≡ end (call-of (param d)) b p) × (end path b (p + 18 + 8 * x + 6) + 4 ≤ b .size)
-  one-ends h e =
+  -- where there are no pairs, the call ends behind their count
+  no-pairs-end : (u : ℕ) → u ≡ params-end d b p → field b 4 u ≡ 0 → (u + 4 ≡ end (call-of (param d)) b p) × (u + 4 ≤ b .size)
+  no-pairs-end u z e =
       let q = params-end d b p in
-      let z : end path b (p + 18 + 8 * x + 6) ≡ q = behind-first 0 h ∙ sym (none-left (param d) b (end (param d) b (name-end d b p + 4))) ∙ row-end 0 h in
       let t = tested-holds ascending (counted 4 (string then param d)) b q (call-pairs d b p H) in
       let k : field b 4 q ≡ 0 = sym (ap (field b 4) z) ∙ e in (
         ap (λ (m : ℕ). m + 4) z
@@ -140,6 +138,11 @@ module _ (d : ℕ) (b : Bits) (bin : Binary b) (p : ℕ) (H : Holds (call-of (pa
             ∙ call-end d b p H,
         omega (arith, z, call-fits d b p H .1),
       )
+
+  pub one-ends : field b 6 (p + 18 + 8 * x) ≡ 5 → field b 4 (end path b (p + 18 + 8 * x + 6)) ≡ 0
+      → (end path b (p + 18 + 8 * x + 6) + 4 ≡ end (call-of (param d)) b p) × (end path b (p + 18 + 8 * x + 6) + 4 ≤ b .size)
+  one-ends h e =
+      no-pairs-end (end path b (p + 18 + 8 * x + 6)) (behind-first 0 h ∙ sym (none-left (param d) b (end (param d) b (name-end d b p + 4))) ∙ row-end 0 h) e
 
   -- a path and one parameter more
   module _ (h : field b 6 (p + 18 + 8 * x) ≡ 9) where
@@ -162,26 +165,32 @@ module _ (d : ℕ) (b : Bits) (bin : Binary b) (p : ℕ) (H : Holds (call-of (pa
       there : u + 2 ≡ end path b (p + 18 + 8 * x + 6) + 2
       there = sym (ap (λ (m : ℕ). m + 2) (behind-first 1 h))
 
-      second-literal : Holds literal b (end path b (p + 18 + 8 * x + 6) + 2)
+      pub second-literal : Holds literal b (end path b (p + 18 + 8 * x + 6) + 2)
       second-literal = moved literal b _ _ there (literal-here .parts)
 
-      two-is : field b 4 (end literal b (end path b (p + 18 + 8 * x + 6) + 2)) ≡ 0 → FewIs d b p (Two (p + 18 + 8 * x + 6) (end path b (p + 18 + 8 * x + 6) + 2))
-      two-is e =
-          let z : end literal b (end path b (p + 18 + 8 * x + 6) + 2) ≡ params-end d b p =
+      behind-second : end literal b (end path b (p + 18 + 8 * x + 6) + 2) ≡ params-end d b p
+      behind-second =
           sym (ap (end literal b) there)
           ∙ param-literal d b u (last .first) is-literal .ends
           ∙ sym (none-left (param d) b (end (param d) b u))
           ∙ last .ends
-          ∙ row-end 1 h in (
-            said 1 h (sym (ap (field b 4) z) ∙ e)
-                ∙ ap (λ y. rule.call (rule.name (text-at b (p + 2))) (rule.pcons (rule.path (path-at b (p + 18 + 8 * x + 6))) y) rule.hnil) (params-more d 0 b u (more 1 h .rest))
-                ∙ ap (λ y. rule.call (rule.name (text-at b (p + 2))) (rule.pcons (rule.path (path-at b (p + 18 + 8 * x + 6))) (rule.pcons (param-at d b u) y)) rule.hnil) (no-params d b (end (param d) b u))
-                ∙ ap (λ y. rule.call (rule.name (text-at b (p + 2))) (rule.pcons (rule.path (path-at b (p + 18 + 8 * x + 6))) (rule.pcons y rule.pnil)) rule.hnil) (literal-here .is)
-                ∙ ap (λ (m : ℕ). rule.call (rule.name (text-at b (p + 2))) (rule.pcons (rule.path (path-at b (p + 18 + 8 * x + 6))) (rule.pcons (rule.literal (literal-at b m)) rule.pnil)) rule.hnil) there,
-            name-here .parts,
-            first-path 1 h,
-            second-literal,
-          )
+          ∙ row-end 1 h
+
+      pub two-is : field b 4 (end literal b (end path b (p + 18 + 8 * x + 6) + 2)) ≡ 0 → FewIs d b p (Two (p + 18 + 8 * x + 6) (end path b (p + 18 + 8 * x + 6) + 2))
+      two-is e = (
+        said 1 h (sym (ap (field b 4) behind-second) ∙ e)
+            ∙ ap (λ y. rule.call (rule.name (text-at b (p + 2))) (rule.pcons (rule.path (path-at b (p + 18 + 8 * x + 6))) y) rule.hnil) (params-more d 0 b u (more 1 h .rest))
+            ∙ ap (λ y. rule.call (rule.name (text-at b (p + 2))) (rule.pcons (rule.path (path-at b (p + 18 + 8 * x + 6))) (rule.pcons (param-at d b u) y)) rule.hnil) (no-params d b (end (param d) b u))
+            ∙ ap (λ y. rule.call (rule.name (text-at b (p + 2))) (rule.pcons (rule.path (path-at b (p + 18 + 8 * x + 6))) (rule.pcons y rule.pnil)) rule.hnil) (literal-here .is)
+            ∙ ap (λ (m : ℕ). rule.call (rule.name (text-at b (p + 2))) (rule.pcons (rule.path (path-at b (p + 18 + 8 * x + 6))) (rule.pcons (rule.literal (literal-at b m)) rule.pnil)) rule.hnil) there,
+        name-here .parts,
+        first-path 1 h,
+        second-literal,
+      )
+
+      pub two-ends : field b 4 (end literal b (end path b (p + 18 + 8 * x + 6) + 2)) ≡ 0
+          → (end literal b (end path b (p + 18 + 8 * x + 6) + 2) + 4 ≡ end (call-of (param d)) b p) × (end literal b (end path b (p + 18 + 8 * x + 6) + 2) + 4 ≤ b .size)
+      two-ends e = no-pairs-end (end literal b (end path b (p + 18 + 8 * x + 6) + 2)) behind-second e
 
     pub second-holds : SecondHolds b (p + 18 + 8 * x + 6)
     second-holds = record { here = first-path 1 h; fits = second-fits; literal-behind = second-literal }
