@@ -86,6 +86,17 @@ one-moved s b o d p l c indent ent u u′ page page′ texts texts′ z z′ e f
     (subst (λ (x : Writer). OneDrawn s b o d p l (world (kept c x (full-number x)) page texts indent ent) z′) (sym g)
     (subst (OneDrawn s b o d p l (world (kept c u (full-number u)) page texts indent ent)) (sym h) O)))
 
+-- v is printed in the context x, and u is the writer behind it
+pub value-prints : (s b page texts indent : Bytes) (x y : RenderContext) (v : Value) (u : Writer) (page′ texts′ : Bytes) → y ≡ wrote x u
+    → Means s b v (λ j. outputs u page′ texts′ ≡ fed indent (escaped (not (x .«disable_escape»)) (render j)) (outputs (x .writer) page texts))
+    → (ent : List ℕ) (t : ℕ) → Stands s b ent t v → Ready s b (world x page texts indent ent)
+    → Draws s b (world x page texts indent ent) (world y page′ texts′ indent ent) (indent-aware-write (do-escape (abs s b (world x page texts indent ent)) (render (json-of s b ent v))) (abs s b (world x page texts indent ent)))
+value-prints s b page texts indent x y v u page′ texts′ hy M ent t st ready =
+    let l = world x page texts indent ent in
+    let j = render (json-of s b ent v) in
+    subst (λ (k : Bytes). Draws s b l (world y page′ texts′ indent ent) (indent-aware-write k (abs s b l))) (escape-is s b l j)
+    (draws-fed s b l y page′ texts′ ready (escaped (not (x .«disable_escape»)) j) (wrote-by x y u page′ texts′ (fed indent (escaped (not (x .«disable_escape»)) j) (outputs (x .writer) page texts)) (M .at ent t st) hy))
+
 -- c is the context with the writer w in front of the element at p
 module _ (s b : Bytes) (o : Options) (d p : ℕ) (c : RenderContext) (w : Writer) (page texts indent : Bytes) (ent : List ℕ) (r : Ready s b (world (kept c w 0) page texts indent ent)) where
   abbrev before : World
@@ -172,18 +183,6 @@ module _ (s b : Bytes) (o : Options) (d p : ℕ) (c : RenderContext) (w : Writer
         by true k = outside (off k) k w 0 page texts (expression-nothing s b o (over inside before) ready call (P .before) a E h)
         by false k = drawn before (expression-nothing s b o before r call (P .before) a E h) k
 
-    -- v is printed in the context x, which has the writer w
-    prints : (x y : RenderContext) (v : Value) (u : Writer) (page′ texts′ : Bytes) → x .writer ≡ w → y ≡ wrote x u
-        → Means s b v (λ j. outputs u page′ texts′ ≡ fed indent (escaped (not (x .«disable_escape»)) (render j)) (outputs w page texts))
-        → (ent′ : List ℕ) (t : ℕ) → Stands s b ent′ t v → Ready s b (world x page texts indent ent′)
-        → Draws s b (world x page texts indent ent′) (world y page′ texts′ indent ent′) (indent-aware-write (do-escape (abs s b (world x page texts indent ent′)) (render (json-of s b ent′ v))) (abs s b (world x page texts indent ent′)))
-    prints x y v u page′ texts′ hw hy M ent′ t st ready′ =
-        let l = world x page texts indent ent′ in
-        let j = render (json-of s b ent′ v) in
-        let z = M .at ent′ t st ∙ ap (λ (k : Writer). fed indent (escaped (not (x .«disable_escape»)) j) (outputs k page texts)) (sym hw) in
-        subst (λ (k : Bytes). Draws s b l (world y page′ texts′ indent ent′) (indent-aware-write k (abs s b l))) (escape-is s b l j)
-        (draws-fed s b l y page′ texts′ ready′ (escaped (not (x .«disable_escape»)) j) (wrote-by x y u page′ texts′ (fed indent (escaped (not (x .«disable_escape»)) j) (outputs (x .writer) page texts)) z hy))
-
     inside-wrote : (u : Writer) → with-escape (kept c u (full-number u)) true ≡ wrote inside u
     inside-wrote u = ap (λ (k : RenderContext). with-escape k true) (kept-wrote c w u) ∙ by (u .full)
       where
@@ -200,10 +199,10 @@ module _ (s b : Bytes) (o : Options) (d p : ℕ) (c : RenderContext) (w : Writer
             → OneDrawn s b o d p before (world (kept c u (full-number u)) page′ texts′ indent ent) (e + 9)
         by true k M =
             outside (off k) k u (full-number u) page′ texts′
-            (expression-written s b o (over inside before) ready call (P .before) a E v h (with-escape (kept c u (full-number u)) true) page′ texts′ (prints inside (with-escape (kept c u (full-number u)) true) v u page′ texts′ refl (inside-wrote u) M))
+            (expression-written s b o (over inside before) ready call (P .before) a E v h (with-escape (kept c u (full-number u)) true) page′ texts′ (value-prints s b page texts indent inside (with-escape (kept c u (full-number u)) true) v u page′ texts′ (inside-wrote u) M))
         by false k M =
             drawn (world (kept c u (full-number u)) page′ texts′ indent ent)
-            (expression-written s b o before r call (P .before) a E v h (kept c u (full-number u)) page′ texts′ (prints (kept c w 0) (kept c u (full-number u)) v u page′ texts′ refl (kept-wrote c w u) M)) k
+            (expression-written s b o before r call (P .before) a E v h (kept c u (full-number u)) page′ texts′ (value-prints s b page texts indent (kept c w 0) (kept c u (full-number u)) v u page′ texts′ (kept-wrote c w u) M)) k
 
 -- Elements one after the other
 

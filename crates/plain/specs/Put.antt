@@ -1,21 +1,23 @@
 -- What a text that is stored at once leaves to the loop: to move its writer on.
 use Prim.Native.Nat.{ℕ, _+_, _-_, _/_, _%_, _^_, _<_}
-use mathlib.Core.Bool.{Bool, true, false, _||_}
+use mathlib.Core.Bool.{Bool, true, false, _&&_, _||_}
 use mathlib.Core.Logic.{inl, inr}
 use mathlib.Core.Path.{_≡_, refl, sym, ap, _∙_}
-use lib.Dec.{eqb}
+use lib.Dec.{eqb, ltb}
+use lib.ListN.{length, take, drop}
 use borrow.Author.Tests.{eqb-true}
-use Rattle.rules.specs.Bytes.{Bytes}
+use Rattle.rules.specs.Bytes.{Bytes, pick}
 use Rattle.rules.specs.Value.{render}
 use Rattle.output.specs.declared.Writer.{Writer}
 use Rattle.output.specs.Writer.{place-of}
 use Rattle.output.specs.Outputs.{outputs}
 use Rattle.support.specs.Feed.{escaped, fed}
-use Rattle.direct.specs.Direct.{behind}
+use Rattle.direct.specs.Direct.{behind, set-bytes}
 use Rattle.value.specs.declared.Value.{Value}
 use Rattle.value.specs.Numbers.{decoded}
 use Rattle.context.specs.Numbers.{context-number, place-number}
-use Rattle.print.specs.Span.{InPlan}
+use Rattle.print.specs.declared.Span.{Span}
+use Rattle.print.specs.Span.{calm-of, InPlan}
 use Rattle.meaning.specs.Forms.{Known}
 use Rattle.meaning.specs.Means.{Means, means-so}
 
@@ -33,6 +35,7 @@ pub record Put (v : Bytes) (w : Writer) (page texts page′ texts′ : Bytes) (r
 -- escaping changes nothing of it
 pub record PutPlain (v : Bytes) (w : Writer) (page texts page′ texts′ : Bytes) (r : ℕ) : Type 0 where
   pub put : Put v w page texts page′ texts′ r (r / 256) (r % 256)
+  pub told : r ≡ set-bytes w (pick (w .«block_text») (length texts) (length page)) v
   pub same : (r ≡ 0 → ⊥) → escaped true v ≡ v
 
 -- what a value prints
@@ -41,9 +44,27 @@ pub record Printed (s : Bytes) (v : Value) (w : Writer) (page texts page′ text
   pub fits : place-of w + n < 2 ^ 64
   pub is : (b : Bytes) → Known s b v → (i : Bytes) (e : Bool) → Means s b v (λ j. outputs (behind n c w) page′ texts′ ≡ fed i (escaped e (render j)) (outputs w page texts))
 
-pub record PutValue (s : Bytes) (v : Value) (w : Writer) (page texts page′ texts′ : Bytes) (r : ℕ) : Type 0 where
+-- bytes of the plan, where there are some, in a page or block texts of so many bytes
+abbrev pub span-put : Bytes → Writer → ℕ → ℕ → Span → ℕ
+span-put s w page texts p = pick (ltb (p .start) (p .end)) (set-bytes w (pick (w .«block_text») texts page) (take (p .end - p .start) (drop (p .start) s))) 0
+
+-- what the value with the number n prints, if it is a place of the plan, stands there so and needs no escaping, and no indent is due
+abbrev pub number-put : Bytes → Writer → ℕ → ℕ → ℕ → ℕ
+number-put s w page texts n =
+    pick (w .«has_indent» && w .«indent_before_write») 0 (pick (eqb (n % 16) 5 || eqb (n % 16) 6) (span-put s w page texts (calm-of s (n / 16))) 0)
+
+pub record PutNumber (s : Bytes) (n : ℕ) (w : Writer) (page texts page′ texts′ : Bytes) (r : ℕ) : Type 0 where
+  pub told : r ≡ number-put s w (length page) (length texts) n
   pub none : r ≡ 0 → (page′ ≡ page) × (texts′ ≡ texts)
-  pub some : (r ≡ 0 → ⊥) → Printed s v w page texts page′ texts′ (r / 256) (r % 256)
+  pub some : (r ≡ 0 → ⊥) → Printed s (decoded n) w page texts page′ texts′ (r / 256) (r % 256)
+
+-- told apart by three tests
+pub number-by : (s : Bytes) (w : Writer) (page texts n : ℕ) (p : Span) → p ≡ calm-of s (n / 16) → (i j k : Bool) → (w .«has_indent» && w .«indent_before_write») ≡ i → (eqb (n % 16) 5 || eqb (n % 16) 6) ≡ j
+    → ltb (p .start) (p .end) ≡ k
+    → number-put s w page texts n ≡ pick i 0 (pick j (pick k (set-bytes w (pick (w .«block_text») texts page) (take (p .end - p .start) (drop (p .start) s))) 0) 0)
+number-by s w page texts n p hp i j k e f g =
+    ap (λ (z : Span). pick (w .«has_indent» && w .«indent_before_write») 0 (pick (eqb (n % 16) 5 || eqb (n % 16) 6) (span-put s w page texts z) 0)) (sym hp)
+    ∙ rw (e, f, g)
 
 pub either-escaped : (e : Bool) (v : Bytes) → escaped true v ≡ v → escaped e v ≡ v
 either-escaped true v h = h

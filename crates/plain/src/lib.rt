@@ -21,7 +21,7 @@ ghost use Rattle.meaning.specs.Forms.{Known};
 ghost use Rattle.state.specs.Context.{whole};
 ghost use Rattle.state.specs.World.{world, Ready};
 ghost use Rattle.plain.specs.Plain.{kept, full-number, PlainIs, run-of};
-ghost use Rattle.plain.specs.Put.{Put, PutPlain, PutValue};
+ghost use Rattle.plain.specs.Put.{Put, PutPlain, PutNumber};
 ghost use Rattle.plain.specs.Plain as plain;
 use expand::Options;
 use output::Writer;
@@ -128,9 +128,16 @@ fn put_bytes(page: &mut [u8], texts: &mut [u8], w: Writer, v: &[u8]) -> usize
 }
 
 // What a value prints that stands in the plan so and needs no escaping, where no indent is due: n is the value's number.
-fn put_number(page: &mut [u8], texts: &mut [u8], w: Writer, s: &[u8], tab: &[u64], n: u32) -> usize
+pub fn put_number(
+    page: &mut [u8],
+    texts: &mut [u8],
+    w: Writer,
+    s: &[u8],
+    tab: &[u64],
+    n: u32,
+) -> usize
     requires { ⌜ Accepted (now s) (now tab) × ((b : Bytes) × Known (now s) b (decoded n)) ⌝ }
-    ensures { λ r. ⌜ PutValue (now (s .entry)) (decoded n) w (now (page .entry)) (now (texts .entry)) (now (page .exit)) (now (texts .exit)) r ⌝ }
+    ensures { λ r. ⌜ PutNumber (now (s .entry)) n w (now (page .entry)) (now (texts .entry)) (now (page .exit)) (now (texts .exit)) r ⌝ }
 {
     if w.has_indent & w.indent_before_write {
         return 0;

@@ -4,7 +4,7 @@ use mathlib.Core.Bool.{Bool, true, false}
 use mathlib.Core.Path.{_≡_, refl, sym, ap, _∙_}
 use native.Mathlib.Omega.{arith}
 use lib.ListN.{length, take, drop, length-take, length-drop}
-use Rattle.rules.specs.Bytes.{Bytes}
+use Rattle.rules.specs.Bytes.{Bytes, pick}
 use Rattle.rules.specs.Bits.{bits}
 use Rattle.rules.specs.BundleLaws.{bits-binary}
 use Rattle.rules.specs.Value.{render}
@@ -12,7 +12,7 @@ use Rattle.output.specs.Writer.{place-of}
 use Rattle.output.specs.Outputs.{outputs}
 use Rattle.output.proofs.Outputs.{on-texts, on-page}
 use Rattle.support.specs.Feed.{escaped, fed}
-use Rattle.direct.specs.Direct.{behind, written-text, plain-means, none-set, bytes-set}
+use Rattle.direct.specs.Direct.{behind, set-bytes, written-text, plain-means, none-set, bytes-set}
 use borrow.Author.Needs.{needs}
 use Rattle.plain.proofs.put_bytes.Statement.{statement}
 use Rattle.plain.proofs.put_bytes.Tie as tie
@@ -42,6 +42,7 @@ returns c = let s = (c .before .before .before .before .before .before .before .
           is = λ i. on-texts (written-text i v) (a .w) (behind (g .result / 256) (g .result % 256) (a .w)) (a .page .now) (a .texts .now) (g .last .0) ((c .before .before .before .before) .if1 .taken) (k .is i);
         };
       };
+      told = g .ensures .0 ∙ ap (λ (y : Bool). set-bytes (a .w) (pick y (length (a .texts .now)) (length (a .page .now))) v) (sym ((c .before .before .before .before) .if1 .taken));
       same = λ _. d .1;
     }
 
@@ -67,6 +68,7 @@ returns-2 c = let s = (c .before .before .before .before .before .before .before
           is = λ i. on-page (written-text i v) (a .w) (behind (g .result / 256) (g .result % 256) (a .w)) (a .page .now) (a .texts .now) (g .last .0) ((c .before .before .before .before) .if1 .left) (k .is i);
         };
       };
+      told = g .ensures .0 ∙ ap (λ (y : Bool). set-bytes (a .w) (pick y (length (a .texts .now)) (length (a .page .now))) v) (sym ((c .before .before .before .before) .if1 .left));
       same = λ _. d .1;
     }
 

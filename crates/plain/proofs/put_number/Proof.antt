@@ -4,7 +4,7 @@ use mathlib.Core.Bool.{Bool, true, false}
 use mathlib.Core.Path.{_≡_, refl, sym, ap, _∙_}
 use native.Mathlib.Omega.{arith}
 use lib.ListN.{length, take, drop, length-take, length-drop}
-use borrow.Author.Tests.{eq-eqb}
+use borrow.Author.Tests.{eq-eqb, lt-ltb, le-ltb}
 use Rattle.rules.specs.Bytes.{Bytes, run}
 use Rattle.rules.specs.Value.{render}
 use Rattle.output.specs.Outputs.{outputs}
@@ -14,8 +14,9 @@ use Rattle.print.proofs.Spans.{plan-within, plan-span, span-within, span-means}
 use Rattle.support.specs.Runs.{quiet-byte}
 use Rattle.print.proofs.Calm.{calm-is, calm-means}
 use Rattle.value.specs.Numbers.{decoded}
+use Rattle.print.specs.Span.{calm-of}
 use Rattle.direct.specs.Direct.{behind}
-use Rattle.plain.specs.Put.{either-escaped, number-place}
+use Rattle.plain.specs.Put.{either-escaped, number-place, number-by}
 use borrow.Author.Needs.{needs}
 use Rattle.plain.proofs.put_number.Statement.{statement}
 use Rattle.plain.proofs.put_number.Tie as tie
@@ -25,7 +26,9 @@ use Rattle.plain.proofs.put_bytes.Reads as put-bytes-reads
 use Rattle.print.proofs.calm_place.Reads as calm-place-reads
 
 returns : tie.Need-returns
-returns c = record { none = λ _. (refl, refl); some = λ z. absurd (z refl) }
+returns c =
+    let a = c .before .before .before .before .before .before .args in
+    record { told = sym (number-by (a .s .now) (a .w) (length (a .page .now)) (length (a .texts .now)) (a .n) (calm-of (a .s .now) (a .n / 16)) refl true _ _ (c .if1 .taken) refl refl); none = λ _. (refl, refl); some = λ z. absurd (z refl) }
 
 cast-calm-place : tie.Need-cast-calm-place
 cast-calm-place c = search needs
@@ -66,6 +69,7 @@ returns-2 c = let s = c .before .before .before .before .before .before .before 
     let f = c .before .before .before .before .put-bytes in
     let v : Bytes = take (p .result .end - p .result .start) (drop (p .result .start) (a .s .now)) in
     record {
+      told = f .ensures .told ∙ sym (number-by (a .s .now) (a .w) (length (a .page .now)) (length (a .texts .now)) (a .n) (p .result) (p .ensures) false true true (c .before .before .before .before .before .before .before .before .before .before .before .if1 .left) (c .before .before .before .before .before .before .before .before .before .before .if2 .taken) (lt-ltb _ _ lt));
       none = f .ensures .put .none;
       some = λ z. let q = f .ensures .put .some z in record {
         byte = q .byte;
@@ -77,10 +81,15 @@ returns-2 c = let s = c .before .before .before .before .before .before .before 
     }
 
 returns-3 : tie.Need-returns-3
-returns-3 c = record { none = λ _. (refl, refl); some = λ z. absurd (z refl) }
+returns-3 c =
+    let a = c .before .before .before .before .before .before .before .before .before .args in
+    let p = c .before .calm-place in
+    record { told = sym (number-by (a .s .now) (a .w) (length (a .page .now)) (length (a .texts .now)) (a .n) (p .result) (p .ensures) false true false (c .before .before .before .if1 .left) (c .before .before .if2 .taken) (le-ltb _ _ (c .if3 .left))); none = λ _. (refl, refl); some = λ z. absurd (z refl) }
 
 returns-4 : tie.Need-returns-4
-returns-4 c = record { none = λ _. (refl, refl); some = λ z. absurd (z refl) }
+returns-4 c =
+    let a = c .before .before .before .before .before .before .before .args in
+    record { told = sym (number-by (a .s .now) (a .w) (length (a .page .now)) (length (a .texts .now)) (a .n) (calm-of (a .s .now) (a .n / 16)) refl false false _ (c .before .if1 .left) (c .if2 .left) refl); none = λ _. (refl, refl); some = λ z. absurd (z refl) }
 
 pub put-number-spec : {M : Type 1} → statement M
 put-number-spec =
