@@ -17,14 +17,16 @@ use Rattle.expand.specs.declared.Options.{Options}
 use Rattle.helpers.specs.declared.Does.{Does}
 use Rattle.helpers.specs.declared.Does.the-variants as does
 use Rattle.state.specs.Context.{RenderContext}
-use Rattle.state.specs.Setters.{with-writer, with-template, with-marks, marked, settled}
+use Rattle.state.specs.Setters.{with-writer, with-template, marked, settled}
 use Rattle.state.specs.World.{World}
 use Rattle.drawing.specs.Parts.{before-helper}
 use Rattle.helping.specs.Decided.{Decided}
 use Rattle.plain.specs.Plain.{OneDrawn}
 use Rattle.branches.specs.declared.Texts.{Texts}
-use Rattle.branches.specs.declared.Drawn.{Drawn}
-use Rattle.branches.specs.Short.{body-of}
+use Rattle.lookups.specs.declared.Drawn.{Drawn}
+use Rattle.lookups.specs.Drawn.{drawn-of, behind, marks-in}
+use Rattle.lookups.specs.Looked.{coded, lookup-view, LookupDrawn}
+use Rattle.branches.specs.Short.{body-of, block-view}
 
 -- a helper draws one of its bodies
 abbrev pub is-branch : Does → Bool
@@ -45,17 +47,6 @@ chosen does.Inverse t i = i
 chosen (does.Within v) t i = 0
 chosen (does.Turns v) t i = 0
 chosen (does.Write v) t i = 0
-
-abbrev pub drawn-of : Writer → ℕ → ℕ → Drawn
-drawn-of w t z = record { writer = w; template = t; next = z }
-
--- the context behind
-abbrev pub behind : RenderContext → Drawn → RenderContext
-behind c r = with-template (with-writer c (r .writer)) (r .template)
-
--- the writer with the marks in front of the helper
-abbrev pub marks-in : Writer → Bool → Writer
-marks-in w before = with-marks w false (before-helper w before)
 
 -- the text of the body at t is stored at once, in a page and block texts of so many bytes; at 0 there is none
 abbrev pub stored : Bits → Writer → ℕ → ℕ → ℕ → Bool
@@ -86,5 +77,12 @@ pub record BlockDrawn (s b : Bytes) (o : Options) (d p : ℕ) (x : Texts) (l l�
   pub act : Does
   pub decided : (x .next ≡ 0 → ⊥) → Decided s b (l .ent) o (l .rc) d (p + 16 + 16 + 4) (At (x .template)) (body-of (x .inverse)) act
   pub told : next ≡ block-next (bits b) l act x
+  pub drawn : (next ≡ 0 → ⊥) → OneDrawn s b o d p l l′ next
+  pub left : next ≡ 0 → l′ ≡ l
+
+-- the element at p is drawn as such a block or as a lookup, and l′ is left, or nothing is
+pub record ElementDrawn (s b : Bytes) (o : Options) (d p : ℕ) (l l′ : World) (next : ℕ) : Type 0 where
+  pub block : ((html : Bool) → field (bits b) 22 (p + 16 + 16) ≡ coded html → ⊥) → BlockDrawn s b o d p (block-view (bits b) (p + 16 + 16)) l l′ next
+  pub lookup : (html : Bool) → field (bits b) 22 (p + 16 + 16) ≡ coded html → LookupDrawn s b o d p html (lookup-view (bits b) (p + 16 + 16)) l l′ next
   pub drawn : (next ≡ 0 → ⊥) → OneDrawn s b o d p l l′ next
   pub left : next ≡ 0 → l′ ≡ l

@@ -50,18 +50,14 @@ use Rattle.helping.specs.Laws.{begun-template, begun-inverse}
 use Rattle.plain.specs.Plain.{kept, full-number, OneDrawn}
 use Rattle.plain.specs.Laws.{kept-same, full-none, text-drawn}
 use Rattle.branches.specs.declared.Texts.{Texts}
-use Rattle.branches.specs.declared.Drawn.{Drawn}
+use Rattle.lookups.specs.declared.Drawn.{Drawn}
+use Rattle.lookups.specs.Drawn.{drawn-of, behind, marks-in}
+use Rattle.lookups.specs.Looked.{coded, lookup-view, LookupDrawn}
 use Rattle.branches.specs.Short.{short-body, no-texts, body-of, texts-view, block-view, TextsAre}
-use Rattle.branches.specs.Drawn.{is-branch, chosen, drawn-of, behind, marks-in, stored, Written, Put, block-next, BlockDrawn}
+use Rattle.branches.specs.Drawn.{is-branch, chosen, stored, Written, Put, block-next, BlockDrawn, ElementDrawn}
 use Rattle.branches.specs.Reading.{ShortIs, short-is, only-text}
 
 -- `put_text`
-
--- the context behind, where what is handed back is that of z
-pub behind-as : (c S : RenderContext) (z : code.RenderContext) (l : List ℕ) (next : ℕ) (r : Drawn) → r ≡ drawn-of (z .writer) (z .template) next → whole z l ≡ S
-    → behind c r ≡ with-template (with-writer c (S .writer)) (S .template)
-behind-as c S z l next r e h =
-    ap (behind c) e ∙ ap₂ (λ (w : Writer) (t : ℕ). with-template (with-writer c w) t) (ap (λ (x : RenderContext). x .writer) h) (ap (λ (x : RenderContext). x .template) h)
 
 -- a text that is taken does not fill the output
 pub pen-fits : (w u : Writer) (page texts page′ texts′ v : Bytes) → takes w (pick (w .«block_text») (length texts) (length page)) (length v) ≡ true → calm (w .«has_indent») v ≡ true
@@ -338,3 +334,27 @@ pub view-other : (b : Bits) (p : ℕ) → (field b 22 p ≡ 786434 → ⊥) → 
 view-other b p n m =
     sym (ap (λ (y : Bool). pick y (texts-view b p 2) (pick (eqb (field b 22 p) 786438) (texts-view b p 6) no-texts)) (ne-eqb (field b 22 p) 786434 n)
     ∙ ap (λ (y : Bool). pick y (texts-view b p 6) no-texts) (ne-eqb (field b 22 p) 786438 m))
+
+-- The element by its kind and its name's count
+
+-- none of the two of a lookup
+abbrev pub NotLookup : Bits → ℕ → Type 0
+NotLookup b q = (html : Bool) → field b 22 q ≡ coded html → ⊥
+
+pub not-lookup : (b : Bits) (q : ℕ) → (field b 22 q ≡ 524294 → ⊥) → (field b 22 q ≡ 262150 → ⊥) → NotLookup b q
+not-lookup b q f g true e = g e
+not-lookup b q f g false e = f e
+
+pub block-drawn : (s b : Bytes) (o : Options) (d p : ℕ) (l l′ : World) (next : ℕ) → NotLookup (bits b) (p + 16 + 16) → BlockDrawn s b o d p (block-view (bits b) (p + 16 + 16)) l l′ next → ElementDrawn s b o d p l l′ next
+block-drawn s b o d p l l′ next n B = record { block = λ _. B; lookup = λ html e. absurd (n html e); drawn = B .drawn; left = B .left }
+
+pub lookup-drawn : (s b : Bytes) (o : Options) (d p : ℕ) (l l′ : World) (next : ℕ) (html : Bool) → field (bits b) 22 (p + 16 + 16) ≡ coded html
+    → LookupDrawn s b o d p html (lookup-view (bits b) (p + 16 + 16)) l l′ next → ElementDrawn s b o d p l l′ next
+lookup-drawn s b o d p l l′ next html e L = record { block = λ n. absurd (n html e); lookup = λ h f. by html h e f L; drawn = L .drawn; left = L .left }
+  where
+    by : (i j : Bool) → field (bits b) 22 (p + 16 + 16) ≡ coded i → field (bits b) 22 (p + 16 + 16) ≡ coded j → LookupDrawn s b o d p i (lookup-view (bits b) (p + 16 + 16)) l l′ next
+        → LookupDrawn s b o d p j (lookup-view (bits b) (p + 16 + 16)) l l′ next
+    by true true e f L = L
+    by true false e f L = absurd (omega (arith, e, f))
+    by false true e f L = absurd (omega (arith, e, f))
+    by false false e f L = L

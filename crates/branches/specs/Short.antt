@@ -50,8 +50,9 @@ texts-view b p n =
 abbrev pub block-view : Bits → ℕ → Texts
 block-view b p = pick (eqb (field b 22 p) 786434) (texts-view b p 2) (pick (eqb (field b 22 p) 786438) (texts-view b p 6) no-texts)
 
+-- a block, or an expression that has a name with as many bytes as `lookup`, escaped or not
 abbrev pub is-block : Bits → ℕ → Bool
-is-block b p = pick (eqb (field b 22 p) 786434) true (eqb (field b 22 p) 786438)
+is-block b p = pick (eqb (field b 22 p) 786434) true (pick (eqb (field b 22 p) 786438) true (pick (eqb (field b 22 p) 524294) true (eqb (field b 22 p) 262150)))
 
 -- what is read is so, and its parts stand
 pub record TextsAre (d : ℕ) (b : Bits) (p : ℕ) (x : Texts) : Type 0 where

@@ -1,5 +1,5 @@
 // helpers/helper_if.rs and render.rs: blocks of `if` and `unless` over one path whose bodies are short texts. Most blocks inside a line are such, and only
-// the writer and the template's name change by one, so nothing else goes through memory.
+// the writer and the template's name change by one, so nothing else goes through memory. Lookups with a string are drawn so too, by `lookups`.
 // s is the plan with its places tab, b the bundle; ent holds the entries of open partials; d is the number of depths left for what stands in an element.
 ghost use mathlib.Core.Bool.{true};
 ghost use mathlib.Core.Path.{_≡_};
@@ -19,10 +19,12 @@ ghost use Rattle.template.specs.Views.{in-body};
 ghost use Rattle.places.specs.Accepted.{Accepted};
 ghost use Rattle.state.specs.Context.{whole};
 ghost use Rattle.state.specs.World.{world, Ready};
-ghost use Rattle.branches.specs.Short.{short-body, texts-of, no-texts, body-of, texts-view, block-view, is-block, TextsIs};
-ghost use Rattle.branches.specs.Drawn.{is-branch, chosen, drawn-of, behind, Put, BlockDrawn};
+ghost use Rattle.branches.specs.Short.{short-body, texts-of, no-texts, body-of, texts-view, is-block, TextsIs};
+ghost use Rattle.lookups.specs.Drawn.{behind};
+ghost use Rattle.branches.specs.Drawn.{is-branch, chosen, Put, BlockDrawn, ElementDrawn};
 use expand::Options;
 use helpers::Does;
+use lookups::Drawn;
 use output::Writer;
 use parts::Maybe;
 use state::RenderContext;
@@ -105,24 +107,6 @@ fn texts_at(b: &[u8], p: usize, n: usize, d: usize) -> Texts
     texts_of(v, t, i, bits::field(b, f, 1) == 1, f + 1)
 }
 
-// What a block leaves: the writer, the template's name and the place behind it, 0 where nothing was drawn.
-pub struct Drawn {
-    pub writer: Writer,
-    pub template: usize,
-    pub next: usize,
-}
-
-fn handed(rc: RenderContext, next: usize) -> Drawn
-    ensures { λ r. ⌜ r ≡ drawn-of (rc .writer) (rc .template) next ⌝ }
-{
-    let writer = rc.writer;
-    Drawn {
-        writer,
-        template: rc.template,
-        next,
-    }
-}
-
 // Whether the first n bytes of a word are a text that is stored at once, in a page or block texts of so many bytes.
 fn is_short(w: Writer, page: usize, texts: usize, n: usize, x: u64) -> bool
     ensures { λ r. ⌜ r ≡ takes-short w (pick (w .«block_text») texts page) n x ⌝ }
@@ -160,7 +144,7 @@ fn put_text(
     let marks = rc.writer;
     let q = helping::begin_helper(rc, before);
     if t == 0 {
-        return handed(state::settle(q, marks), next);
+        return lookups::handed(state::settle(q, marks), next);
     }
     let n = bits::field(b, t + 44, 20) as usize;
     let x = bits::field(b, t + 64, 56);
@@ -168,9 +152,9 @@ fn put_text(
     if is_short(w, page.len(), texts.len(), n, x) {
         let u = put_short(page, texts, w, n, x);
         let v = state::set_writer(state::set_current_template_name(q, 0), u);
-        return handed(state::settle(v, marks), next);
+        return lookups::handed(state::settle(v, marks), next);
     }
-    handed(rc, 0)
+    lookups::handed(rc, 0)
 }
 
 // Whether a helper draws one of its bodies, and which: 0 where that is not there.
@@ -234,31 +218,37 @@ fn draw_texts(
     let q = p + 16 + 16;
     let x = texts_at(b, q, n, d);
     if x.next == 0 {
-        return handed(rc, 0);
+        return lookups::handed(rc, 0);
     }
     let template = Maybe::At(x.template);
     let inverse = maybe(x.inverse);
     let does = helping::decide(s, tab, b, ent, sc, options, q + 4, template, inverse, d, rc);
     if !is_branch(does) {
-        return handed(rc, 0);
+        return lookups::handed(rc, 0);
     }
     let t = chosen(does, x.template, x.inverse);
     put_text(page, texts, b, t, x.before, x.next, rc)
 }
 
-// Whether the element at p may be such a block. (To ask first keeps what the others pay small.)
+// Whether the element at p may be such a block, or a lookup. (To ask first keeps what the others pay small.)
 pub fn is_block(b: &[u8], p: usize) -> bool
     requires { ⌜ p ≤ 524288 ⌝ }
     ensures { λ r. ⌜ r ≡ is-block (bits (now (b .entry))) (p + 16 + 16) ⌝ }
 {
-    let x = bits::field(b, p + 16 + 16, 22);
-    if x == 786434 {
+    let k = bits::field(b, p + 16 + 16, 22);
+    if k == 786434 {
         return true;
     }
-    x == 786438
+    if k == 786438 {
+        return true;
+    }
+    if k == 524294 {
+        return true;
+    }
+    k == 262150
 }
 
-// The element at p, if it is a block of `if` or `unless` over one path whose bodies are short texts, and the text is stored at once.
+// The element at p, if it is a block of `if` or `unless` over one path whose bodies are short texts, or a lookup with a string, and the text is stored at once.
 pub fn draw_block(
     s: &[u8],
     tab: &[u64],
@@ -274,9 +264,9 @@ pub fn draw_block(
     rc: RenderContext,
 ) -> Drawn
     requires { ⌜ Accepted (now s) (now tab) × (length (now b) ≤ 65536) × Ready (now s) (now b) (world (whole rc (now sc)) (now page) (now texts) (now indent) (now ent)) × Holds (in-body 16 d) (bits (now b)) p × (length (now sc) ≡ 96) ⌝ }
-    ensures { λ r. ⌜ BlockDrawn (now (s .entry)) (now (b .entry)) options d p (block-view (bits (now (b .entry))) (p + 16 + 16)) (world (whole rc (now (sc .entry))) (now (page .entry)) (now (texts .entry)) (now (indent .entry)) (now (ent .entry))) (world (behind (whole rc (now (sc .entry))) r) (now (page .exit)) (now (texts .exit)) (now (indent .entry)) (now (ent .entry))) (r .next) ⌝ }
+    ensures { λ r. ⌜ ElementDrawn (now (s .entry)) (now (b .entry)) options d p (world (whole rc (now (sc .entry))) (now (page .entry)) (now (texts .entry)) (now (indent .entry)) (now (ent .entry))) (world (behind (whole rc (now (sc .entry))) r) (now (page .exit)) (now (texts .exit)) (now (indent .entry)) (now (ent .entry))) (r .next) ⌝ }
 {
-    // the element's kind, the kind of its name, and the count of the name's string: that of `if` or that of `unless`
+    // the element's kind, the kind of its name, and the count of the name's string: that of `if`, of `unless` or of `lookup`
     let x = bits::field(b, p + 16 + 16, 22);
     if x == 786434 {
         return draw_texts(
@@ -312,5 +302,12 @@ pub fn draw_block(
             rc,
         );
     }
-    handed(rc, 0)
+    // (two calls, so that the compiler does not make it a part of this function)
+    if x == 524294 {
+        return lookups::draw_lookup(s, tab, b, ent, page, texts, sc, options, p, d, false, rc);
+    }
+    if x == 262150 {
+        return lookups::draw_lookup(s, tab, b, ent, page, texts, sc, options, p, d, true, rc);
+    }
+    lookups::handed(rc, 0)
 }

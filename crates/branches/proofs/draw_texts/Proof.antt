@@ -1,5 +1,6 @@
 use Rattle.branches.specs.Laws.{block-other, block-unlike, block-put, chosen-fits}
-use Rattle.branches.specs.Drawn.{behind, Put, BlockDrawn}
+use Rattle.branches.specs.Drawn.{Put, BlockDrawn}
+use Rattle.lookups.specs.Drawn.{behind}
 use Rattle.helping.specs.Decided.{Decided}
 use Rattle.state.specs.World.{world}
 use Rattle.template.specs.Bodies.{placed-fits, placed-holds}
@@ -7,7 +8,7 @@ use Rattle.parts.specs.declared.Maybe.the-variants.{At}
 use Rattle.parts.specs.declared.Maybe.{Maybe}
 use borrow.Author.Tests.{not-true, not-false}
 use Rattle.rules.specs.Bundle.{param, call-of, body}
-use Rattle.branches.specs.declared.Drawn.{Drawn}
+use Rattle.lookups.specs.declared.Drawn.{Drawn}
 use Rattle.branches.specs.declared.Texts.{Texts}
 use Rattle.state.specs.Setters.{with-writer, with-template, marked, settled}
 use Rattle.state.specs.Context.{RenderContext, whole}
@@ -25,7 +26,7 @@ use Rattle.branches.proofs.draw_texts.Tie as tie
 use Rattle.branches.proofs.draw_texts.Reads as reads
 use Rattle.branches.proofs.draw_texts.Lts as lts
 use Rattle.branches.proofs.chosen.Reads as chosen-reads
-use Rattle.branches.proofs.handed.Reads as handed-reads
+use Rattle.lookups.proofs.handed.Reads as handed-reads
 use Rattle.branches.proofs.is_branch.Reads as is-branch-reads
 use Rattle.branches.proofs.maybe.Reads as maybe-reads
 use Rattle.branches.proofs.put_text.Reads as put-text-reads

@@ -1,8 +1,9 @@
 use Rattle.rules.specs.Bytes.{pick}
-use Rattle.branches.specs.Laws.{behind-as, short-as, written-by, put-none, put-left, put-written}
+use Rattle.branches.specs.Laws.{short-as, written-by, put-none, put-left, put-written}
 use Rattle.direct.specs.Direct.{short-taken}
 use Rattle.drawing.specs.Parts.{before-helper}
-use Rattle.branches.specs.declared.Drawn.{Drawn}
+use Rattle.lookups.specs.Drawn.{behind-as}
+use Rattle.lookups.specs.declared.Drawn.{Drawn}
 use Rattle.branches.specs.declared.Texts.{Texts}
 use Rattle.state.specs.Setters.{with-writer, with-template, marked, settled}
 use Rattle.state.specs.Context.{RenderContext, whole}
@@ -20,7 +21,7 @@ use Rattle.branches.proofs.put_text.Tie as tie
 use Rattle.branches.proofs.put_text.Reads as reads
 use Rattle.branches.proofs.put_text.Lts as lts
 use Rattle.bits.proofs.field.Reads as field-reads
-use Rattle.branches.proofs.handed.Reads as handed-reads
+use Rattle.lookups.proofs.handed.Reads as handed-reads
 use Rattle.helping.proofs.begin_helper.Reads as begin-helper-reads
 use Rattle.state.proofs.set_current_template_name.Reads as set-current-template-name-reads
 use Rattle.state.proofs.set_writer.Reads as set-writer-reads

@@ -1,0 +1,4 @@
+pub mod Drawn
+pub mod Looked
+pub mod Reading
+pub mod Laws
