@@ -19,7 +19,6 @@ ghost use Rattle.rules.specs.HelperIf.{if-helper};
 ghost use Rattle.rules.specs.Helpers.{lookup-helper};
 ghost use Rattle.rules.specs.Render.{render-expression};
 ghost use Rattle.rules.specs.Layout.{field};
-ghost use Rattle.layout.specs.Text.{text-at};
 ghost use Rattle.parts.specs.Holds.{Holds, end};
 ghost use Rattle.calls.specs.Calls.{param-view, param-at, call-at};
 ghost use Rattle.places.specs.Accepted.{Accepted};
@@ -31,6 +30,7 @@ ghost use Rattle.scope.specs.Standing.{ScopesStand};
 ghost use Rattle.expand.specs.Answers.{Setting, ExpandedHeld};
 ghost use Rattle.helpers.specs.Does.{has, is-known, HelpingFirst, HelpingTruth, HelpingBoth, Decides, DecidesOne, DecidesTwo, Expresses, unless-strict, inverse, in-scope, branch, truth, is-collection, shown, rendered, shows-of};
 use calls::Parameter;
+use context::Evaluated;
 use expand::Expanded;
 use expand::Got;
 use expand::HelperDef;
@@ -388,17 +388,6 @@ fn is_helper(s: &[u8], tab: &[u64], b: &[u8], v: Value) -> bool
     known(expand::get_helper(s, tab, b, v))
 }
 
-// Whether the string at p is the name of a helper. Few are, and one number tells that of most.
-fn names_helper(b: &[u8], p: usize) -> bool
-    requires { ⌜ p ≤ 524288 ⌝ }
-    ensures { λ r. ⌜ r ≡ has (get-helper (text-at (bits (now (b .entry))) p)) ⌝ }
-{
-    if expand::may_name(b, p) {
-        return known(expand::helper_at(b, p));
-    }
-    false
-}
-
 // A missing value is nothing, or an error under strict.
 fn shown(strict: bool, v: Value) -> Shows
     ensures { λ r. ⌜ r ≡ shown strict v ⌝ }
@@ -438,8 +427,11 @@ pub fn bare_number(
     requires { ⌜ Accepted (now s) (now tab) × (length (now b) ≤ 65536) × (0 < used) × (used ≤ 32) × ((t : ℕ) × ScopesStand (now s) (now b) (now ent) (scopes-of (now sc)) used t) × Holds path (bits (now b)) q × (length (now sc) ≡ 96) ⌝ }
     ensures { λ r. ⌜ (r < 4294967552) × ((g : Registry) (st : RenderContext) (t d p : ℕ) (ibw : Bool) → Setting (now (s .entry)) (now (b .entry)) (now (ent .entry)) (scopes-of (now (sc .entry))) used options g st t → Holds (call-of (param d)) (bits (now (b .entry))) p → param-view (bits (now (b .entry))) p ≡ Parameter.Path q → field (bits (now (b .entry))) 8 (end path (bits (now (b .entry))) q) ≡ 0 → Expresses (now (s .entry)) (now (b .entry)) (now (ent .entry)) t g (call-at d (bits (now (b .entry))) p) ibw st (render-expression g (call-at d (bits (now (b .entry))) p) ibw st) (shows-of r)) ⌝ }
 {
-    if names_helper(b, q) {
-        return 0;
+    // few paths name a helper, and one number tells that of most
+    if expand::may_name(b, q) {
+        if known(expand::helper_at(b, q)) {
+            return 0;
+        }
     }
     let found = context::evaluate_number(s, tab, b, ent, sc, used, options.recursive_lookup, q);
     if found == 0 {
@@ -455,8 +447,9 @@ pub fn bare_number(
     255 + found
 }
 
-// The same as an enum.
-pub fn bare_path(
+// The same as an enum, for calls that are not a path alone at the first sight. (By itself, so that `bare_number` is called from one place only and becomes a part of
+// the loop over a body.)
+fn bare_path(
     s: &[u8],
     tab: &[u64],
     b: &[u8],
@@ -469,17 +462,14 @@ pub fn bare_path(
     requires { ⌜ Accepted (now s) (now tab) × (length (now b) ≤ 65536) × (0 < used) × (used ≤ 32) × ((t : ℕ) × ScopesStand (now s) (now b) (now ent) (scopes-of (now sc)) used t) × Holds path (bits (now b)) q × (length (now sc) ≡ 96) ⌝ }
     ensures { λ r. ⌜ ((g : Registry) (st : RenderContext) (t d p : ℕ) (ibw : Bool) → Setting (now (s .entry)) (now (b .entry)) (now (ent .entry)) (scopes-of (now (sc .entry))) used options g st t → Holds (call-of (param d)) (bits (now (b .entry))) p → param-view (bits (now (b .entry))) p ≡ Parameter.Path q → field (bits (now (b .entry))) 8 (end path (bits (now (b .entry))) q) ≡ 0 → Expresses (now (s .entry)) (now (b .entry)) (now (ent .entry)) t g (call-at d (bits (now (b .entry))) p) ibw st (render-expression g (call-at d (bits (now (b .entry))) p) ibw st) r) ⌝ }
 {
-    let r = bare_number(s, tab, b, ent, sc, used, options, q);
-    if r == 0 {
+    if known(expand::helper_at(b, q)) {
         return Shows::Helper;
     }
-    if r < 255 {
-        return Shows::Bad(r as u8);
+    let found = context::evaluate2(s, tab, b, ent, sc, used, options.recursive_lookup, q);
+    match found {
+        Evaluated::Is(v) => shown(options.strict, v),
+        Evaluated::BadIndex => Shows::Bad(20),
     }
-    if r == 255 {
-        return Shows::Nothing;
-    }
-    Shows::Value(value::decode((r - 256) as u32))
 }
 
 // What an expression does whose name is the path at q: with parameters or a hash it is a helper's.

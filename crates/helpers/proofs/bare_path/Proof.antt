@@ -1,64 +1,72 @@
 -- `helpers::bare_path` meets its contract.
 use native.Mathlib.Omega.{arith}
-use mathlib.Core.Path.{sym, ap, _∙_, subst}
+use mathlib.Core.Path.{refl, sym, _∙_, subst}
 use Rattle.rules.specs.Bits.{bits}
-use Rattle.rules.specs.Render.{render-expression}
-use Rattle.calls.specs.Calls.{call-at}
-use Rattle.helpers.specs.declared.Shows.the-variants.{Value}
-use Rattle.helpers.specs.Does.{Expresses, shows-of, shows-helper, shows-bad, shows-nothing, shows-value}
+use Rattle.rules.specs.BundleLaws.{bits-size}
+use Rattle.rules.specs.Error.{invalid-json-index}
+use Rattle.layout.specs.Text.{text-at}
+use Rattle.parts.specs.Parts.{path-raw}
+use Rattle.parts.specs.HoldsLaws.{string-in}
+use Rattle.context.specs.Evaluated.{Evaluates}
+use Rattle.expand.specs.declared.Got.the-variants.{Is, Bad}
+use Rattle.helpers.proofs.Expressing.{known-helper}
+use Rattle.helpers.proofs.Pathing.{path-helper, path-value}
 use borrow.Author.Needs.{needs}
 use Rattle.helpers.proofs.bare_path.Statement.{statement}
 use Rattle.helpers.proofs.bare_path.Tie as tie
 
-bare-number-requires : tie.Need-bare-number-requires
-bare-number-requires c κs = c .before .before .before .before .before .pre
+helper-at-requires : tie.Need-helper-at-requires
+helper-at-requires c κs =
+    let z = c .before .before .before .before .before in
+    omega (arith, z .pre .1, string-in (bits (z .args .b .now)) (z .args .q) (path-raw (bits (z .args .b .now)) (z .args .q) (z .pre .5)), bits-size (z .args .b .now))
+
+known-requires : tie.Need-known-requires
+known-requires c κs = search needs
 
 returns : tie.Need-returns
 returns c =
-    let a = c .before .before .before .before .before .before .before .args in
-    λ g st t d p ibw h H W Z. let x = call-at d (bits (a .b .now)) p in
-    subst (Expresses (a .s .now) (a .b .now) (a .ent .now) t g x ibw st (render-expression g x ibw st)) (ap shows-of (c .if1 .taken) ∙ shows-helper) (c .before .bare-number .ensures .1 g st t d p ibw h H W Z)
+    let a = c .before .before .before .before .before .before .before .before .args in
+    let k = sym (known-helper (text-at (bits (a .b .now)) (a .q)) (c .before .before .helper-at .result) (c .before .before .helper-at .ensures)) ∙ sym (c .before .known .ensures) ∙ c .if1 .taken in
+    λ g st t d p ibw h H W Z. path-helper (a .s .now) (a .b .now) (a .ent .now) t g st ibw d p (a .q) H W _ _ refl refl Z k
 
-cast-t11 : tie.Need-cast-t11
-cast-t11 c = omega (arith, c .if2 .taken)
+evaluate2-requires : tie.Need-evaluate2-requires
+evaluate2-requires c κs = search needs
+
+enum-known-found : tie.Need-enum-known-found
+enum-known-found c = search needs
+
+shown-requires : tie.Need-shown-requires
+shown-requires c κs = search needs
+
+enum-told : tie.Need-enum-told
+enum-told c = search needs
 
 returns-2 : tie.Need-returns-2
 returns-2 c =
-    let a = c .before .before .before .before .before .before .before .before .args in
-    λ g st t d p ibw h H W Z. let x = call-at d (bits (a .b .now)) p in
-    subst (Expresses (a .s .now) (a .b .now) (a .ent .now) t g x ibw st (render-expression g x ibw st)) (shows-bad (c .before .before .bare-number .result) (c .before .if1 .left) (c .if2 .taken)) (c .before .before .bare-number .ensures .1 g st t d p ibw h H W Z)
+    let a = c .before .before .before .before .before .before .before .before .before .before .before .before .before .args in
+    let k = sym (known-helper (text-at (bits (a .b .now)) (a .q)) (c .before .before .before .before .before .before .before .helper-at .result) (c .before .before .before .before .before .before .before .helper-at .ensures)) ∙ sym (c .before .before .before .before .before .before .known .ensures) ∙ c .before .before .before .before .before .if1 .left in
+    λ g st t d p ibw h H W Z.
+    let e = subst (Evaluates (a .s .now) (a .b .now) (a .ent .now) t _) (c .before .before .found .given .1) (c .before .before .before .before .evaluate2 .ensures g st t (h .plan) (h .recursive) (h .open-scopes) (h .stand)) in
+    path-value (a .s .now) (a .b .now) (a .ent .now) t g st ibw d p (a .q) H W _ _ refl refl Z (a .options .strict) (h .alike .strict) k (Is (c .before .before .found .given .0 .0)) e (c .shown .result) (c .shown .ensures)
 
 returns-3 : tie.Need-returns-3
 returns-3 c =
-    let a = c .before .before .before .before .before .before .before .before .before .args in
-    λ g st t d p ibw h H W Z. let x = call-at d (bits (a .b .now)) p in
-    subst (Expresses (a .s .now) (a .b .now) (a .ent .now) t g x ibw st (render-expression g x ibw st)) (ap shows-of (c .if3 .taken) ∙ shows-nothing) (c .before .before .before .bare-number .ensures .1 g st t d p ibw h H W Z)
-
-sub-decode : tie.Need-sub-decode
-sub-decode c = omega (arith, c .before .if2 .left, c .if3 .left)
-
-cast-decode : tie.Need-cast-decode
-cast-decode c = omega (arith, c .before .before .before .bare-number .ensures .0)
-
-decode-requires : tie.Need-decode-requires
-decode-requires c κs = search needs
-
-returns-4 : tie.Need-returns-4
-returns-4 c =
-    let a = c .before .before .before .before .before .before .before .before .before .before .args in
-    λ g st t d p ibw h H W Z. let x = call-at d (bits (a .b .now)) p in
-    subst (Expresses (a .s .now) (a .b .now) (a .ent .now) t g x ibw st (render-expression g x ibw st)) (shows-value (c .before .before .before .before .bare-number .result) (omega (arith, c .before .before .if2 .left, c .before .if3 .left)) ∙ ap Value (sym (c .decode .ensures))) (c .before .before .before .before .bare-number .ensures .1 g st t d p ibw h H W Z)
+    let a = c .before .before .before .before .before .before .before .before .before .before .before .args in
+    let k = sym (known-helper (text-at (bits (a .b .now)) (a .q)) (c .before .before .before .before .before .helper-at .result) (c .before .before .before .before .before .helper-at .ensures)) ∙ sym (c .before .before .before .before .known .ensures) ∙ c .before .before .before .if1 .left in
+    λ g st t d p ibw h H W Z.
+    let e = subst (Evaluates (a .s .now) (a .b .now) (a .ent .now) t _) (c .enum-told .given .1) (c .before .before .evaluate2 .ensures g st t (h .plan) (h .recursive) (h .open-scopes) (h .stand)) in
+    path-value (a .s .now) (a .b .now) (a .ent .now) t g st ibw d p (a .q) H W _ _ refl refl Z (a .options .strict) (h .alike .strict) k (Bad 20) (record { reason = invalid-json-index; is = e; by-number = refl }) _ refl
 
 pub bare-path-spec : {M : Type 1} → statement M
 bare-path-spec =
     tie.close
     (tie.spec
-    bare-number-requires
+    helper-at-requires
+    known-requires
     returns
-    cast-t11
+    evaluate2-requires
+    enum-known-found
+    shown-requires
+    enum-told
     returns-2
-    returns-3
-    sub-decode
-    cast-decode
-    decode-requires
-    returns-4)
+    returns-3)
