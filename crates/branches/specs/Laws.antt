@@ -53,7 +53,7 @@ use Rattle.branches.specs.declared.Texts.{Texts}
 use Rattle.lookups.specs.declared.Drawn.{Drawn}
 use Rattle.lookups.specs.Drawn.{drawn-of, behind, marks-in}
 use Rattle.lookups.specs.Looked.{coded, lookup-view, LookupDrawn}
-use Rattle.branches.specs.Short.{short-body, no-texts, body-of, texts-view, block-view, TextsAre}
+use Rattle.branches.specs.Short.{short-body, no-texts, body-of, texts-view, block-view, TextsAre, name-count}
 use Rattle.branches.specs.Drawn.{is-branch, chosen, stored, Written, Put, block-next, BlockDrawn, ElementDrawn}
 use Rattle.branches.specs.Reading.{ShortIs, short-is, only-text}
 
@@ -322,18 +322,30 @@ chosen-fits d b p x X = by
 
 -- by the kind and the name's count
 
-pub view-if : (b : Bits) (p : ℕ) → field b 22 p ≡ 786434 → texts-view b p 2 ≡ block-view b p
-view-if b p e = sym (ap (λ (y : Bool). pick y (texts-view b p 2) (pick (eqb (field b 22 p) 786438) (texts-view b p 6) no-texts)) (eq-eqb (field b 22 p) 786434 e))
+-- by the count of the name
+pub name-kind : (x : ℕ) → (name-count x ≡ 0 → ⊥) → (x ≡ 786432 + name-count x) × (name-count x ≤ 6)
+name-kind x h = by (eqb x 786434) (eqb x 786438) refl refl
+  where
+    by : (i j : Bool) → eqb x 786434 ≡ i → eqb x 786438 ≡ j → (x ≡ 786432 + name-count x) × (name-count x ≤ 6)
+    by true j e f = let z : name-count x ≡ 2 = rw e in (omega (arith, eqb-true x 786434 e, z), omega (arith, z))
+    by false true e f = let z : name-count x ≡ 6 = rw (e, f) in (omega (arith, eqb-true x 786438 f, z), omega (arith, z))
+    by false false e f = let z : name-count x ≡ 0 = rw (e, f) in absurd (h z)
 
-pub view-unless : (b : Bits) (p : ℕ) → (field b 22 p ≡ 786434 → ⊥) → field b 22 p ≡ 786438 → texts-view b p 6 ≡ block-view b p
-view-unless b p n e =
-    sym (ap (λ (y : Bool). pick y (texts-view b p 2) (pick (eqb (field b 22 p) 786438) (texts-view b p 6) no-texts)) (ne-eqb (field b 22 p) 786434 n)
-    ∙ ap (λ (y : Bool). pick y (texts-view b p 6) no-texts) (eq-eqb (field b 22 p) 786438 e))
+pub view-named : (b : Bits) (p n : ℕ) → n ≡ name-count (field b 22 p) → (n ≡ 0 → ⊥) → texts-view b p n ≡ block-view b p
+view-named b p n e h = ap (texts-view b p) e ∙ by (eqb (field b 22 p) 786434) (eqb (field b 22 p) 786438) refl refl
+  where
+    by : (i j : Bool) → eqb (field b 22 p) 786434 ≡ i → eqb (field b 22 p) 786438 ≡ j → texts-view b p (name-count (field b 22 p)) ≡ block-view b p
+    by true j e′ f = rw e′
+    by false true e′ f = rw (e′, f)
+    by false false e′ f = let z : name-count (field b 22 p) ≡ 0 = rw (e′, f) in absurd (h (e ∙ z))
 
-pub view-other : (b : Bits) (p : ℕ) → (field b 22 p ≡ 786434 → ⊥) → (field b 22 p ≡ 786438 → ⊥) → no-texts ≡ block-view b p
-view-other b p n m =
-    sym (ap (λ (y : Bool). pick y (texts-view b p 2) (pick (eqb (field b 22 p) 786438) (texts-view b p 6) no-texts)) (ne-eqb (field b 22 p) 786434 n)
-    ∙ ap (λ (y : Bool). pick y (texts-view b p 6) no-texts) (ne-eqb (field b 22 p) 786438 m))
+pub view-none : (b : Bits) (p n : ℕ) → n ≡ name-count (field b 22 p) → n ≡ 0 → no-texts ≡ block-view b p
+view-none b p n e h = by (eqb (field b 22 p) 786434) (eqb (field b 22 p) 786438) refl refl
+  where
+    by : (i j : Bool) → eqb (field b 22 p) 786434 ≡ i → eqb (field b 22 p) 786438 ≡ j → no-texts ≡ block-view b p
+    by true j e′ f = let z : name-count (field b 22 p) ≡ 2 = rw e′ in absurd (omega (arith, h, e, z))
+    by false true e′ f = let z : name-count (field b 22 p) ≡ 6 = rw (e′, f) in absurd (omega (arith, h, e, z))
+    by false false e′ f = rw (e′, f)
 
 -- The element by its kind and its name's count
 

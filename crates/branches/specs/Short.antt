@@ -46,6 +46,10 @@ abbrev pub texts-view : Bits → ℕ → ℕ → Texts
 texts-view b p n =
     pick (eqb (field b 6 (p + 4 + 18 + 8 * n)) 5) (bodies-view b (p + 4 + 18 + 8 * n + 6) (end path b (p + 4 + 18 + 8 * n + 6))) no-texts
 
+-- the count of a block's name, if it is that of `if` or of `unless`
+abbrev pub name-count : ℕ → ℕ
+name-count x = pick (eqb x 786434) 2 (pick (eqb x 786438) 6 0)
+
 -- the element whose kind stands at p. 786432 is the kind of a block; the name has as many bytes as `if`, or as `unless`.
 abbrev pub block-view : Bits → ℕ → Texts
 block-view b p = pick (eqb (field b 22 p) 786434) (texts-view b p 2) (pick (eqb (field b 22 p) 786438) (texts-view b p 6) no-texts)

@@ -19,7 +19,7 @@ ghost use Rattle.template.specs.Views.{in-body};
 ghost use Rattle.places.specs.Accepted.{Accepted};
 ghost use Rattle.state.specs.Context.{whole};
 ghost use Rattle.state.specs.World.{world, Ready};
-ghost use Rattle.branches.specs.Short.{short-body, texts-of, no-texts, body-of, texts-view, is-block, TextsIs};
+ghost use Rattle.branches.specs.Short.{short-body, texts-of, no-texts, body-of, texts-view, is-block, TextsIs, name-count};
 ghost use Rattle.lookups.specs.Drawn.{behind};
 ghost use Rattle.branches.specs.Drawn.{is-branch, chosen, Put, BlockDrawn, ElementDrawn};
 use expand::Options;
@@ -248,6 +248,20 @@ pub fn is_block(b: &[u8], p: usize) -> bool
     k == 262150
 }
 
+// How many bytes the name of a block has, if they are as many as those of `if` or of `unless`, or 0. (So that there is one call of `draw_texts`, which the compiler
+// makes a part of the loop over a body.)
+fn name_count(x: u64) -> usize
+    ensures { λ r. ⌜ r ≡ name-count x ⌝ }
+{
+    if x == 786434 {
+        return 2;
+    }
+    if x == 786438 {
+        return 6;
+    }
+    0
+}
+
 // The element at p, if it is a block of `if` or `unless` over one path whose bodies are short texts, or a lookup with a string, and the text is stored at once.
 pub fn draw_block(
     s: &[u8],
@@ -268,7 +282,8 @@ pub fn draw_block(
 {
     // the element's kind, the kind of its name, and the count of the name's string: that of `if`, of `unless` or of `lookup`
     let x = bits::field(b, p + 16 + 16, 22);
-    if x == 786434 {
+    let n = name_count(x);
+    if n != 0 {
         return draw_texts(
             s,
             tab,
@@ -280,24 +295,7 @@ pub fn draw_block(
             sc,
             options,
             p,
-            2,
-            d,
-            rc,
-        );
-    }
-    if x == 786438 {
-        return draw_texts(
-            s,
-            tab,
-            b,
-            ent,
-            page,
-            texts,
-            indent,
-            sc,
-            options,
-            p,
-            6,
+            n,
             d,
             rc,
         );
