@@ -1,12 +1,12 @@
 -- Laws of the elements that are drawn with the writer alone.
 use Prim.Native.Nat.{ℕ, zero, suc, _+_, _*_, _-_, _≤_, _<_}
-use mathlib.Core.Bool.{Bool, true, false, not, _||_}
-use mathlib.Core.List.{List, [], _++_}
-use mathlib.Core.Option.{Option, none}
+use mathlib.Core.Bool.{Bool, true, false, not, _&&_, _||_}
+use mathlib.Core.List.{List}
 use mathlib.Core.Path.{_≡_, refl, sym, ap, ap₂, _∙_, subst}
 use native.Mathlib.Omega.{arith}
 use lib.ListN.{length}
 use Rattle.rules.specs.Bytes.{Bytes, pick}
+use Rattle.rules.specs.Order.{differ}
 use Rattle.rules.specs.Bits.{Bits, bits}
 use Rattle.rules.specs.Layout.{field}
 use Rattle.rules.specs.State as rules
@@ -14,7 +14,7 @@ use Rattle.rules.specs.Output.{do-escape, indent-aware-write}
 use Rattle.rules.specs.Value.{render}
 use Rattle.rules.specs.Registry.{Registry}
 use Rattle.rules.specs.Template as template
-use Rattle.rules.specs.Render.{render-element, render-elements, render-html-expression, render-expression}
+use Rattle.rules.specs.Render.{render-element, render-html-expression, render-expression}
 use Rattle.bits.specs.Packed.{bytes-at}
 use Rattle.output.specs.declared.Writer.{Writer}
 use Rattle.output.specs.Outputs.{Outputs, outputs}
@@ -42,21 +42,13 @@ use Rattle.writing.specs.Laws.{draws-fed, escape-is, wrote-by}
 use Rattle.drawing.specs.Renders.{Renders}
 use Rattle.drawing.specs.Elements.{element-raw, element-html, element-expression}
 use Rattle.expressions.specs.Laws.{expression-refused, expression-written, expression-nothing, html-ready, html-refused, html-drawn}
-use Rattle.parts.specs.HoldsLaws.{Passed}
-use Rattle.template.specs.Views.{in-body}
-use Rattle.template.specs.Bodies.{elements-at, element-here, placed-fits}
-use Rattle.rules.specs.Bundle.{param, call-of, body}
-use Rattle.rules.specs.Template.{Template}
-use Rattle.rules.specs.State.{prefixed}
-use Rattle.state.specs.Setters.{located}
-use Rattle.state.specs.World.{name-at}
-use Rattle.state.specs.Laws.{goes-self, goes-trans, reason-some}
+use Rattle.expressions.specs.Laws.{expression-known}
+use Rattle.meaning.specs.Forms.{Known}
+use Rattle.state.specs.Laws.{reason-some}
 use Rattle.state.specs.World.{top, error-of}
 use Rattle.drawing.specs.Members.{setting}
 use Rattle.drawing.specs.Renders.{registry-of}
-use Rattle.rules.specs.Render.{render-template}
-use Rattle.drawing.specs.Loop.{prefixed-nothing, prefixed-both, draws-prefixed, renders-at, Drawing, drawing-stop, drawing-more}
-use Rattle.plain.specs.Plain.{kept, full-number, expression-of, TextIs, PathIs, OneDrawn, Run}
+use Rattle.plain.specs.Plain.{kept, full-number, expression-of, TextIs, PathIs, OneDrawn, ShowsAt}
 
 -- a writer that has written
 pub kept-wrote : (c : RenderContext) (w u : Writer) → kept c u (full-number u) ≡ wrote (kept c w 0) u
@@ -210,65 +202,67 @@ module _ (s b : Bytes) (o : Options) (d p : ℕ) (c : RenderContext) (w : Writer
 pub kept-same : (c : RenderContext) → c .bad ≡ 0 → c ≡ kept c (c .writer) 0
 kept-same c e = ap (λ (n : ℕ). kept c (c .writer) n) e
 
--- none is drawn yet
-pub drawing-here : (s b : Bytes) (o : Options) (d count : ℕ) (l : World) (i p : ℕ) → Ready s b l → (n : Option Bytes) (z : ℕ) → Passed (in-body 16 d) (bits b) count i p z
-    → Drawing s b o n (elements-at 16 d (count - i) (bits b) p) d count z l l i p
-drawing-here s b o d count l i p r n z P = record {
-  passed = P;
-  text = [];
-  goes = goes-self s b l r;
-  rest = λ f le. sym (prefixed-nothing (render-elements (registry-of s b o (length (l .page))) (render-template (registry-of s b o (length (l .page))) f) n (elements-at 16 d (count - i) (bits b) p) (abs s b l)));
-}
+-- the same in front of any element of a body: c is the context there
+module _ (s b : Bytes) (o : Options) (d p : ℕ) (c : RenderContext) (page texts indent : Bytes) (ent : List ℕ) (r : Ready s b (world c page texts indent ent)) where
+  abbrev here : World
+  here = world c page texts indent ent
 
--- from l on, the elements from the i-th at p to the k-th at q are drawn, and m is left
-abbrev pub Onward : Bytes → Bytes → Options → ℕ → ℕ → World → World → ℕ → ℕ → ℕ → ℕ → Type 0
-Onward s b o d count l m i p k q = (n : Option Bytes) (z : ℕ) → Passed (in-body 16 d) (bits b) count i p z → Drawing s b o n (elements-at 16 d (count - i) (bits b) p) d count z l m k q
+  abbrev same : c ≡ kept c (c .writer) 0
+  same = kept-same c (r .fine)
 
-module _ (s b : Bytes) (o : Options) (d count : ℕ) (l m : World) (i p k q : ℕ) (D : Onward s b o d count l m i p k q) where
-  pub run-left : i ≤ k → m .rc .bad ≡ 0 → Run s b o d count l m i p k q
-  run-left le f = record { forth = le; fits = λ z P bad. absurd (bad f); drawn = λ n z P e. D n z P; refused = λ n z j P h bad. absurd (bad f) }
+  ready-kept : Ready s b (world (kept c (c .writer) 0) page texts indent ent)
+  ready-kept = subst (λ (x : RenderContext). Ready s b (world x page texts indent ent)) same r
 
-  module _ (lt : k < count) (m′ : World) (next : ℕ) (E : OneDrawn s b o d q m m′ next) where
-    pub run-stop : i ≤ k → (m′ .rc .bad ≡ 0 → ⊥) → Run s b o d count l m′ i p k q
-    run-stop le bad = record {
-      forth = le;
-      fits = λ z P e. placed-fits 16 (call-of (param d)) (body 16 d) (bits b) q (element-here 16 d (bits b) count k q z (D none z P .passed) lt);
-      drawn = λ n z P e. absurd (bad e);
-      refused = λ n z j P h e. drawing-stop s b o n l (elements-at 16 d (count - i) (bits b) p) d count z m k q (D n z P) lt (element-view 16 d (bits b) q) refl m′ (E .renders) j h e;
-    }
+  from-here : (l : World) (z : ℕ) → OneDrawn s b o d p (world (kept c (c .writer) 0) page texts indent ent) l z → OneDrawn s b o d p here l z
+  from-here l z = subst (λ (x : RenderContext). OneDrawn s b o d p (world x page texts indent ent) l z) (sym same)
 
-    pub run-more : m′ .rc .bad ≡ 0 → Onward s b o d count l m′ i p (k + 1) next
-    run-more e n z P =
-        subst (Drawing s b o n (elements-at 16 d (count - i) (bits b) p) d count z l m′ (k + 1)) (sym (E .next))
-        (drawing-more s b o n l (elements-at 16 d (count - i) (bits b) p) d count z m k q (D n z P) lt (element-view 16 d (bits b) q) refl m′ (E .renders) e)
+  -- u is the writer behind what was written
+  written-here : (u : Writer) (page′ texts′ : Bytes) (z : ℕ) → OneDrawn s b o d p (world (kept c (c .writer) 0) page texts indent ent) (world (kept c u (full-number u)) page′ texts′ indent ent) z
+      → OneDrawn s b o d p here (world (wrote c u) page′ texts′ indent ent) z
+  written-here u page′ texts′ z O =
+      from-here (world (wrote c u) page′ texts′ indent ent) z
+      (subst (λ (x : RenderContext). OneDrawn s b o d p (world (kept c (c .writer) 0) page texts indent ent) (world x page′ texts′ indent ent) z) (kept-wrote c (c .writer) u ∙ ap (λ (x : RenderContext). wrote x u) (sym same)) O)
 
--- A run within the drawing of a body
+  pub text-here : (n : ℕ) → TextIs d (bits b) (p + 16 + 16) n → (u : Writer) (page′ texts′ : Bytes)
+      → outputs u page′ texts′ ≡ fed indent (bytes-at (bits b) (p + 16 + 16 + 20) n) (outputs (c .writer) page texts)
+      → OneDrawn s b o d p here (world (wrote c u) page′ texts′ indent ent) (p + 16 + 16 + 20 + 8 * n)
+  text-here n T u page′ texts′ h = written-here u page′ texts′ (p + 16 + 16 + 20 + 8 * n) (text-drawn s b o d p c (c .writer) page texts indent ent ready-kept n T u page′ texts′ h)
 
-module _ (s b : Bytes) (o : Options) (n : Option Bytes) (w : World) (T : Template) (d count z : ℕ) (l : World) (i p : ℕ) (D : Drawing s b o n T d count z w l i p) (m : World) (k q : ℕ) (R : Run s b o d count l m i p k q) where
-  pub run-drawn : m .rc .bad ≡ 0 → Drawing s b o n T d count z w m k q
-  run-drawn e =
-      let E = R .drawn n z (D .passed) e in
-      let x = D .goes .sizes .page in
-      let u : ((f : ℕ) → 32 ≤ f + l .rc .used → render-elements (registry-of s b o (length (w .page))) (render-template (registry-of s b o (length (w .page))) f) n (elements-at 16 d (count - i) (bits b) p) (abs s b l)
-      ≡ prefixed (E .text) (render-elements (registry-of s b o (length (w .page))) (render-template (registry-of s b o (length (w .page))) f) n (elements-at 16 d (count - k) (bits b) q) (abs s b m))) =
-      subst (λ (j : ℕ). (f : ℕ) → 32 ≤ f + l .rc .used → render-elements (registry-of s b o j) (render-template (registry-of s b o j) f) n (elements-at 16 d (count - i) (bits b) p) (abs s b l)
-      ≡ prefixed (E .text) (render-elements (registry-of s b o j) (render-template (registry-of s b o j) f) n (elements-at 16 d (count - k) (bits b) q) (abs s b m))) x (E .rest) in
-      record {
-        passed = E .passed;
-        text = D .text ++ E .text;
-        goes = goes-trans s b (D .text) (E .text) w l m (D .goes) (E .goes);
-        rest = λ f le.
-            D .rest f le
-            ∙ ap (prefixed (D .text)) (u f (subst (λ (j : ℕ). 32 ≤ f + j) (sym (D .goes .used)) le))
-            ∙ prefixed-both (D .text) (E .text) (render-elements (registry-of s b o (length (w .page))) (render-template (registry-of s b o (length (w .page))) f) n (elements-at 16 d (count - k) (bits b) q) (abs s b m));
-      }
+  module _ (html : Bool) (next : ℕ) (a : Shows) (A : ShowsAt s b ent (c .scopes) (c .used) (c .«disable_escape») o d (p + 16 + 16) html next a) where
+    there : (l : World) → OneDrawn s b o d p here l (A .path-end + 9) → OneDrawn s b o d p here l next
+    there l = subst (OneDrawn s b o d p here l) (sym (A .behind))
 
-  pub run-refused : (j : ℕ) → n ≡ name-at b j → (m .rc .bad ≡ 0 → ⊥) → Renders s b o w (over (located (m .rc) j (field (bits b) 16 q) (field (bits b) 16 (q + 16))) m) (λ g R. render-elements g R n T)
-  run-refused j h bad =
-      let v : World = over (located (m .rc) j (field (bits b) 16 q) (field (bits b) 16 (q + 16))) m in
-      let E = R .refused n z j (D .passed) h bad in
-      record {
-        at = λ f le.
-            subst (Draws s b w v) (sym (D .rest f le))
-            (draws-prefixed s b (D .text) w l v _ (D .goes) (renders-at s b o w l v (λ g R. render-elements g R n (elements-at 16 d (count - i) (bits b) p)) (D .goes .sizes .page) (D .goes .used) E f le));
-      }
+    pub value-known : (v : Value) → a ≡ shows.Value v → Known s b v
+    value-known v h = expression-known s b o here r (call-at d (bits b) (p + 16 + 16 + 4)) (A .is .before) a (A .shows) v h
+
+    pub value-here : (v : Value) → a ≡ shows.Value v → (u : Writer) (page′ texts′ : Bytes)
+        → Means s b v (λ j. outputs u page′ texts′ ≡ fed indent (escaped (not (html || c .«disable_escape»)) (render j)) (outputs (c .writer) page texts))
+        → OneDrawn s b o d p here (world (wrote c u) page′ texts′ indent ent) next
+    value-here v h u page′ texts′ M =
+        there (world (wrote c u) page′ texts′ indent ent)
+        (written-here u page′ texts′ (A .path-end + 9) (path-written s b o d p c (c .writer) page texts indent ent ready-kept html (A .path-end) (A .is) a (A .shows) (A .escapes) v h u page′ texts′ M))
+
+    pub nothing-here : a ≡ shows.Nothing → OneDrawn s b o d p here here next
+    nothing-here h =
+        there here
+        (from-here here (A .path-end + 9)
+        (subst (λ (x : RenderContext). OneDrawn s b o d p (world (kept c (c .writer) 0) page texts indent ent) (world x page texts indent ent) (A .path-end + 9))
+        (ap (kept c (c .writer)) (full-none (c .writer) (r .sound .goes)) ∙ sym same)
+        (path-nothing s b o d p c (c .writer) page texts indent ent ready-kept html (A .path-end) (A .is) a (A .shows) (A .escapes) h)))
+
+    pub refused-here : (n : ℕ) → a ≡ shows.Bad n → OneDrawn s b o d p here (world (failed c n) page texts indent ent) next
+    refused-here n h =
+        there (world (failed c n) page texts indent ent)
+        (from-here (world (failed c n) page texts indent ent) (A .path-end + 9)
+        (path-refused s b o d p c (c .writer) page texts indent ent ready-kept html (A .path-end) (A .is) a (A .shows) (A .escapes) n h))
+
+    pub refusal-number : (n : ℕ) → a ≡ shows.Bad n → n ≡ 0 → ⊥
+    refusal-number n h = path-number s b o d p c (c .writer) page texts indent ent ready-kept html (A .path-end) (A .is) a (A .shows) n h
+
+-- a writer that is not full has written all
+pub wrote-all : (c : RenderContext) (u : Writer) → u .full ≡ false → wrote c u ≡ with-writer c u
+wrote-all c u e = ap (λ (t : Bool). pick t (failed (with-writer c u) (pick (u .«block_text») 24 25)) (with-writer c u)) e
+
+pub both-true : (x y : Bool) → (x && y) ≡ true → (x ≡ true) × (y ≡ true)
+both-true true y h = (refl, h)
+both-true false y h = differ (sym h)

@@ -1,32 +1,39 @@
 -- Raw texts and expressions that are a path alone: s is the plan, b the bundle.
-use Prim.Native.Nat.{ℕ, _+_, _*_, _-_, _≤_}
-use mathlib.Core.Bool.{Bool, true, false}
+use Prim.Native.Nat.{ℕ, _+_, _*_, _/_, _≤_}
+use mathlib.Core.Bool.{Bool, true, false, _||_}
 use mathlib.Core.List.{List}
-use mathlib.Core.Option.{Option}
+use mathlib.Core.Logic.{_⊎_}
 use mathlib.Core.Path.{_≡_}
+use lib.Dec.{eqb, ltb, leb}
 use Rattle.rules.specs.Bytes.{Bytes, pick}
 use Rattle.rules.specs.Bits.{Bits, bits}
 use Rattle.rules.specs.Layout.{field}
 use Rattle.rules.specs.Bundle.{string, path, param, call-of}
-use Rattle.rules.specs.Render.{render-element, render-elements}
+use Rattle.rules.specs.Registry.{Registry}
+use Rattle.rules.specs.State as rules
+use Rattle.rules.specs.Render.{render-element, render-expression}
 use Rattle.output.specs.declared.Writer.{Writer}
 use Rattle.parts.specs.Holds.{Holds, end}
-use Rattle.parts.specs.HoldsLaws.{Passed}
 use Rattle.calls.specs.declared.Parameter.the-variants as parameter
-use Rattle.calls.specs.Calls.{param-view}
+use Rattle.calls.specs.Calls.{param-view, call-at}
 use Rattle.template.specs.declared.Element.{Element}
 use Rattle.template.specs.declared.Element.the-variants.{RawString, HtmlExpression, Expression}
-use Rattle.template.specs.Views.{content-of, content-view, in-body, element-says, element-view}
-use Rattle.template.specs.Bodies.{elements-at}
+use Rattle.template.specs.Views.{content-of, content-view, element-says, element-view}
+use Rattle.value.specs.Numbers.{decoded}
+use Rattle.scope.specs.declared.Scope.{Scope}
 use Rattle.expand.specs.declared.Options.{Options}
+use Rattle.expand.specs.Answers.{Setting}
+use Rattle.helpers.specs.declared.Shows.{Shows}
+use Rattle.helpers.specs.declared.Shows.the-variants as shows
+use Rattle.helpers.specs.Does.{Expresses}
 use Rattle.state.specs.Context.{RenderContext}
-use Rattle.state.specs.Setters.{failed, located, with-writer}
-use Rattle.state.specs.World.{World, world, over, name-at}
+use Rattle.state.specs.Setters.{failed, with-writer}
+use Rattle.state.specs.World.{World}
 use Rattle.drawing.specs.Renders.{Renders}
-use Rattle.drawing.specs.Loop.{Drawing}
-use Rattle.plain.specs.declared.Run as code
 use Rattle.plain.specs.declared.Plain.{Plain}
 use Rattle.plain.specs.declared.Plain.the-variants.{Text, Path, Other}
+use Rattle.plain.specs.declared.Shown.{Shown}
+use Rattle.plain.specs.declared.Shown.the-variants as shown
 
 -- a context with another writer, and the number of a refusal
 abbrev pub kept : RenderContext → Writer → ℕ → RenderContext
@@ -69,15 +76,39 @@ pub record OneDrawn (s b : Bytes) (o : Options) (d p : ℕ) (l l′ : World) (z 
   pub next : z ≡ element-view 16 d (bits b) p .next
   pub renders : Renders s b o l l′ (λ g R. render-element g R (element-says 16 d (bits b) (element-view 16 d (bits b) p .element)))
 
-abbrev pub run-of : Writer → ℕ → ℕ → ℕ → code.Run
-run-of w k q n = record { writer = w; i = k; cur = q; bad = n }
+-- What is told of the element at once
 
--- the elements of a body from p on, of which there are count in all and the first is the i-th: as far as k they are drawn, the next one stands at q, and l′ is left.
--- How far it goes is free; where it stops with a refusal, that is the one of the next element.
-pub record Run (s b : Bytes) (o : Options) (d count : ℕ) (l l′ : World) (i p k q : ℕ) : Type 0 where
-  pub forth : i ≤ k
-  pub fits : (z : ℕ) → Passed (in-body 16 d) (bits b) count i p z → (l′ .rc .bad ≡ 0 → ⊥) → q + 16 + 16 ≤ bits b .size
-  pub drawn : (n : Option Bytes) (z : ℕ) → Passed (in-body 16 d) (bits b) count i p z → l′ .rc .bad ≡ 0
-      → Drawing s b o n (elements-at 16 d (count - i) (bits b) p) d count z l l′ k q
-  pub refused : (n : Option Bytes) (z m : ℕ) → Passed (in-body 16 d) (bits b) count i p z → n ≡ name-at b m → (l′ .rc .bad ≡ 0 → ⊥)
-      → Renders s b o l (over (located (l′ .rc) m (field (bits b) 16 q) (field (bits b) 16 (q + 16))) l′) (λ g R. render-elements g R n (elements-at 16 d (count - i) (bits b) p))
+-- whether few reads tell what it is: a raw text, or an expression that is a path alone
+abbrev pub plain-form : Bits → ℕ → Bool
+plain-form b p =
+    pick (ltb (field b 22 p) 262144) true
+    (pick (eqb (field b 22 p / 65536) 9 || eqb (field b 22 p / 65536) 5) (leb (field b 9 (end path b (p + 6))) 1) false)
+
+abbrev pub is-plain : Plain → Bool
+is-plain (Text n) = true
+is-plain (Path html e) = true
+is-plain Other = false
+
+module _ (s b : Bytes) (ent : List ℕ) (scopes : List Scope) (used : ℕ) (off : Bool) (o : Options) (d p : ℕ) where
+  -- an expression that is a path alone does what a says; next is the place behind it
+  pub record ShowsAt (html : Bool) (next : ℕ) (a : Shows) : Type 0 where
+    pub path-end : ℕ
+    pub is : PathIs d (bits b) p html path-end
+    pub behind : next ≡ path-end + 9
+    pub escapes : html ≡ true → off ≡ false
+    pub shows : (g : Registry) (st : rules.RenderContext) (t : ℕ) (ibw : Bool) → Setting s b ent scopes used o g st t
+        → Expresses s b ent t g (call-at d (bits b) (p + 4)) ibw st (render-expression g (call-at d (bits b) (p + 4)) ibw st) a
+
+  -- one without escaping, where escaping is disabled already
+  pub record Disabled : Type 0 where
+    pub path-end : ℕ
+    pub is : PathIs d (bits b) p true path-end
+    pub disabled : off ≡ true
+
+  -- an element is left only where few reads do not tell what it is, where escaping is disabled already, or where a helper has the path's name
+  abbrev pub ShownIs : Shown → Type 0
+  ShownIs (shown.Text n) = TextIs d (bits b) p n
+  ShownIs (shown.Value v html next) = ShowsAt html next (shows.Value (decoded v))
+  ShownIs (shown.Nothing next) = (html : Bool) × ShowsAt html next shows.Nothing
+  ShownIs (shown.Bad n) = (html : Bool) × (next : ℕ) × ShowsAt html next (shows.Bad n)
+  ShownIs shown.Other = (plain-form (bits b) p ≡ false) ⊎ (Disabled ⊎ ((html : Bool) × (next : ℕ) × ShowsAt html next shows.Helper))

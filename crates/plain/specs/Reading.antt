@@ -1,11 +1,12 @@
 -- What few reads tell of an element.
 use Prim.Native.Nat.{ℕ, _+_, _*_, _/_, _%_, _≤_, _<_}
-use mathlib.Core.Bool.{Bool, true, false}
+use mathlib.Core.Bool.{Bool, true, false, _||_}
 use mathlib.Core.Logic.{_⊎_, inl, inr}
 use mathlib.Core.Path.{_≡_, refl, sym, ap, _∙_, subst}
 use native.Mathlib.Omega.{arith}
-use lib.Dec.{eqb}
-use borrow.Author.Tests.{eq-eqb, ne-eqb}
+use lib.Dec.{eqb, leb}
+use borrow.Author.Tests.{eq-eqb, ne-eqb, lt-ltb, le-ltb}
+use Rattle.rules.specs.Bytes.{pick}
 use Rattle.rules.specs.Bits.{Bits}
 use Rattle.rules.specs.Layout.{Layout, field}
 use Rattle.rules.specs.Template as rule
@@ -22,7 +23,7 @@ use Rattle.template.specs.declared.Element.{Element}
 use Rattle.template.specs.declared.Element.the-variants.{RawString}
 use Rattle.template.specs.Views.{call-end, flagged-view, kind-view, content-of, content-view}
 use Rattle.template.specs.Content.{raw-string-holds, html-holds, expression-holds, FlaggedHolds, written-holds}
-use Rattle.plain.specs.Plain.{expression-of, TextIs, PathIs}
+use Rattle.plain.specs.Plain.{expression-of, TextIs, PathIs, plain-form}
 
 -- The end of a path at p, by one read behind its raw string: that has m bytes, and y is the kind and what comes behind it
 module _ (b : Bits) (bin : Binary b) (p : ℕ) (H : Holds path b p) (m : ℕ) (hm : m ≡ field b 16 p) where
@@ -76,6 +77,28 @@ module _ (d : ℕ) (b : Bits) (bin : Binary b) (p : ℕ) (H : Holds (element-of 
         count = n;
         text = m .inner;
       }
+
+  -- whether few reads tell what the element is
+  pub form-text : x < 262144 → true ≡ plain-form b p
+  form-text lt = sym (ap (λ (t : Bool). pick t true (pick (eqb (field b 22 p / 65536) 9 || eqb (field b 22 p / 65536) 5) (leb (field b 9 (end path b (p + 6))) 1) false)) (lt-ltb (field b 22 p) 262144 (omega (arith, hx, lt))))
+
+  -- what it is behind the kind of a raw text
+  form-behind : 262144 ≤ x → pick (eqb (x / 65536) 9 || eqb (x / 65536) 5) (leb (field b 9 (end path b (p + 6))) 1) false ≡ plain-form b p
+  form-behind le =
+      ap (λ (n : ℕ). pick (eqb (n / 65536) 9 || eqb (n / 65536) 5) (leb (field b 9 (end path b (p + 6))) 1) false) hx
+      ∙ sym (ap (λ (t : Bool). pick t true (pick (eqb (field b 22 p / 65536) 9 || eqb (field b 22 p / 65536) 5) (leb (field b 9 (end path b (p + 6))) 1) false)) (le-ltb (field b 22 p) 262144 (omega (arith, hx, le))))
+
+  pub form-other : 262144 ≤ x → (x / 65536 ≡ 9 → ⊥) → (x / 65536 ≡ 5 → ⊥) → false ≡ plain-form b p
+  form-other le n m =
+      sym (ap (λ (t : Bool). pick t (leb (field b 9 (end path b (p + 6))) 1) false) (ap (λ (t : Bool). t || eqb (x / 65536) 5) (ne-eqb (x / 65536) 9 n) ∙ ne-eqb (x / 65536) 5 m)) ∙ form-behind le
+
+  pub form-path : 262144 ≤ x → (x / 65536 ≡ 9) ⊎ (x / 65536 ≡ 5) → (e y : ℕ) → e ≡ end path b (p + 6) → y ≡ field b 9 e → (t : Bool) → leb y 1 ≡ t → t ≡ plain-form b p
+  form-path le k e y he hy t h =
+      sym h ∙ ap (λ (n : ℕ). leb n 1) (hy ∙ ap (field b 9) he) ∙ sym (ap (λ (t : Bool). pick t (leb (field b 9 (end path b (p + 6))) 1) false) (either k)) ∙ form-behind le
+    where
+      either : (x / 65536 ≡ 9) ⊎ (x / 65536 ≡ 5) → (eqb (x / 65536) 9 || eqb (x / 65536) 5) ≡ true
+      either (inl e) = ap (λ (t : Bool). t || eqb (x / 65536) 5) (eq-eqb (x / 65536) 9 e)
+      either (inr e) = ap (λ (t : Bool). t || eqb (x / 65536) 5) (ne-eqb (x / 65536) 9 (λ z. omega (arith, e, z))) ∙ eq-eqb (x / 65536) 5 e
 
   abbrev E : Layout rule.TemplateElement
   E = element-of (call-of (param d)) (body 16 d)

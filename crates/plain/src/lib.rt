@@ -1,31 +1,26 @@
-// render.rs: of the elements of a body, the raw texts and the expressions that are a path alone, one after the other. Most elements are such, and only the writer
-// changes from one to the next, so nothing else goes from call to call.
-// s is the plan with its places tab, b the bundle; ent holds the entries of open partials, indent the indent in force; d is the number of depths left for what
-// stands in an element.
+// render.rs: of the elements of a body, the raw texts and the expressions that are a path alone. Most elements are such, and only the writer changes from one to
+// the next: what one shows is told by numbers, and a text that is stored at once moves the writer on where it stands.
+// s is the plan with its places tab, b the bundle; ent holds the entries of open partials; d is the number of depths left for what stands in an element.
 ghost use mathlib.Core.Bool.{true, false};
 ghost use mathlib.Core.Path.{_≡_};
 ghost use Prim.Native.Nat.{ℕ, _+_, _-_, _*_, _^_, _≤_, _<_};
 ghost use lib.ListN.{length};
-ghost use Rattle.rules.specs.Bytes.{Bytes};
+ghost use Rattle.rules.specs.Bytes.{Bytes, pick};
 ghost use Rattle.rules.specs.Bits.{bits};
 ghost use Rattle.rules.specs.Layout.{field};
 ghost use Rattle.rules.specs.Bundle.{path, param, call-of, element-of, body};
 ghost use Rattle.bits.specs.Packed.{bytes-at};
-ghost use Rattle.direct.specs.Direct.{plain as is-plain};
+ghost use Rattle.direct.specs.Direct.{plain as is-calm, set-short};
 ghost use Rattle.parts.specs.Holds.{Holds, end};
-ghost use Rattle.parts.specs.HoldsLaws.{Passed};
-ghost use Rattle.template.specs.Views.{in-body};
 ghost use Rattle.places.specs.Accepted.{Accepted};
 ghost use Rattle.value.specs.Numbers.{decoded};
 ghost use Rattle.meaning.specs.Forms.{Known};
-ghost use Rattle.state.specs.Context.{whole};
-ghost use Rattle.state.specs.World.{world, Ready};
-ghost use Rattle.plain.specs.Plain.{kept, full-number, PlainIs, run-of};
+ghost use Rattle.scope.specs.Words.{scopes-of};
+ghost use Rattle.scope.specs.Standing.{ScopesStand};
+ghost use Rattle.plain.specs.Plain.{PlainIs, is-plain, plain-form, ShownIs};
 ghost use Rattle.plain.specs.Put.{Put, PutPlain, PutNumber};
-ghost use Rattle.plain.specs.Plain as plain;
 use expand::Options;
 use output::Writer;
-use state::RenderContext;
 
 // What an element is, as far as few reads tell.
 enum Plain {
@@ -68,6 +63,7 @@ fn path_end(b: &[u8], p: usize, m: usize) -> usize
 fn plain_at(b: &[u8], p: usize, d: usize) -> Plain
     requires { ⌜ (length (now b) ≤ 65536) × Holds (element-of (call-of (param d)) (body 16 d)) (bits (now b)) p ⌝ }
     ensures { λ r. ⌜ PlainIs d (bits (now (b .entry))) p r ⌝ }
+    ensures { λ r. ⌜ is-plain r ≡ plain-form (bits (now (b .entry))) p ⌝ }
 {
     // the kind, and behind it the count of a raw text, or a name's kind and the count of the string that a path begins with
     let x = bits::field(b, p, 22);
@@ -89,25 +85,65 @@ fn plain_at(b: &[u8], p: usize, d: usize) -> Plain
     Plain::Path(f == 5, e)
 }
 
-fn full_number(w: Writer) -> u8
-    ensures { λ r. ⌜ r ≡ full-number w ⌝ }
+// What an element shows, if that is told at once.
+pub enum Shown {
+    // a raw text of so many bytes
+    Text(usize),
+    // an expression: the number of its value, whether that is not escaped, and the place behind the element
+    Value(u32, bool, usize),
+    // an expression that writes nothing, and the place behind it
+    Nothing(usize),
+    // the number of the refusal
+    Bad(u8),
+    Other,
+}
+
+// The same element with what its path leads to. One without escaping is left where escaping is disabled already: behind it, it is not.
+pub fn shown_at(
+    s: &[u8],
+    tab: &[u64],
+    b: &[u8],
+    ent: &[u64],
+    sc: &[u64],
+    options: Options,
+    used: usize,
+    disable_escape: bool,
+    p: usize,
+    d: usize,
+) -> Shown
+    requires { ⌜ Accepted (now s) (now tab) × (length (now b) ≤ 65536) × (0 < used) × (used ≤ 32) × ((t : ℕ) × ScopesStand (now s) (now b) (now ent) (scopes-of (now sc)) used t) × Holds (element-of (call-of (param d)) (body 16 d)) (bits (now b)) p × (length (now sc) ≡ 96) ⌝ }
+    ensures { λ r. ⌜ ShownIs (now (s .entry)) (now (b .entry)) (now (ent .entry)) (scopes-of (now (sc .entry))) used «disable_escape» options d p r ⌝ }
 {
-    if !w.full {
-        return 0;
+    match plain_at(b, p, d) {
+        Plain::Text(n) => Shown::Text(n),
+        Plain::Path(html, e) => {
+            if html & disable_escape {
+                return Shown::Other;
+            }
+            let r = helpers::bare_number(s, tab, b, ent, sc, used, options, p + 6);
+            if r == 0 {
+                return Shown::Other;
+            }
+            if r < 255 {
+                return Shown::Bad(r as u8);
+            }
+            if r == 255 {
+                return Shown::Nothing(e + 9);
+            }
+            Shown::Value((r - 256) as u32, html, e + 9)
+        }
+        Plain::Other => Shown::Other,
     }
-    if w.block_text {
-        return 24;
-    }
-    25
 }
 
 // A text that is stored at once moves the writer on by its count and its last byte alone, so the loop keeps its writer in place: one that a call returns is copied
 // whole, field by field. What is told is then 0 where the text has to be written by such a call.
 
 // The n bytes of a packed string: one more than the last of them. Most have up to seven, which are one word and stored from it.
-fn put_text(page: &mut [u8], texts: &mut [u8], w: Writer, b: &[u8], p: usize, n: usize) -> usize
+pub fn put_text(page: &mut [u8], texts: &mut [u8], w: Writer, b: &[u8], p: usize, n: usize) -> usize
     requires { ⌜ p + 8 * n < 2 ^ 64 ⌝ }
     ensures { λ r. ⌜ Put (bytes-at (bits (now (b .entry))) p n) w (now (page .entry)) (now (texts .entry)) (now (page .exit)) (now (texts .exit)) r n (r - 1) ⌝ }
+    ensures { λ r. ⌜ r ≡ set-short w (pick (w .«block_text») (length (now (texts .entry))) (length (now (page .entry)))) n (field (bits (now (b .entry))) 56 p) ⌝ }
 {
     let x = bits::field(b, p, 56);
     if w.block_text {
@@ -118,7 +154,7 @@ fn put_text(page: &mut [u8], texts: &mut [u8], w: Writer, b: &[u8], p: usize, n:
 
 // Lent bytes that go out as they are: 256 times their count, and the last of them.
 fn put_bytes(page: &mut [u8], texts: &mut [u8], w: Writer, v: &[u8]) -> usize
-    requires { ⌜ (length (now v) ≤ 65536) × (is-plain (w .«has_indent») true (now v) ≡ true) ⌝ }
+    requires { ⌜ (length (now v) ≤ 65536) × (is-calm (w .«has_indent») true (now v) ≡ true) ⌝ }
     ensures { λ r. ⌜ PutPlain (now (v .entry)) w (now (page .entry)) (now (texts .entry)) (now (page .exit)) (now (texts .exit)) r ⌝ }
 {
     if w.block_text {
@@ -153,97 +189,4 @@ pub fn put_number(
         }
     }
     0
-}
-
-// How far the elements of a body are drawn: the writer, the number of the next one and its place, and the number of its refusal, or 0.
-pub struct Run {
-    pub writer: Writer,
-    pub i: u64,
-    pub cur: usize,
-    pub bad: u8,
-}
-
-fn run_of(writer: Writer, i: u64, cur: usize, bad: u8) -> Run
-    ensures { λ r. ⌜ r ≡ run-of writer i cur bad ⌝ }
-{
-    Run {
-        writer,
-        i,
-        cur,
-        bad,
-    }
-}
-
-// The elements of a body from the i-th on, which stands at p, until one is another. There are count in all.
-pub fn draw_run(
-    s: &[u8],
-    tab: &[u64],
-    b: &[u8],
-    ent: &[u64],
-    page: &mut [u8],
-    texts: &mut [u8],
-    indent: &[u8],
-    sc: &[u64],
-    options: Options,
-    count: u64,
-    i: u64,
-    p: usize,
-    d: usize,
-    rc: RenderContext,
-) -> Run
-    requires { ⌜ Accepted (now s) (now tab) × (length (now b) ≤ 65536) × Ready (now s) (now b) (world (whole rc (now sc)) (now page) (now texts) (now indent) (now ent)) × ((z : ℕ) × Passed (in-body 16 d) (bits (now b)) count i p z) × (length (now sc) ≡ 96) ⌝ }
-    ensures { λ r. ⌜ plain.Run (now (s .entry)) (now (b .entry)) options d count (world (whole rc (now (sc .entry))) (now (page .entry)) (now (texts .entry)) (now (indent .entry)) (now (ent .entry))) (world (kept (whole rc (now (sc .entry))) (r .writer) (r .bad)) (now (page .exit)) (now (texts .exit)) (now (indent .entry)) (now (ent .entry))) i p (r .i) (r .cur) ⌝ }
-{
-    let mut w = rc.writer;
-    let mut k = i;
-    let mut cur = p;
-    while k < count {
-        let q = cur + 16 + 16;
-        let mut next = q;
-        match plain_at(b, q, d) {
-            Plain::Text(n) => {
-                let put = put_text(page, texts, w, b, q + 20, n);
-                if put == 0 {
-                    w = writing::write_packed(page, texts, indent, w, b, q + 20, n);
-                } else {
-                    w = direct::behind(w, n, (put - 1) as u8);
-                }
-                next = q + 20 + 8 * n;
-            }
-            Plain::Path(html, e) => {
-                if html & rc.disable_escape {
-                    return run_of(w, k, cur, 0);
-                }
-                // 0 where it is a helper's, below 255 a refusal, 255 for nothing, else 256 more than the value's number
-                let r = helpers::bare_number(s, tab, b, ent, sc, rc.used, options, q + 6);
-                if r == 0 {
-                    return run_of(w, k, cur, 0);
-                }
-                if r < 255 {
-                    return run_of(w, k, cur, r as u8);
-                }
-                if 255 < r {
-                    let n = (r - 256) as u32;
-                    let put = put_number(page, texts, w, s, tab, n);
-                    if put == 0 {
-                        let escape = !(html | rc.disable_escape);
-                        let v = value::decode(n);
-                        w = writing::write_value(page, texts, indent, w, s, tab, b, v, escape);
-                    } else {
-                        w = direct::behind(w, put / 256, (put % 256) as u8);
-                    }
-                }
-                next = e + 9;
-            }
-            Plain::Other => {
-                return run_of(w, k, cur, 0);
-            }
-        }
-        if w.full {
-            return run_of(w, k, cur, full_number(w));
-        }
-        cur = next;
-        k += 1;
-    }
-    run_of(w, k, cur, 0)
 }

@@ -26,11 +26,11 @@ ghost use Rattle.helping.specs.Decided.{helper-rule};
 ghost use Rattle.drawing.specs.EachLoop.{each-rule};
 ghost use Rattle.drawing.specs.Renders.{body-rule};
 ghost use Rattle.beginning.specs.Opened.{partial-rule};
-ghost use Rattle.plain.specs.Plain.{kept};
 ghost use Rattle.render.specs.Texts.{TextDrawn, TextReady};
 use expand::Options;
 use output::Writer;
 use parts::Maybe;
+use plain::Shown;
 use state::RenderContext;
 use template::Element;
 use turns::Turn;
@@ -42,16 +42,6 @@ fn stopped(b: &[u8], name: usize, p: usize, rc: RenderContext) -> RenderContext
     ensures { λ r. ⌜ ((l : List ℕ) → whole r l ≡ located (whole rc l) name (field (bits (now (b .entry))) 16 p) (field (bits (now (b .entry))) 16 (p + 16))) ⌝ }
 {
     state::located(rc, name, bits::field(b, p, 16), bits::field(b, p + 16, 16))
-}
-
-// The context behind a run of elements.
-fn resumed(rc: RenderContext, w: Writer, bad: u8) -> RenderContext
-    ensures { λ r. ⌜ ((l : List ℕ) → whole r l ≡ kept (whole rc l) w bad) ⌝ }
-{
-    let mut q = rc;
-    q.writer = w;
-    q.bad = bad;
-    q
 }
 
 // The context behind a block.
@@ -90,31 +80,72 @@ fn render_elements(
     let mut cur = body.first;
     let mut i: u64 = 0;
     while i < count {
-        let run = plain::draw_run(
+        let at = cur + 16 + 16;
+        match plain::shown_at(
             s,
             tab,
             b,
             ent,
-            page,
-            texts,
-            indent,
             sc,
             options,
-            count,
-            i,
-            cur,
+            q.used,
+            q.disable_escape,
+            at,
             d - 1,
-            q,
-        );
-        let w = run.writer;
-        q = resumed(q, w, run.bad);
-        cur = run.cur;
-        i = run.i;
-        if q.bad != 0 {
-            return stopped(b, name, cur, q);
-        }
-        if count <= i {
-            return q;
+        ) {
+            Shown::Text(n) => {
+                let put = plain::put_text(page, texts, q.writer, b, at + 20, n);
+                if put == 0 {
+                    let w = writing::write_packed(page, texts, indent, q.writer, b, at + 20, n);
+                    q = state::wrote(q, w);
+                    if q.bad != 0 {
+                        return stopped(b, name, cur, q);
+                    }
+                } else {
+                    let w = direct::behind(q.writer, n, (put - 1) as u8);
+                    q = state::set_writer(q, w);
+                }
+                cur = at + 20 + 8 * n;
+                i += 1;
+                continue;
+            }
+            Shown::Value(v, html, next) => {
+                let put = plain::put_number(page, texts, q.writer, s, tab, v);
+                if put == 0 {
+                    let escape = !(html | q.disable_escape);
+                    let u = value::decode(v);
+                    let w = writing::write_value(
+                        page,
+                        texts,
+                        indent,
+                        q.writer,
+                        s,
+                        tab,
+                        b,
+                        u,
+                        escape,
+                    );
+                    q = state::wrote(q, w);
+                    if q.bad != 0 {
+                        return stopped(b, name, cur, q);
+                    }
+                } else {
+                    let w = direct::behind(q.writer, put / 256, (put % 256) as u8);
+                    q = state::set_writer(q, w);
+                }
+                cur = next;
+                i += 1;
+                continue;
+            }
+            Shown::Nothing(next) => {
+                cur = next;
+                i += 1;
+                continue;
+            }
+            Shown::Bad(n) => {
+                return stopped(b, name, cur, state::failed(q, n));
+            }
+            Shown::Other => {}
         }
         if branches::is_block(b, cur) {
             let t = branches::draw_block(

@@ -35,11 +35,19 @@ use Rattle.state.proofs.finish_named.Reads as finish-named-reads
 use Rattle.state.proofs.finish_within.Reads as finish-within-reads
 use Rattle.state.proofs.pop_block.Reads as pop-block-reads
 use Rattle.template.proofs.body_at.Reads as body-at-reads
-use Rattle.plain.proofs.draw_run.Reads as draw-run-reads
+use Rattle.plain.proofs.shown_at.Reads as shown-at-reads
+use Rattle.plain.proofs.put_text.Reads as put-text-reads
+use Rattle.writing.proofs.write_packed.Reads as write-packed-reads
+use Rattle.state.proofs.wrote.Reads as wrote-reads
+use Rattle.direct.proofs.behind.Reads as moved-reads
+use Rattle.state.proofs.set_writer.Reads as set-writer-reads
+use Rattle.plain.proofs.put_number.Reads as put-number-reads
+use Rattle.value.proofs.decode.Reads as decode-reads
+use Rattle.writing.proofs.write_value.Reads as write-value-reads
+use Rattle.state.proofs.failed.Reads as failed-reads
 use Rattle.branches.proofs.is_block.Reads as is-block-reads
 use Rattle.branches.proofs.draw_block.Reads as draw-block-reads
 use Rattle.render.proofs.behind.Reads as behind-reads
-use Rattle.render.proofs.resumed.Reads as resumed-reads
 use Rattle.render.proofs.stopped.Reads as stopped-reads
 use Rattle.template.proofs.content_at.Reads as content-at-reads
 use Rattle.texts.proofs.finish_partial.Reads as finish-partial-reads
@@ -169,7 +177,7 @@ abbrev pub render-element-claims : ℕ → render-element-lts.Claims
 render-element-claims t = (raw-string-reads.Asked, raw-string-reads.Learnt, render-html-expression-reads.Asked, render-html-expression-reads.Learnt, render-expression-reads.Asked, render-expression-reads.Learnt, render-helper-below t, render-helper.Post, eval-decorator-reads.Asked, eval-decorator-reads.Learnt, render-partial-block-below t, render-partial-block.Post, render-partial-below t, render-partial.Post)
 
 abbrev pub render-elements-claims : ℕ → render-elements-lts.Claims
-render-elements-claims t = (body-at-reads.Asked, body-at-reads.Learnt, draw-run-reads.Asked, draw-run-reads.Learnt, resumed-reads.Asked, resumed-reads.Learnt, stopped-reads.Asked, stopped-reads.Learnt, is-block-reads.Asked, is-block-reads.Learnt, draw-block-reads.Asked, draw-block-reads.Learnt, behind-reads.Asked, behind-reads.Learnt, content-at-reads.Asked, content-at-reads.Learnt, render-element-below t, render-element.Post)
+render-elements-claims t = (body-at-reads.Asked, body-at-reads.Learnt, shown-at-reads.Asked, shown-at-reads.Learnt, put-text-reads.Asked, put-text-reads.Learnt, write-packed-reads.Asked, write-packed-reads.Learnt, wrote-reads.Asked, wrote-reads.Learnt, stopped-reads.Asked, stopped-reads.Learnt, moved-reads.Asked, moved-reads.Learnt, set-writer-reads.Asked, set-writer-reads.Learnt, put-number-reads.Asked, put-number-reads.Learnt, decode-reads.Asked, decode-reads.Learnt, write-value-reads.Asked, write-value-reads.Learnt, failed-reads.Asked, failed-reads.Learnt, is-block-reads.Asked, is-block-reads.Learnt, draw-block-reads.Asked, draw-block-reads.Learnt, behind-reads.Asked, behind-reads.Learnt, content-at-reads.Asked, content-at-reads.Learnt, render-element-below t, render-element.Post)
 
 abbrev pub render-helper-claims : ℕ → render-helper-lts.Claims
 render-helper-claims t = (begin-reads′.Asked, begin-reads′.Learnt, render-elements-below t, render-elements.Post, finish-reads.Asked, finish-reads.Learnt, finish-within-reads.Asked, finish-within-reads.Learnt, render-turns-below t, render-turns.Post)
