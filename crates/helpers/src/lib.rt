@@ -447,8 +447,8 @@ pub fn bare_number(
     255 + found
 }
 
-// The same as an enum, for calls that are not a path alone at the first sight. (By itself, so that `bare_number` is called from one place only and becomes a part of
-// the loop over a body.)
+// The same as an enum, for the long way. (It works by itself, so that `bare_number` is called from one place only: then the compiler makes that a part of the loop over
+// a body.)
 fn bare_path(
     s: &[u8],
     tab: &[u64],

@@ -55,6 +55,8 @@ fn behind(rc: RenderContext, w: Writer, template: usize) -> RenderContext
 }
 
 // A body, or all of a template whose name stands at the place before name; 0 where it has none.
+// (How a text or a value is stored is written out here: a function that gave the writer or the context back would have it copied for each element, which takes a
+// tenth of a sheet's time.)
 fn render_elements(
     s: &[u8],
     tab: &[u64],
