@@ -10,12 +10,10 @@ use Rattle.rules.specs.Bits.{Bits}
 use Rattle.rules.specs.Layout.{Layout, num, _then_, shaped, dec-all, counted, tagged}
 use Rattle.rules.specs.Bundle.{string, flag, call-of, param, block-names, maybe-out, maybe-make, maybe-body, indent, Tail, element-out, element-make}
 use Rattle.rules.specs.Bundle.{element-of, Placed, body-out, body-make, placed, body, call-context, maybe-context, element-context, body-context}
-use Rattle.layout.specs.Walk.{from, past, unmarked, after, number-at, ahead}
+use Rattle.layout.specs.Walk.{Place, At, Broken, from, past, unmarked, after, number-at, ahead}
 use Rattle.layout.specs.WalkLaws.{or-false, past-shaped, past-ext, past-then, after-num, counted-is, kind-is, kind-stays, kind-none}
 use Rattle.layout.specs.Arms.{option-kinds, option-1, written, block, bodiless, bodied, element-kinds}
 use Rattle.layout.specs.Arms.{element-0, element-1, element-2, element-3, element-4, element-5, element-6, element-7, element-8}
-use Rattle.layout.specs.declared.Place.{Place}
-use Rattle.layout.specs.declared.Place.the-variants.{At, Broken}
 
 -- A bit, and a body if it is 1
 

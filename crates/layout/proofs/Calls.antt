@@ -15,13 +15,11 @@ use Rattle.rules.specs.Layout.{Read, read, broken, onward, Layout, field, num, 
 use Rattle.rules.specs.LayoutLaws.{not-read, onward-was, mapped-was, pick-was, shaped-was, tagged-was}
 use Rattle.rules.specs.Bundle.{string, path, literal, params-make, ascend-from, ascending, params, pairs, CallShape, call-out, call-make, call-of}
 use Rattle.rules.specs.Bundle.{ParamShape, param-out, param-make, param, name-or-path, params-context, call-context}
-use Rattle.layout.specs.Walk.{next, from, past, unmarked, after, number-at, ahead, marked}
+use Rattle.layout.specs.Walk.{Place, At, Broken, next, from, past, unmarked, after, number-at, ahead, marked}
 use Rattle.layout.specs.WalkLaws.{or-false, past-shaped, past-ext, past-then, headed, counted-is, Arm, kind-is, kind-none}
 use Rattle.layout.specs.Arms.{param-kinds, param-0, param-1, param-2, param-3}
 use Rattle.layout.specs.Text.{text-at}
 use Rattle.layout.specs.Names.{key-before, key-ok}
-use Rattle.layout.specs.declared.Place.{Place}
-use Rattle.layout.specs.declared.Place.the-variants.{At, Broken}
 use Rattle.layout.proofs.Entries.{entries, entry-start, entry-broken, entry-end, entry-none, entry-bad, entry-again}
 
 -- Parameters, at a depth that is left

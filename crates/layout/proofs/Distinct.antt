@@ -15,12 +15,10 @@ use Rattle.rules.specs.Bits.{Bits}
 use Rattle.rules.specs.Layout.{Read, read, broken, onward, Layout, dec-all}
 use Rattle.rules.specs.LayoutLaws.{more-was}
 use Rattle.rules.specs.Bundle.{string, body, among, distinct, templates-allowed, template, templates, body-context, partial-context}
-use Rattle.layout.specs.Walk.{next, from, past, after, number-at, ahead}
+use Rattle.layout.specs.Walk.{Place, At, Broken, next, from, past, after, number-at, ahead}
 use Rattle.layout.specs.WalkLaws.{headed}
 use Rattle.layout.specs.Text.{text-at}
 use Rattle.layout.specs.Names.{seen-at}
-use Rattle.layout.specs.declared.Place.{Place}
-use Rattle.layout.specs.declared.Place.the-variants.{At, Broken}
 use Rattle.layout.proofs.Entries.{entries, entry-start, entry-broken, entry-end, entry-none, entry-bad, entry-again}
 
 -- n templates from a place on, the names seen before them

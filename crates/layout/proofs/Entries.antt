@@ -8,11 +8,9 @@ use Rattle.rules.specs.Bytes.{Bytes, pick}
 use Rattle.rules.specs.Bits.{Bits}
 use Rattle.rules.specs.Layout.{Read, read, broken, onward, Layout, _then_, dec-all}
 use Rattle.rules.specs.Bundle.{string}
-use Rattle.layout.specs.Walk.{next, from, past, unmarked, after}
+use Rattle.layout.specs.Walk.{Place, At, Broken, next, from, past, unmarked, after}
 use Rattle.layout.specs.WalkLaws.{or-swap, next-at}
 use Rattle.layout.specs.Text.{text-at, string-was}
-use Rattle.layout.specs.declared.Place.{Place}
-use Rattle.layout.specs.declared.Place.the-variants.{At, Broken}
 
 broken-either : (t : Bool) → Broken ≡ pick t Broken Broken
 broken-either true = refl

@@ -1,5 +1,5 @@
 -- What each function of this crate does, as a law of the layout that it checks.
-use Prim.Native.Nat.{ℕ, zero, suc, _+_, _-_, _*_, _≤_, _<_}
+use Prim.Native.Nat.{ℕ, zero, suc, _+_, _-_, _*_, _/_, _%_, _≤_, _<_}
 use mathlib.Core.Bool.{Bool, true, false}
 use mathlib.Core.List.{List, [], _∷_}
 use mathlib.Core.Logic.{inl, inr}
@@ -20,28 +20,38 @@ use Rattle.rules.specs.LayoutLaws.{Binary}
 use Rattle.bits.specs.Packed.{bytes-at, number-bytes}
 use Rattle.utf8.specs.Machine.{after as fed}
 use Rattle.layout.specs.Ascii.{follows-run}
-use Rattle.layout.specs.Walk.{next, from, past, unmarked, after, number-at, ahead, marked}
-use Rattle.layout.specs.WalkLaws.{past-shaped, past-then, headed, after-num, ahead-in, kind-is, kind-stays, kind-none}
+use Rattle.layout.specs.Walk.{Place, At, Broken, place-by, next, from, past, unmarked, after, number-at, ahead, marked}
+use Rattle.layout.specs.WalkLaws.{place-none, place-some, place-same, past-shaped, past-then, headed, after-num, ahead-in, kind-is, kind-stays, kind-none}
 use Rattle.layout.specs.Text.{bytes-read, bytes-broken}
 use Rattle.layout.specs.Arms.{seg-kinds, seg-0, path-kinds, path-0, path-1, literal-kinds, literal-3, literal-4, literal-5}
 use Rattle.layout.specs.Arms.{names-kinds, names-1, names-2, option-kinds, option-1}
-use Rattle.layout.specs.declared.Place.{Place}
-use Rattle.layout.specs.declared.Place.the-variants.{At, Broken}
 
--- Places
+-- Places, by their numbers
 
-module _ (s : Bytes) (p : Place) (at : ℕ) (m : Bool) (e : p ≡ At at m) where
-  pub number-is : (w r : ℕ) → r ≡ field (bits s) w at → r ≡ number-at (bits s) w p
-  number-is w r h = rw e h
+module _ (p : ℕ) (h : p < 2) where
+  pub number-none : (b : Bits) (w : ℕ) → 0 ≡ number-at b w (place-by p)
+  number-none b w = rw (place-none p h)
 
-  pub ahead-far : (n : ℕ) → 8 * length s < at + n → Broken ≡ ahead (bits s) n p
-  ahead-far n h = rw (e, lt-leb (at + n) (bits s .size) (omega (arith, bits-size s)))
+  pub ahead-none : (b : Bits) (n : ℕ) → Broken ≡ ahead b n (place-by p)
+  ahead-none b n = rw (place-none p h)
 
-  pub ahead-near : (n : ℕ) → at + n ≤ 8 * length s → At (at + n) m ≡ ahead (bits s) n p
-  ahead-near n h = rw (e, le-leb (at + n) (bits s .size) (omega (arith, bits-size s)))
+  pub marked-none : Broken ≡ marked (place-by p)
+  marked-none = rw (place-none p h)
 
-  pub marked-is : At at true ≡ marked p
-  marked-is = rw e
+module _ (p : ℕ) (h : 2 ≤ p) where
+  pub number-is : (s : Bytes) (w r : ℕ) → r ≡ field (bits s) w (p / 2 - 1) → r ≡ number-at (bits s) w (place-by p)
+  number-is s w r e = rw (place-some p h) e
+
+  pub ahead-far : (s : Bytes) (n : ℕ) → 8 * length s < p / 2 - 1 + n → Broken ≡ ahead (bits s) n (place-by p)
+  ahead-far s n l = rw (place-some p h, lt-leb (p / 2 - 1 + n) (bits s .size) (omega (arith, bits-size s)))
+
+  pub ahead-near : (s : Bytes) (n : ℕ) → p / 2 - 1 + n ≤ 8 * length s → place-by (p + 2 * n) ≡ ahead (bits s) n (place-by p)
+  ahead-near s n l =
+      rw (place-some p h, le-leb (p / 2 - 1 + n) (bits s .size) (omega (arith, bits-size s)))
+      (place-same (p + 2 * n) (p / 2 - 1 + n) (p % 2) (omega arith) (omega arith) (omega arith))
+
+  pub marked-is : place-by (p - p % 2 + 1) ≡ marked (place-by p)
+  marked-is = rw (place-some p h) (place-same (p - p % 2 + 1) (p / 2 - 1) 1 (omega arith) (omega arith) (omega arith))
 
 pub flag-is : (b : Bits) (p : Place) → ahead b 1 p ≡ after flag b p
 flag-is b p = sym (past-shaped unmarked flag-out flag-make (num 1) b p ∙ after-num 1 b p)

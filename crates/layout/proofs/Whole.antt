@@ -14,11 +14,9 @@ use Rattle.rules.specs.Bits.{Bits, bits}
 use Rattle.rules.specs.Layout.{Read, read, broken, onward, field, num, tested}
 use Rattle.rules.specs.Bundle.{templates, versioned, ends, whole, bundle-of, bundle, partial-context}
 use Rattle.rules.specs.BundleLaws.{bits-size, bundle-is}
-use Rattle.layout.specs.Walk.{next, from, past, unmarked, after, number-at, ahead}
+use Rattle.layout.specs.Walk.{Place, At, Broken, next, from, past, unmarked, after, number-at, ahead}
 use Rattle.layout.specs.WalkLaws.{or-false, next-at, past-then, headed}
 use Rattle.layout.specs.Verdict.{read-verdict, verdict}
-use Rattle.layout.specs.declared.Place.{Place}
-use Rattle.layout.specs.declared.Place.the-variants.{At, Broken}
 use Rattle.layout.specs.declared.Verdict.{Verdict}
 use Rattle.layout.specs.declared.Verdict.the-variants.{Accepted, TooLong, BadLayout, PartialContext}
 

@@ -11,9 +11,7 @@ use lib.Seq.{getD-set-same, getD-set-other}
 use borrow.Author.Tests.{eqb-true, eqb-false}
 use Rattle.rules.specs.Bits.{Bits}
 use Rattle.rules.specs.Bundle.{string, body, body-context}
-use Rattle.layout.specs.Walk.{past, after, ahead, number-at}
-use Rattle.layout.specs.declared.Place.{Place}
-use Rattle.layout.specs.declared.Place.the-variants.{At, Broken}
+use Rattle.layout.specs.Walk.{Place, At, Broken, past, after, ahead, number-at}
 
 -- the place of the template k, where p is that of the first one
 unfoldable pub template-place : ℕ → Bits → Place → ℕ → Place

@@ -1,13 +1,22 @@
 -- The places that the code goes through. `past f c b p` is the place behind what the layout c finds at the place p; its mark is set
 -- where it was set before, or where f says so of what was found. `after c b p` sets no mark.
-use Prim.Native.Nat.{ℕ, _+_}
+use Prim.Native.Nat.{ℕ, zero, suc, _+_, _/_, _%_}
 use mathlib.Core.Bool.{Bool, true, false, _||_}
-use lib.Dec.{leb}
+use lib.Dec.{leb, eqb}
 use Rattle.rules.specs.Bytes.{pick}
 use Rattle.rules.specs.Bits.{Bits}
 use Rattle.rules.specs.Layout.{Read, read, broken, Layout, field}
-use Rattle.layout.specs.declared.Place.{Place}
-use Rattle.layout.specs.declared.Place.the-variants.{At, Broken}
+
+-- a bit, and whether a partial with a context stands before it; or that the layout is broken
+pub data Place : Type 0 where
+  At : ℕ → Bool → Place
+  Broken : Place
+
+-- the place that a number of the code stands for
+abbrev pub place-by : ℕ → Place
+place-by zero = Broken
+place-by (suc zero) = Broken
+place-by (suc (suc n)) = At (n / 2) (eqb (n % 2) 1)
 
 -- what was read, where s is the mark before it
 abbrev pub next : {A : Type 0} → (A → Bool) → Bool → Read A → Place

@@ -1,11 +1,11 @@
 -- The place behind a layout, from the places behind its parts: one law for each way to build a layout.
-use Prim.Native.Nat.{ℕ, zero, suc, _+_, _-_, _^_, _≤_, _<_}
+use Prim.Native.Nat.{ℕ, zero, suc, _+_, _-_, _/_, _%_, _^_, _≤_, _<_}
 use mathlib.Core.Bool.{Bool, true, false, _||_}
 use mathlib.Core.List.{List, [], _∷_}
 use mathlib.Core.Logic.{_⊎_, inl, inr}
 use mathlib.Core.Path.{_≡_, refl, sym, ap, _∙_}
 use native.Mathlib.Omega.{arith}
-use lib.Dec.{leb}
+use lib.Dec.{leb, eqb}
 use lib.Pow.{pow-pos}
 use borrow.Author.Tests.{leb-true}
 use Rattle.rules.specs.Bytes.{Bytes, pick}
@@ -13,9 +13,7 @@ use Rattle.rules.specs.Bits.{Bits, bits}
 use Rattle.rules.specs.Layout.{Read, read, broken, onward, Layout, field, num, _then_, shaped, dec-all, counted, Choice, _or_, tagged}
 use Rattle.rules.specs.LayoutLaws.{field-lt}
 use Rattle.rules.specs.BundleLaws.{bits-binary}
-use Rattle.layout.specs.Walk.{next, from, past, unmarked, after, number-at, ahead}
-use Rattle.layout.specs.declared.Place.{Place}
-use Rattle.layout.specs.declared.Place.the-variants.{At, Broken}
+use Rattle.layout.specs.Walk.{Place, At, Broken, place-by, next, from, past, unmarked, after, number-at, ahead}
 
 -- Truth values
 
@@ -28,6 +26,25 @@ or-swap false false s = refl
 pub or-false : (t : Bool) → t ≡ (t || false)
 or-false true = refl
 or-false false = refl
+
+-- Places by their numbers
+
+pub place-none : (n : ℕ) → n < 2 → place-by n ≡ Broken
+place-none zero h = refl
+place-none (suc zero) h = refl
+place-none (suc (suc n)) h = absurd (omega arith)
+
+pub place-some : (n : ℕ) → 2 ≤ n → place-by n ≡ At (n / 2 - 1) (eqb (n % 2) 1)
+place-some zero h = absurd (omega arith)
+place-some (suc zero) h = absurd (omega arith)
+place-some (suc (suc n)) h =
+    let e : n / 2 ≡ suc (suc n) / 2 - 1 = omega arith in
+    let f : n % 2 ≡ suc (suc n) % 2 = omega arith in
+    ap (λ (k : ℕ). At k (eqb (n % 2) 1)) e ∙ ap (λ (k : ℕ). At (suc (suc n) / 2 - 1) (eqb k 1)) f
+
+-- a number of the same bit and mark
+pub place-same : (n at m : ℕ) → 2 ≤ n → n / 2 - 1 ≡ at → n % 2 ≡ m → place-by n ≡ At at (eqb m 1)
+place-same n at m h e f = place-some n h ∙ ap (λ (k : ℕ). At k (eqb (n % 2) 1)) e ∙ ap (λ (k : ℕ). At at (eqb k 1)) f
 
 -- What was read
 

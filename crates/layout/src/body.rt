@@ -4,15 +4,14 @@ ghost use Prim.Native.Nat.{_≤_};
 ghost use lib.ListN.{length};
 ghost use Rattle.rules.specs.Bits.{bits};
 ghost use Rattle.rules.specs.Bundle.{param, call-of, maybe-body, element-of, body, maybe-context, element-context, body-context};
-ghost use Rattle.layout.specs.Walk.{past};
+ghost use Rattle.layout.specs.Walk.{place-by, past};
 use super::call;
 use super::part;
-use crate::Place;
 
 // A bit, and a body if it is 1.
-fn maybe_body(b: &[u8], p: Place, w: usize, d: usize) -> Place
+fn maybe_body(b: &[u8], p: usize, w: usize, d: usize) -> usize
     requires { ⌜ length (now b) ≤ 65536 ⌝ }
-    ensures { λ r. ⌜ r ≡ past maybe-context (maybe-body (body w d)) (bits (now (b .entry))) p ⌝ }
+    ensures { λ r. ⌜ place-by r ≡ past maybe-context (maybe-body (body w d)) (bits (now (b .entry))) (place-by p) ⌝ }
 {
     let k = part::number(b, p, 1);
     let q = part::ahead(b, p, 1);
@@ -22,13 +21,13 @@ fn maybe_body(b: &[u8], p: Place, w: usize, d: usize) -> Place
     if k == 1 {
         return body(b, q, w, d);
     }
-    Place::Broken
+    0
 }
 
 // Kind (4) and what it holds; d depths are left for parameters and bodies in it.
-fn element(b: &[u8], p: Place, w: usize, d: usize) -> Place
+fn element(b: &[u8], p: usize, w: usize, d: usize) -> usize
     requires { ⌜ length (now b) ≤ 65536 ⌝ }
-    ensures { λ r. ⌜ r ≡ past element-context (element-of (call-of (param d)) (body w d)) (bits (now (b .entry))) p ⌝ }
+    ensures { λ r. ⌜ place-by r ≡ past element-context (element-of (call-of (param d)) (body w d)) (bits (now (b .entry))) (place-by p) ⌝ }
 {
     let k = part::number(b, p, 4);
     let q = part::ahead(b, p, 4);
@@ -62,16 +61,16 @@ fn element(b: &[u8], p: Place, w: usize, d: usize) -> Place
     if k == 8 {
         return part::string(b, q);
     }
-    Place::Broken
+    0
 }
 
 // Body: element count (12), each: line (w), column (w), element; d depths are left, its own included.
-pub fn body(b: &[u8], p: Place, w: usize, d: usize) -> Place
+pub fn body(b: &[u8], p: usize, w: usize, d: usize) -> usize
     requires { ⌜ length (now b) ≤ 65536 ⌝ }
-    ensures { λ r. ⌜ r ≡ past body-context (body w d) (bits (now (b .entry))) p ⌝ }
+    ensures { λ r. ⌜ place-by r ≡ past body-context (body w d) (bits (now (b .entry))) (place-by p) ⌝ }
 {
     if d == 0 {
-        return Place::Broken;
+        return 0;
     }
     let n = part::number(b, p, 12);
     let mut cur = part::ahead(b, p, 12);

@@ -4,11 +4,10 @@ ghost use Prim.Native.Nat.{_≤_};
 ghost use lib.ListN.{length};
 ghost use Rattle.rules.specs.Bits.{bits};
 ghost use Rattle.rules.specs.Bundle.{param, params, pairs, call-of, call-context};
-ghost use Rattle.layout.specs.Walk.{after, past};
+ghost use Rattle.layout.specs.Walk.{place-by, after, past};
 ghost use Rattle.layout.specs.Text.{text-at};
 ghost use Rattle.layout.specs.Names.{key-before, key-ok};
 use super::part;
-use crate::Place;
 
 // Whether the key at the bit at may follow the one at prev, where i keys stand before it.
 fn may_follow(b: &[u8], i: usize, prev: usize, at: usize) -> bool
@@ -24,12 +23,12 @@ fn may_follow(b: &[u8], i: usize, prev: usize, at: usize) -> bool
 }
 
 // Parameter (2): 0 Name, 1 Path, 2 Literal, 3 Subexpression; d depths are left, its own included.
-pub fn param(b: &[u8], p: Place, d: usize) -> Place
+pub fn param(b: &[u8], p: usize, d: usize) -> usize
     requires { ⌜ length (now b) ≤ 65536 ⌝ }
-    ensures { λ r. ⌜ r ≡ after (param d) (bits (now (b .entry))) p ⌝ }
+    ensures { λ r. ⌜ place-by r ≡ after (param d) (bits (now (b .entry))) (place-by p) ⌝ }
 {
     if d == 0 {
-        return Place::Broken;
+        return 0;
     }
     let k = part::number(b, p, 2);
     let q = part::ahead(b, p, 2);
@@ -45,13 +44,13 @@ pub fn param(b: &[u8], p: Place, d: usize) -> Place
     if k == 3 {
         return call(b, q, d - 1);
     }
-    Place::Broken
+    0
 }
 
 // Count (4) and parameters.
-fn params(b: &[u8], p: Place, d: usize) -> Place
+fn params(b: &[u8], p: usize, d: usize) -> usize
     requires { ⌜ length (now b) ≤ 65536 ⌝ }
-    ensures { λ r. ⌜ r ≡ after (params (param d)) (bits (now (b .entry))) p ⌝ }
+    ensures { λ r. ⌜ place-by r ≡ after (params (param d)) (bits (now (b .entry))) (place-by p) ⌝ }
 {
     let n = part::number(b, p, 4);
     let mut cur = part::ahead(b, p, 4);
@@ -64,24 +63,25 @@ fn params(b: &[u8], p: Place, d: usize) -> Place
 }
 
 // Count (4) and hash pairs, keys strictly ascending by bytes.
-fn pairs(b: &[u8], p: Place, d: usize) -> Place
+fn pairs(b: &[u8], p: usize, d: usize) -> usize
     requires { ⌜ length (now b) ≤ 65536 ⌝ }
-    ensures { λ r. ⌜ r ≡ after (pairs (param d)) (bits (now (b .entry))) p ⌝ }
+    ensures { λ r. ⌜ place-by r ≡ after (pairs (param d)) (bits (now (b .entry))) (place-by p) ⌝ }
 {
     let n = part::number(b, p, 4);
     let mut cur = part::ahead(b, p, 4);
     let mut prev: usize = 0;
     let mut i: usize = 0;
     while i < n {
-        let Place::At(at, _) = cur else {
-            return Place::Broken;
-        };
+        if cur < 2 {
+            return 0;
+        }
+        let at = cur / 2 - 1;
         let value = part::string(b, cur);
-        let Place::At(_, _) = value else {
-            return Place::Broken;
-        };
+        if value < 2 {
+            return 0;
+        }
         if !may_follow(b, i, prev, at) {
-            return Place::Broken;
+            return 0;
         }
         prev = at;
         cur = param(b, value, d);
@@ -91,17 +91,17 @@ fn pairs(b: &[u8], p: Place, d: usize) -> Place
 }
 
 // Call: name (a parameter), parameters, hash pairs.
-pub fn call(b: &[u8], p: Place, d: usize) -> Place
+pub fn call(b: &[u8], p: usize, d: usize) -> usize
     requires { ⌜ length (now b) ≤ 65536 ⌝ }
-    ensures { λ r. ⌜ r ≡ after (call-of (param d)) (bits (now (b .entry))) p ⌝ }
+    ensures { λ r. ⌜ place-by r ≡ after (call-of (param d)) (bits (now (b .entry))) (place-by p) ⌝ }
 {
     pairs(b, params(b, param(b, p, d), d), d)
 }
 
 // A partial's call. The mark is set where its first parameter is a Name or Path (check 4).
-pub fn partial_call(b: &[u8], p: Place, d: usize) -> Place
+pub fn partial_call(b: &[u8], p: usize, d: usize) -> usize
     requires { ⌜ length (now b) ≤ 65536 ⌝ }
-    ensures { λ r. ⌜ r ≡ past call-context (call-of (param d)) (bits (now (b .entry))) p ⌝ }
+    ensures { λ r. ⌜ place-by r ≡ past call-context (call-of (param d)) (bits (now (b .entry))) (place-by p) ⌝ }
 {
     let q = param(b, p, d);
     let end = pairs(b, params(b, q, d), d);

@@ -1,6 +1,8 @@
 // Checks 2, 3 and 4 of a bundle, in one walk from its first bit to its last.
 // A place is a bit of the bundle, with a mark that check 4 sets, or that the layout is broken. Each function below takes the place
 // before a part and gives the place behind it; a broken place stays broken, so that a row of parts is a row of calls.
+// It goes from call to call as one number: twice the bit, two more, and one for the mark; below 2 it is broken. (An enum would be stored
+// in pieces and read back whole at each call, and the load would wait for the stores.)
 // They all require what check 2 has found: at most 65,536 bytes.
 ghost use mathlib.Core.Bool.{Bool};
 ghost use mathlib.Core.Path.{_≡_};
@@ -9,9 +11,8 @@ ghost use lib.ListN.{length, getD, replicate};
 ghost use Rattle.rules.specs.Bytes.{same};
 ghost use Rattle.rules.specs.Bits.{bits};
 ghost use Rattle.rules.specs.Bundle.{among, templates, partial-context};
-ghost use Rattle.layout.specs.Walk.{past, ahead, number-at};
+ghost use Rattle.layout.specs.Walk.{At, place-by, past, ahead, number-at};
 ghost use Rattle.layout.specs.Listed.{Listed, BundleListed};
-ghost use Rattle.layout.specs.declared.Place.the-variants.{At};
 ghost use Rattle.layout.specs.declared.Verdict.the-variants.{Accepted};
 ghost use Rattle.layout.specs.Text.{text-at};
 ghost use Rattle.layout.specs.Names.{seen-at};
@@ -21,11 +22,8 @@ mod body;
 mod call;
 mod part;
 
-pub enum Place {
-    // the bit, and whether a partial with a context stands before it
-    At(usize, bool),
-    Broken,
-}
+// The number of the first bit, without the mark.
+const START: usize = 2;
 
 // Whether the strings at the bits p and q are the same bytes.
 pub fn same_text(b: &[u8], p: usize, q: usize) -> bool
@@ -53,30 +51,31 @@ fn known(b: &[u8], places: &[u32], n: usize, at: usize) -> bool
 }
 
 // Template count 1 to 64 (8), each: name, body; names distinct. Fills in the place of each, and zeroes the rest.
-fn templates(b: &[u8], p: Place, w: usize, places: &mut [u32]) -> Place
+fn templates(b: &[u8], p: usize, w: usize, places: &mut [u32]) -> usize
     requires { ⌜ (length (now b) ≤ 65536) × (64 ≤ length (now places)) ⌝ }
-    ensures { λ r. ⌜ (r ≡ past partial-context (templates w) (bits (now (b .entry))) p) × (length (now (places .exit)) ≡ length (now (places .entry))) × ((q : ℕ) (m : Bool) → r ≡ At q m → Listed w (bits (now (b .entry))) (ahead (bits (now (b .entry))) 8 p) (number-at (bits (now (b .entry))) 8 p) (now (places .exit))) ⌝ }
+    ensures { λ r. ⌜ (place-by r ≡ past partial-context (templates w) (bits (now (b .entry))) (place-by p)) × (length (now (places .exit)) ≡ length (now (places .entry))) × ((q : ℕ) (m : Bool) → place-by r ≡ At q m → Listed w (bits (now (b .entry))) (ahead (bits (now (b .entry))) 8 (place-by p)) (number-at (bits (now (b .entry))) 8 (place-by p)) (now (places .exit))) ⌝ }
 {
     let n = part::number(b, p, 8);
     if n < 1 {
-        return Place::Broken;
+        return 0;
     }
     if 64 < n {
-        return Place::Broken;
+        return 0;
     }
     clear::clear_u32(places);
     let mut cur = part::ahead(b, p, 8);
     let mut i: usize = 0;
     while i < n {
-        let Place::At(at, _) = cur else {
-            return Place::Broken;
-        };
+        if cur < 2 {
+            return 0;
+        }
+        let at = cur / 2 - 1;
         let template = part::string(b, cur);
-        let Place::At(_, _) = template else {
-            return Place::Broken;
-        };
+        if template < 2 {
+            return 0;
+        }
         if known(b, places, i, at) {
-            return Place::Broken;
+            return 0;
         }
         places[i] = at as u32;
         cur = body::body(b, template, w, 16);
@@ -101,13 +100,14 @@ fn checked(b: &[u8], places: &mut [u32]) -> Verdict
     if 65536 < b.len() {
         return Verdict::TooLong;
     }
-    let start = Place::At(0, false);
-    if part::number(b, start, 8) != 1 {
+    if part::number(b, START, 8) != 1 {
         return Verdict::BadLayout;
     }
-    let Place::At(at, context) = templates(b, part::ahead(b, start, 8), 16, places) else {
+    let last = templates(b, part::ahead(b, START, 8), 16, places);
+    if last < 2 {
         return Verdict::BadLayout;
-    };
+    }
+    let at = last / 2 - 1;
     let end = 8 * b.len();
     if end < at {
         return Verdict::BadLayout;
@@ -119,7 +119,7 @@ fn checked(b: &[u8], places: &mut [u32]) -> Verdict
     if bits::field(b, at, left) != 0 {
         return Verdict::BadLayout;
     }
-    if context {
+    if last % 2 == 1 {
         return Verdict::PartialContext;
     }
     Verdict::Accepted

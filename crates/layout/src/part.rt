@@ -8,53 +8,52 @@ ghost use Rattle.rules.specs.Layout.{_then_};
 ghost use Rattle.rules.specs.Bundle.{string, flag, seg, segs, level, path, below-zero, literal, block-names, indent};
 ghost use Rattle.bits.specs.Packed.{bytes-at, number-bytes};
 ghost use Rattle.utf8.specs.Machine.{wanted, after as fed};
-ghost use Rattle.layout.specs.Walk.{after, number-at, ahead, marked};
+ghost use Rattle.layout.specs.Walk.{place-by, after, number-at, ahead, marked};
 ghost use Rattle.layout.specs.Ascii.{ascii};
-use crate::Place;
 
 // The w bits at p as a number, those past the end as 0.
-pub fn number(b: &[u8], p: Place, w: usize) -> usize
+pub fn number(b: &[u8], p: usize, w: usize) -> usize
     requires { ⌜ w ≤ 64 ⌝ }
-    ensures { λ r. ⌜ r ≡ number-at (bits (now (b .entry))) w p ⌝ }
+    ensures { λ r. ⌜ r ≡ number-at (bits (now (b .entry))) w (place-by p) ⌝ }
 {
-    let Place::At(at, _) = p else {
+    if p < 2 {
         return 0;
-    };
-    bits::field(b, at, w) as usize
+    }
+    bits::field(b, p / 2 - 1, w) as usize
 }
 
 // The place n bits on.
-pub fn ahead(b: &[u8], p: Place, n: usize) -> Place
+pub fn ahead(b: &[u8], p: usize, n: usize) -> usize
     requires { ⌜ length (now b) ≤ 65536 ⌝ }
-    ensures { λ r. ⌜ r ≡ ahead (bits (now (b .entry))) n p ⌝ }
+    ensures { λ r. ⌜ place-by r ≡ ahead (bits (now (b .entry))) n (place-by p) ⌝ }
 {
-    let Place::At(at, mark) = p else {
-        return Place::Broken;
-    };
+    if p < 2 {
+        return 0;
+    }
     let end = 8 * b.len();
     if end < n {
-        return Place::Broken;
+        return 0;
     }
-    if end - n < at {
-        return Place::Broken;
+    if end - n < p / 2 - 1 {
+        return 0;
     }
-    Place::At(at + n, mark)
+    p + 2 * n
 }
 
 // The same place with the mark set.
-pub fn marked(p: Place) -> Place
-    ensures { λ r. ⌜ r ≡ marked p ⌝ }
+pub fn marked(p: usize) -> usize
+    ensures { λ r. ⌜ place-by r ≡ marked (place-by p) ⌝ }
 {
-    let Place::At(at, _) = p else {
-        return Place::Broken;
-    };
-    Place::At(at, true)
+    if p < 2 {
+        return 0;
+    }
+    p - p % 2 + 1
 }
 
 // A bit.
-pub fn flag(b: &[u8], p: Place) -> Place
+pub fn flag(b: &[u8], p: usize) -> usize
     requires { ⌜ length (now b) ≤ 65536 ⌝ }
-    ensures { λ r. ⌜ r ≡ after flag (bits (now (b .entry))) p ⌝ }
+    ensures { λ r. ⌜ place-by r ≡ after flag (bits (now (b .entry))) (place-by p) ⌝ }
 {
     ahead(b, p, 1)
 }
@@ -131,25 +130,25 @@ fn utf8_at(b: &[u8], at: usize, n: usize) -> bool
 }
 
 // String: byte count (16), UTF-8 bytes.
-pub fn string(b: &[u8], p: Place) -> Place
+pub fn string(b: &[u8], p: usize) -> usize
     requires { ⌜ length (now b) ≤ 65536 ⌝ }
-    ensures { λ r. ⌜ r ≡ after string (bits (now (b .entry))) p ⌝ }
+    ensures { λ r. ⌜ place-by r ≡ after string (bits (now (b .entry))) (place-by p) ⌝ }
 {
     let n = number(b, p, 16);
     let q = ahead(b, p, 16);
-    let Place::At(at, _) = q else {
-        return Place::Broken;
-    };
-    if utf8_at(b, at, n) {
+    if q < 2 {
+        return 0;
+    }
+    if utf8_at(b, q / 2 - 1, n) {
         return ahead(b, q, 8 * n);
     }
-    Place::Broken
+    0
 }
 
 // Segment (2): 0 Named string, 1 root, 2 up.
-fn segment(b: &[u8], p: Place) -> Place
+fn segment(b: &[u8], p: usize) -> usize
     requires { ⌜ length (now b) ≤ 65536 ⌝ }
-    ensures { λ r. ⌜ r ≡ after seg (bits (now (b .entry))) p ⌝ }
+    ensures { λ r. ⌜ place-by r ≡ after seg (bits (now (b .entry))) (place-by p) ⌝ }
 {
     let k = number(b, p, 2);
     let q = ahead(b, p, 2);
@@ -159,13 +158,13 @@ fn segment(b: &[u8], p: Place) -> Place
     if k <= 2 {
         return q;
     }
-    Place::Broken
+    0
 }
 
 // Segment count (8) and segments.
-fn segments(b: &[u8], p: Place) -> Place
+fn segments(b: &[u8], p: usize) -> usize
     requires { ⌜ length (now b) ≤ 65536 ⌝ }
-    ensures { λ r. ⌜ r ≡ after segs (bits (now (b .entry))) p ⌝ }
+    ensures { λ r. ⌜ place-by r ≡ after segs (bits (now (b .entry))) (place-by p) ⌝ }
 {
     let n = number(b, p, 8);
     let mut cur = ahead(b, p, 8);
@@ -178,17 +177,17 @@ fn segments(b: &[u8], p: Place) -> Place
 }
 
 // Level (8), name.
-fn level(b: &[u8], p: Place) -> Place
+fn level(b: &[u8], p: usize) -> usize
     requires { ⌜ length (now b) ≤ 65536 ⌝ }
-    ensures { λ r. ⌜ r ≡ after level (bits (now (b .entry))) p ⌝ }
+    ensures { λ r. ⌜ place-by r ≡ after level (bits (now (b .entry))) (place-by p) ⌝ }
 {
     string(b, ahead(b, p, 8))
 }
 
 // Path: raw string, local bit; if 1: level and name; if 0: segments.
-pub fn path(b: &[u8], p: Place) -> Place
+pub fn path(b: &[u8], p: usize) -> usize
     requires { ⌜ length (now b) ≤ 65536 ⌝ }
-    ensures { λ r. ⌜ r ≡ after path (bits (now (b .entry))) p ⌝ }
+    ensures { λ r. ⌜ place-by r ≡ after path (bits (now (b .entry))) (place-by p) ⌝ }
 {
     let raw = string(b, p);
     let k = number(b, raw, 1);
@@ -199,24 +198,24 @@ pub fn path(b: &[u8], p: Place) -> Place
     if k == 1 {
         return level(b, q);
     }
-    Place::Broken
+    0
 }
 
 // A negative number: 64 bits, two's complement, the top bit set.
-fn negative(b: &[u8], p: Place) -> Place
+fn negative(b: &[u8], p: usize) -> usize
     requires { ⌜ length (now b) ≤ 65536 ⌝ }
-    ensures { λ r. ⌜ r ≡ after below-zero (bits (now (b .entry))) p ⌝ }
+    ensures { λ r. ⌜ place-by r ≡ after below-zero (bits (now (b .entry))) (place-by p) ⌝ }
 {
     if 9223372036854775808 <= number(b, p, 64) {
         return ahead(b, p, 64);
     }
-    Place::Broken
+    0
 }
 
 // Literal (3): 0 null, 1 false, 2 true, 3 unsigned (64), 4 negative, 5 string.
-pub fn literal(b: &[u8], p: Place) -> Place
+pub fn literal(b: &[u8], p: usize) -> usize
     requires { ⌜ length (now b) ≤ 65536 ⌝ }
-    ensures { λ r. ⌜ r ≡ after literal (bits (now (b .entry))) p ⌝ }
+    ensures { λ r. ⌜ place-by r ≡ after literal (bits (now (b .entry))) (place-by p) ⌝ }
 {
     let k = number(b, p, 3);
     let q = ahead(b, p, 3);
@@ -232,13 +231,13 @@ pub fn literal(b: &[u8], p: Place) -> Place
     if k == 5 {
         return string(b, q);
     }
-    Place::Broken
+    0
 }
 
 // Block names (2): 0 none, 1 one string, 2 two.
-pub fn block_names(b: &[u8], p: Place) -> Place
+pub fn block_names(b: &[u8], p: usize) -> usize
     requires { ⌜ length (now b) ≤ 65536 ⌝ }
-    ensures { λ r. ⌜ r ≡ after block-names (bits (now (b .entry))) p ⌝ }
+    ensures { λ r. ⌜ place-by r ≡ after block-names (bits (now (b .entry))) (place-by p) ⌝ }
 {
     let k = number(b, p, 2);
     let q = ahead(b, p, 2);
@@ -251,13 +250,13 @@ pub fn block_names(b: &[u8], p: Place) -> Place
     if k == 2 {
         return string(b, string(b, q));
     }
-    Place::Broken
+    0
 }
 
 // The indent bit, the indent if it is 1, and the `indent_before_write` bit: the end of decorators and partials.
-pub fn tail(b: &[u8], p: Place) -> Place
+pub fn tail(b: &[u8], p: usize) -> usize
     requires { ⌜ length (now b) ≤ 65536 ⌝ }
-    ensures { λ r. ⌜ r ≡ after (indent then flag) (bits (now (b .entry))) p ⌝ }
+    ensures { λ r. ⌜ place-by r ≡ after (indent then flag) (bits (now (b .entry))) (place-by p) ⌝ }
 {
     let k = number(b, p, 1);
     let q = ahead(b, p, 1);
@@ -267,5 +266,5 @@ pub fn tail(b: &[u8], p: Place) -> Place
     if k == 1 {
         return flag(b, string(b, q));
     }
-    Place::Broken
+    0
 }

@@ -12,11 +12,9 @@ use Rattle.rules.specs.Bits.{Bits}
 use Rattle.rules.specs.Layout.{Read, read, broken, onward, Layout, field, _then_, counted}
 use Rattle.rules.specs.Bundle.{string, body, body-context, template, templates, templates-allowed, find-template}
 use Rattle.layout.specs.Text.{text-at}
-use Rattle.layout.specs.Walk.{next, past, unmarked, after, ahead, number-at}
+use Rattle.layout.specs.Walk.{Place, At, Broken, next, past, unmarked, after, ahead, number-at}
 use Rattle.layout.specs.WalkLaws.{next-at}
 use Rattle.layout.specs.Listed.{template-place, count-place, BundleListed, listed-all, never-at}
-use Rattle.layout.specs.declared.Place.{Place}
-use Rattle.layout.specs.declared.Place.the-variants.{At, Broken}
 use Rattle.parts.specs.Holds.{Holds, end}
 use Rattle.parts.specs.HoldsLaws.{end-is, tested-holds, counted-holds}
 use Rattle.registry.specs.declared.Found.{Found}

@@ -1,4 +1,5 @@
 -- `layout::part/flag` meets its contract.
+use Rattle.layout.specs.Walk.{place-by}
 use Rattle.layout.proofs.Parts.{flag-is}
 use Rattle.rules.specs.Bits.{bits}
 use borrow.Author.Needs.{needs}
@@ -10,7 +11,7 @@ ahead-requires : tie.Need-ahead-requires
 ahead-requires c κs = search needs
 
 returns : tie.Need-returns
-returns c = c .ahead .ensures ∙ flag-is (bits (c .before .before .args .b .now)) (c .before .before .args .p)
+returns c = c .ahead .ensures ∙ flag-is (bits (c .before .before .args .b .now)) (place-by (c .before .before .args .p))
 
 pub flag-spec : {M : Type 1} → statement M
 flag-spec = tie.close (tie.spec ahead-requires returns)
