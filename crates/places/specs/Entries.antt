@@ -2,12 +2,12 @@
 use Prim.Native.Nat.{ℕ, zero, suc, _+_, _-_, _/_, _%_, _≤_, _<_}
 use mathlib.Core.Bool.{Bool, true, false, _&&_, not}
 use mathlib.Core.List.{List, [], _∷_, _++_}
-use mathlib.Core.Path.{_≡_, refl, sym, ap, _∙_, subst}
-use native.Mathlib.Nat.{add-zero}
+use mathlib.Core.Path.{_≡_, refl, sym, ap, ap₂, _∙_, subst}
+use native.Mathlib.Nat.{add-zero, zero-add}
 use native.Mathlib.Omega.{arith}
 use lib.Dec.{eqb, ltb}
-use lib.ListN.{length, getD, drop, take, replicate, length-replicate, List·getD-append}
-use lib.Seq.{getD-append-add, sets, sets-eq}
+use lib.ListN.{length, getD, drop, take, replicate, length-replicate, replicate-append-replicate, List·getD-append}
+use lib.Seq.{getD-append-add, sets, sets-eq, drop-at, length-take-le}
 use borrow.Author.Tests.{ltb-true, ltb-false}
 use Rattle.rules.specs.Bytes.{Bytes, byte-at, pick}
 use Rattle.rules.specs.Tree.{Tree, tree, Trees, tree-nil, tree-cons}
@@ -18,7 +18,7 @@ use Rattle.json.specs.Table.{entry, entries, entries-all, filled, table}
 use Rattle.json.proofs.Stored.{entries-length}
 use Rattle.places.specs.Places.{start-of, inside, Node, key, replaced, nodes, nodes-all, root, places, all-nodes, node-at, tree-at}
 use Rattle.places.specs.Accepted.{Accepted}
-use Rattle.places.specs.Nodes.{nodes-length, root-is, few-places, short, sound-at}
+use Rattle.places.specs.Nodes.{nodes-length, root-node, root-is, few-places, short, sound-at}
 
 -- the tree t with the number n
 abbrev pub entry-for : ℕ → Tree → ℕ
@@ -97,3 +97,36 @@ module _ (s : Bytes) (tab : List ℕ) (h : Accepted s tab) (n : ℕ) (lt : n < p
   next-field =
       rw (entry-is, unpack-second 16 (start-of (tree-at s n)) _ (omega (arith, sound-at s (h .answers) n lt .within, short s (h .answers))))
       (unpack-second 16 (name-of (tree-at s n)) _ (omega (arith, sound-at s (h .answers) n lt .name-within, short s (h .answers))))
+
+-- Behind the plan's values
+
+zeros-joined : (m n : ℕ) → m ≤ n → replicate {A = ℕ} m 0 ++ replicate (n - m) 0 ≡ replicate n 0
+zeros-joined m n le =
+    let e : m + (n - m) ≡ n = omega arith in
+    replicate-append-replicate {A = ℕ} m (n - m) 0 ∙ ap (λ (k : ℕ). replicate {A = ℕ} k 0) e
+
+pub whole-end : (s : Bytes) → size (tree-at s 0) ≡ places s
+unfolding places
+whole-end s = ap (λ (x : Node). size (x .tree)) (root-node s)
+
+module _ (s : Bytes) (tab : List ℕ) (h : Accepted s tab) where
+  pub places-fit : places s ≤ length tab
+  places-fit = omega (arith, few-places s (h .answers), h .room)
+
+  zero-behind : drop (places s) tab ≡ replicate (length tab - places s) 0
+  unfolding places
+  zero-behind =
+      let len = entries-length (root s) 0 in
+      let rep = length-replicate {A = ℕ} (length tab) 0 in
+      let room = places-fit in
+      ap (drop (places s)) (h .filled ∙ table-is s (length tab) (h .answers) ∙ sets-eq (entries 0 (root s)) (replicate (length tab) 0) 0 (omega arith))
+      ∙ drop-at (entries 0 (root s)) _ (places s) len
+      ∙ ap₂ (λ (k : ℕ) (l : List ℕ). drop k l) (zero-add (length (entries 0 (root s))) ∙ len) (sym (zeros-joined (places s) (length tab) room))
+      ∙ drop-at (replicate (places s) 0) _ (places s) (length-replicate {A = ℕ} (places s) 0)
+
+  -- the values zeroed, and the rest as it is
+  pub zeroed-whole : (n : ℕ) (l : List ℕ) → n ≡ places s → l ≡ replicate (length (take n tab)) 0 → l ++ drop n tab ≡ replicate (length tab) 0
+  zeroed-whole n l e f =
+      let room = places-fit in
+      let k : length (take n tab) ≡ places s = length-take-le n tab (omega arith) ∙ e in
+      ap₂ (λ (x y : List ℕ). x ++ y) (f ∙ ap (λ (m : ℕ). replicate {A = ℕ} m 0) k) (ap (λ (m : ℕ). drop m tab) e ∙ zero-behind) ∙ zeros-joined (places s) (length tab) room

@@ -3,7 +3,7 @@
 ghost use mathlib.Core.Path.{_≡_};
 ghost use mathlib.Core.Bool.{true, _&&_};
 ghost use Prim.Native.Nat.{ℕ, suc, _+_, _*_, _/_, _%_, _^_, _<_, _≤_};
-ghost use lib.ListN.{length, getElem?, take};
+ghost use lib.ListN.{length, getElem?, take, replicate};
 ghost use mathlib.Core.Option.{some};
 ghost use Rattle.rules.specs.Bytes.{pick, byte-at, same, before};
 ghost use Rattle.rules.specs.Json.{count};
@@ -60,6 +60,15 @@ fn end(s: &[u8], tab: &[u64], i: usize) -> usize
     ensures { λ r. ⌜ r ≡ end-at (now (s .entry)) i ⌝ }
 {
     (tab[i] / 65536 / 65536) as usize
+}
+
+// Zeroes the table again. Behind the plan's values it is zero already.
+pub fn clear_table(s: &[u8], tab: &mut [u64])
+    requires { ⌜ Accepted (now s) (now tab) ⌝ }
+    ensures { λ _. ⌜ now (tab .exit) ≡ replicate (length (now (tab .entry))) 0 ⌝ }
+{
+    let n = end(s, tab, 0);
+    clear::clear_u64(&mut tab[..n]);
 }
 
 // What the first byte of a value says of its kind.
