@@ -15,6 +15,7 @@ use Rattle.rules.specs.Plan.{plan, answer, meant, text}
 use Rattle.rules.specs.Registry.{paper-limits}
 use Rattle.rules.specs.Call.{Inputs, refused, checked, page-of, render-bytes}
 use Rattle.clear.specs.Cleared.{cleared}
+use Rattle.json.specs.Table.{filled, table}
 use Rattle.places.specs.Places.{json-at}
 use Rattle.places.specs.Paths.{plan-at}
 use Rattle.expand.specs.declared.Options.{Options}
@@ -61,10 +62,9 @@ predicted x = settled (x .limits .page) (x .scratch) (render-bytes x)
 
 -- What the functions below promise of all that is lent: page, places, entries, texts, indent
 
--- cleared: the page from the place k on
-pub record Emptied (k : ℕ) (p : Bytes) (a e : List ℕ) (t i p′ : Bytes) (a′ e′ : List ℕ) (t′ i′ : Bytes) : Type 0 where
+-- cleared: the page from the place k on, and all but the places
+pub record Emptied (k : ℕ) (p : Bytes) (e : List ℕ) (t i p′ : Bytes) (e′ : List ℕ) (t′ i′ : Bytes) : Type 0 where
   pub page : p′ ≡ cleared k p
-  pub places : a′ ≡ replicate (length a) 0
   pub entries : e′ ≡ replicate (length e) 0
   pub texts : t′ ≡ replicate (length t) 0
   pub indent : i′ ≡ replicate (length i) 0
@@ -102,6 +102,10 @@ pub plan-refused : (s : Bytes) (f : Json → rules.Answer) → (answer s ≡ 0 �
 unfolding plan
 plan-refused s f h = ap (λ (t : Bool). checked (answer s) (pick t (meant s (text s)) none) f) (ne-eqb _ _ h)
 
+pub plan-table-zero : (n : ℕ) (s : Bytes) → (answer s ≡ 0 → ⊥) → table n s ≡ replicate n 0
+unfolding table
+plan-table-zero n s h = ap (λ (t : Bool). pick t (filled n (text s)) (replicate n 0)) (ne-eqb _ _ h)
+
 pub plan-passed : (s : Bytes) (f : Json → rules.Answer) → answer s ≡ 0 → checked (answer s) (plan s) f ≡ f (json-at s 0)
 plan-passed s f h = ap (λ (o : Option Json). checked (answer s) o f) (plan-at s h)
 
@@ -116,19 +120,18 @@ pub drawn-shown : (b s p : Bytes) (f : Json → rules.Answer) (r : Answer) → a
 drawn-shown b s p f r q = subst (Shown b r p) (sym (plan-passed s f q))
 
 -- the lengths that a call leaves as they were
-pub record Sized (p : Bytes) (a e : List ℕ) (t i p₁ : Bytes) (a₁ e₁ : List ℕ) (t₁ i₁ : Bytes) : Type 0 where
+pub record Sized (p : Bytes) (e : List ℕ) (t i p₁ : Bytes) (e₁ : List ℕ) (t₁ i₁ : Bytes) : Type 0 where
   pub page : length p₁ ≡ length p
-  pub places : length a₁ ≡ length a
   pub entries : length e₁ ≡ length e
   pub texts : length t₁ ≡ length t
   pub indent : length i₁ ≡ length i
 
--- all is cleared behind what was shown
-pub shown-emptied : (b p : Bytes) (a e : List ℕ) (t i p₁ : Bytes) (a₁ e₁ : List ℕ) (t₁ i₁ p′ : Bytes) (a′ e′ : List ℕ) (t′ i′ : Bytes) (r : Answer) (o : rules.Answer) → Sized p a e t i p₁ a₁ e₁ t₁ i₁ → Shown b r p₁ o → Emptied (r .length) p₁ a₁ e₁ t₁ i₁ p′ a′ e′ t′ i′
+-- all is cleared behind what was shown; the places a′ are already
+pub shown-emptied : (b p : Bytes) (a e : List ℕ) (t i p₁ : Bytes) (e₁ : List ℕ) (t₁ i₁ p′ : Bytes) (a′ e′ : List ℕ) (t′ i′ : Bytes) (r : Answer) (o : rules.Answer) → Sized p e t i p₁ e₁ t₁ i₁ → Shown b r p₁ o → a′ ≡ replicate (length a) 0 → Emptied (r .length) p₁ e₁ t₁ i₁ p′ e′ t′ i′
     → left b r p′ (a′ ∷ e′ ∷ t′ ∷ i′ ∷ []) ≡ settled (length p) (length a ∷ length e ∷ length t ∷ length i ∷ []) o
-shown-emptied b p a e t i p₁ a₁ e₁ t₁ i₁ p′ a′ e′ t′ i′ r o z d h =
+shown-emptied b p a e t i p₁ e₁ t₁ i₁ p′ a′ e′ t′ i′ r o z d x h =
     shown-left b r (length p) o p₁ p′ (length a) (length e) (length t) (length i) a′ e′ t′ i′ d (z .page) (h .page)
-    (h .places ∙ ap (λ (n : ℕ). replicate n 0) (z .places)) (h .entries ∙ ap (λ (n : ℕ). replicate n 0) (z .entries)) (h .texts ∙ ap (λ (n : ℕ). replicate n 0) (z .texts)) (h .indent ∙ ap (λ (n : ℕ). replicate n 0) (z .indent))
+    x (h .entries ∙ ap (λ (n : ℕ). replicate n 0) (z .entries)) (h .texts ∙ ap (λ (n : ℕ). replicate n 0) (z .texts)) (h .indent ∙ ap (λ (n : ℕ). replicate n 0) (z .indent))
 
 -- the same call with its options said otherwise
 pub same-options : (y : Outcome) (b s n : Bytes) (o o′ : Options) (k : ℕ) (c : List ℕ) → y ≡ predicted (inputs b s n o k c) → o ≡ o′ → y ≡ predicted (inputs b s n o′ k c)

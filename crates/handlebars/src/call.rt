@@ -1,7 +1,7 @@
 // registry.rs: `render`, with the checks before it. All that is lent is zero at the end, but for the text.
 ghost use mathlib.Core.List.{[], _∷_};
 ghost use mathlib.Core.Path.{_≡_};
-ghost use lib.ListN.{length};
+ghost use lib.ListN.{length, replicate};
 ghost use Rattle.rules.specs.Registry.{paper-limits};
 ghost use Rattle.rules.specs.Call.{render-bytes};
 ghost use Rattle.drawing.specs.Renders.{options-of};
@@ -29,25 +29,23 @@ fn refused(number: u32) -> Answer
     }
 }
 
-// Clears the page from the place on, and all scratch.
+// Clears the page from the place on, and all scratch but the places.
 fn clear_lent(
     page: &mut [u8],
     from: usize,
-    places: &mut [u64],
     entries: &mut [u64],
     texts: &mut [u8],
     indent: &mut [u8],
 )
-    ensures { λ _. ⌜ Emptied from (now (page .entry)) (now (places .entry)) (now (entries .entry)) (now (texts .entry)) (now (indent .entry)) (now (page .exit)) (now (places .exit)) (now (entries .exit)) (now (texts .exit)) (now (indent .exit)) ⌝ }
+    ensures { λ _. ⌜ Emptied from (now (page .entry)) (now (entries .entry)) (now (texts .entry)) (now (indent .entry)) (now (page .exit)) (now (entries .exit)) (now (texts .exit)) (now (indent .exit)) ⌝ }
 {
     clear::clear_u8_from(page, from);
-    clear::clear_u64(places);
     clear::clear_u64(entries);
     clear::clear_u8(texts);
     clear::clear_u8(indent);
 }
 
-// Checks 7 to 10, then the drawing of the template whose name stands at the place name and whose body at p.
+// Checks 7 to 10, then the drawing of the template whose name stands at the place name and whose body at p. The places are zero again at the end.
 fn go_on(
     bundle: &[u8],
     index: &[u32],
@@ -63,12 +61,13 @@ fn go_on(
 ) -> Answer
     requires { ⌜ StartHolds (now bundle) (At name p) × Tabled (now bundle) (now index) × Roomy (now places) (now entries) (now texts) (now indent) ⌝ }
     ensures { λ r. ⌜ Shown (now (bundle .entry)) r (now (page .exit)) (goes-on (now (bundle .entry)) (now (plan .entry)) (options-of options) (paper-limits (length (now (page .entry)))) (At name p)) ⌝ }
+    ensures { λ _. ⌜ now (places .exit) ≡ replicate (length (now (places .entry))) 0 ⌝ }
 {
     let n = json::read_plan(plan, places);
     if n != 0 {
         return refused(n as u32);
     }
-    draw(
+    let r = draw(
         bundle,
         index,
         plan,
@@ -80,10 +79,12 @@ fn go_on(
         entries,
         texts,
         indent,
-    )
+    );
+    places::clear_table(plan, places);
+    r
 }
 
-// The checks in their order, and the drawing: the text is at the front of the page. What is lent keeps whatever was written into it.
+// The checks in their order, and the drawing: the text is at the front of the page. The places are zero; what else is lent keeps whatever was written into it.
 fn answer(
     bundle: &[u8],
     plan: &[u8],
@@ -96,14 +97,19 @@ fn answer(
     indent: &mut [u8],
 ) -> Answer
     ensures { λ r. ⌜ Shown (now (bundle .entry)) r (now (page .exit)) (render-bytes (inputs (now (bundle .entry)) (now (plan .entry)) (now (start .entry)) options (length (now (page .entry))) (length (now (places .entry)) ∷ length (now (entries .entry)) ∷ length (now (texts .entry)) ∷ length (now (indent .entry)) ∷ []))) ⌝ }
+    ensures { λ _. ⌜ now (places .exit) ≡ replicate (length (now (places .entry))) 0 ⌝ }
 {
     if !long_enough(places.len(), entries.len(), texts.len(), indent.len()) {
+        clear::clear_u64(places);
         return refused(1);
     }
     let mut index: [u32; 64] = [0; 64];
     let from = begin(bundle, start, options, &mut index);
     match from {
-        Start::Refused(number) => refused(number),
+        Start::Refused(number) => {
+            clear::clear_u64(places);
+            refused(number)
+        }
         Start::At(name, p) => go_on(
             bundle,
             &index,
@@ -121,7 +127,8 @@ fn answer(
 }
 
 // The whole call: the text on the page and its length, or the first refusal in the paper's order. It asks nothing of its arguments.
-// All that is lent is cleared once, at the end: the page behind the text, and the scratch buffers.
+// All that is lent is cleared at the end: the page behind the text, and the scratch buffers. (The places are cleared first, before the plan is read, and so at the end only
+// where its values stand.)
 pub fn render(
     bundle: &[u8],
     plan: &[u8],
@@ -146,6 +153,6 @@ pub fn render(
         texts,
         indent,
     );
-    clear_lent(page, r.length, places, entries, texts, indent);
+    clear_lent(page, r.length, entries, texts, indent);
     r
 }

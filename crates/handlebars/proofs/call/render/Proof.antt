@@ -2,47 +2,35 @@ use Rattle.handlebars.specs.Calls.{shown-emptied}
 use borrow.Author.Needs.{needs}
 use Rattle.handlebars.proofs.call.render.Statement.{statement}
 use Rattle.handlebars.proofs.call.render.Tie as tie
-use Rattle.handlebars.proofs.call.render.Reads as reads
-use Rattle.handlebars.proofs.call.render.Lts as lts
-use Rattle.handlebars.proofs.call.answer.Reads as answer-reads
-use Rattle.handlebars.proofs.call.clear_lent.Reads as clear-lent-reads
 
--- src/call.rt:134:9
 answer-requires : tie.Need-answer-requires
 answer-requires c κs = search needs
 
--- src/call.rt:145:5
 clear-lent-requires : tie.Need-clear-lent-requires
 clear-lent-requires c κs = search needs
 
--- src/call.rt:121:1
 same-length : tie.Need-same-length
 same-length c = search needs
 
--- src/call.rt:121:1
 same-length-2 : tie.Need-same-length-2
 same-length-2 c = search needs
 
--- src/call.rt:121:1
 same-length-3 : tie.Need-same-length-3
 same-length-3 c = search needs
 
--- src/call.rt:121:1
 same-length-4 : tie.Need-same-length-4
 same-length-4 c = search needs
 
--- src/call.rt:121:1
 same-length-5 : tie.Need-same-length-5
 same-length-5 c = search needs
 
--- src/call.rt:121:1
 returns : tie.Need-returns
 returns c =
-    let z = c .before .before .before .before .before .before .before .before .before .before .before .before .before .before .before .before .before .before .before .before .before .before .before .before .before .before .before .before .before .before .before .before .before .before .before .before .before .before .before .before in
-    let r = c .before .before .before .before .before .before .before .before .before .before .before .before .before .before .before .before .before .before .before .before .before .before .before .before .before .before .answer in
-    shown-emptied (z .args .bundle .now) (z .args .page .now) (z .args .places .now) (z .args .entries .now) (z .args .texts .now) (z .args .indent .now) _ _ _ _ _ _ _ _ _ _ _ _
-    (record { page = r .kept .1 .1 .1 .1 .0; places = r .kept .1 .1 .1 .1 .1 .0; entries = r .kept .1 .1 .1 .1 .1 .1 .0; texts = r .kept .1 .1 .1 .1 .1 .1 .1 .0; indent = r .kept .1 .1 .1 .1 .1 .1 .1 .1 .0 })
-    (r .ensures) (c .before .before .before .before .before .before .before .before .before .before .clear-lent .ensures)
+    let z = c .before .before .before .before .before .before .before .before .before .before .before .before .before .before .before .before .before .before .before .before .before .before .before .before .before .before .before .before .before .before .before .before .before .before .before .before .before in
+    let r = c .before .before .before .before .before .before .before .before .before .before .before .before .before .before .before .before .before .before .before .before .before .before .before .answer in
+    shown-emptied (z .args .bundle .now) (z .args .page .now) (z .args .places .now) (z .args .entries .now) (z .args .texts .now) (z .args .indent .now) _ _ _ _ _ _ _ _ _ _ _
+    (record { page = r .kept .1 .1 .1 .1 .0; entries = r .kept .1 .1 .1 .1 .1 .1 .0; texts = r .kept .1 .1 .1 .1 .1 .1 .1 .0; indent = r .kept .1 .1 .1 .1 .1 .1 .1 .1 .0 })
+    (r .ensures .0) (r .ensures .1) (c .before .before .before .before .before .before .before .before .clear-lent .ensures)
 
 pub render-spec : {M : Type 1} → statement M
 render-spec =
