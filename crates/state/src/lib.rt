@@ -13,9 +13,10 @@ use output::Writer;
 use scope::Scope;
 
 pub struct RenderContext {
+    // (It stands first: what the compiler copies in steps of 16 bytes, a writer alone or with its context, is then read back in the steps that it was stored in.)
+    pub writer: Writer,
     // how many scopes are open; they lie in a lent buffer, the newest last
     pub used: usize,
-    pub writer: Writer,
     // the entries that merged objects and inline partials of open scopes take (limit 22)
     pub total: usize,
     // the current template's name by one more than its place; 0 where there is none
@@ -36,8 +37,8 @@ pub fn new(sc: &mut [u64]) -> RenderContext
 {
     scope::begin(sc);
     RenderContext {
-        used: 1,
         writer: output::new(),
+        used: 1,
         total: 0,
         template: 0,
         named: 0,

@@ -7,7 +7,7 @@ ghost use lib.Seq.{sets, slice};
 ghost use Rattle.scope.specs.Words.{scopes-of};
 ghost use Rattle.state.specs.Context.{whole};
 ghost use Rattle.state.specs.World.{sizes-of};
-ghost use Rattle.texts.specs.Setters.{text-opened, with-block, text-closed, text-place, without-text, indented, cleaned, concluded};
+ghost use Rattle.texts.specs.Setters.{text-opened, with-block, text-closed, text-place, without-text, indented, concluded};
 ghost use Rattle.texts.specs.Peeking.{peeked};
 use scope::Scope;
 use state::RenderContext;
@@ -71,28 +71,21 @@ pub fn with_indent(rc: RenderContext, has: bool, len: usize) -> RenderContext
     state::set_writer(rc, w)
 }
 
-// The scope of a partial is closed, its block text is given up, and what was saved is set again.
-pub fn cleanup(rc: RenderContext, before: RenderContext) -> RenderContext
-    ensures { λ r. ⌜ ((l m : List ℕ) → whole r l ≡ cleaned (whole rc l) (whole before m)) ⌝ }
-{
-    let mut q = rc;
-    q.used = before.used;
-    q.total = before.total;
-    q.template = before.template;
-    q.writer.high = before.writer.high;
-    q.writer.indent = before.writer.indent;
-    q.writer.has_indent = before.writer.has_indent;
-    q
-}
-
-// Behind a partial: unless there is an error it is cleaned up, and its marks are settled.
+// Behind a partial: unless there is an error its scope is closed, its block text is given up, what was saved is set again, and its marks are settled. (The context is
+// changed in place: to choose between two of them would copy both.)
 pub fn finish_partial(rc: RenderContext, before: RenderContext) -> RenderContext
     ensures { λ r. ⌜ ((l m : List ℕ) → whole r l ≡ concluded (whole before m) (whole rc l)) ⌝ }
 {
-    if rc.bad != 0 {
-        return rc;
+    let mut q = rc;
+    if q.bad == 0 {
+        q.used = before.used;
+        q.total = before.total;
+        q.template = before.template;
+        q.writer.high = before.writer.high;
+        q.writer.indent = before.writer.indent;
+        q.writer.has_indent = before.writer.has_indent;
     }
-    state::settle(cleanup(rc, before), before.writer)
+    state::finish(q, before.writer)
 }
 
 // What `@partial-block` stands for: nothing where no partial is open, or where the newest one has no text; or its text, by its
