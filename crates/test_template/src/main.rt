@@ -1,4 +1,4 @@
-// The readers over a fixed bundle of all nine kinds: one line for each element of the template `main`, with what its places hold.
+// The readers over a fixed bundle of all nine kinds: its version, and one line for each element of the template `main`, with what its places hold.
 ghost use Prim.Native.Nat.{_≤_};
 ghost use lib.ListN.{length};
 ghost use Rattle.rules.specs.Bits.{bits};
@@ -215,7 +215,15 @@ fn print_body(b: &[u8], p: usize, d: usize)
     }
 }
 
+// What the bit reader says of the bundle.
+fn print_version(b: &[u8]) {
+    print(b"version ");
+    print_number(reader::version(b));
+    print(b"\n");
+}
+
 fn print_main(b: &[u8]) {
+    print_version(b);
     let v = layout::check_bundle(b);
     let Verdict::Accepted = v else {
         return;

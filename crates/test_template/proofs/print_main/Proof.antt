@@ -7,6 +7,9 @@ use borrow.Author.Needs.{needs}
 use Rattle.test_template.proofs.print_main.Statement.{statement}
 use Rattle.test_template.proofs.print_main.Tie as tie
 
+print-version-requires : tie.Need-print-version-requires
+print-version-requires c κs = search needs
+
 check-bundle-requires : tie.Need-check-bundle-requires
 check-bundle-requires c κs = search needs
 
@@ -20,7 +23,7 @@ slice-aggregate-get-template : tie.Need-slice-aggregate-get-template
 slice-aggregate-get-template c = search needs
 
 get-template-requires : tie.Need-get-template-requires
-get-template-requires c κs = let s = c .before .before .before .before .before in ((accepted-holds (s .args .b .now) (sym (c .before .before .before .check-bundle .ensures) ∙ c .before .enum-told .given .1)) .small, (accepted-holds (s .args .b .now) (sym (c .before .before .before .check-bundle .ensures) ∙ c .before .enum-told .given .1)) .templates)
+get-template-requires c κs = let s = c .before .before .before .before .before .before in ((accepted-holds (s .args .b .now) (sym (c .before .before .before .check-bundle .ensures) ∙ c .before .enum-told .given .1)) .small, (accepted-holds (s .args .b .now) (sym (c .before .before .before .check-bundle .ensures) ∙ c .before .enum-told .given .1)) .templates)
 
 enum-known-f : tie.Need-enum-known-f
 enum-known-f c = search needs
@@ -41,7 +44,7 @@ print-requires : tie.Need-print-requires
 print-requires c κs = search needs
 
 print-body-requires : tie.Need-print-body-requires
-print-body-requires c κs = let s = c .before .before .before .before .before .before .before .before .before .before .before .before in ((accepted-holds (s .args .b .now) (sym (c .before .before .before .before .before .before .before .before .before .before .check-bundle .ensures) ∙ c .before .before .before .before .before .before .before .before .enum-told .given .1)) .small, subst (FoundHolds (body 16 16) (bits (s .args .b .now)) _ _) (sym (c .before .before .before .before .before .before .get-template .ensures) ∙ c .before .before .before .before .f .given .1) (found-stands 16 (bits (s .args .b .now)) ((accepted-holds (s .args .b .now) (sym (c .before .before .before .before .before .before .before .before .before .before .check-bundle .ensures) ∙ c .before .before .before .before .before .before .before .before .enum-told .given .1)) .templates) _ .parts) .3)
+print-body-requires c κs = let s = c .before .before .before .before .before .before .before .before .before .before .before .before .before in ((accepted-holds (s .args .b .now) (sym (c .before .before .before .before .before .before .before .before .before .before .check-bundle .ensures) ∙ c .before .before .before .before .before .before .before .before .enum-told .given .1)) .small, subst (FoundHolds (body 16 16) (bits (s .args .b .now)) _ _) (sym (c .before .before .before .before .before .before .get-template .ensures) ∙ c .before .before .before .before .f .given .1) (found-stands 16 (bits (s .args .b .now)) ((accepted-holds (s .args .b .now) (sym (c .before .before .before .before .before .before .before .before .before .before .check-bundle .ensures) ∙ c .before .before .before .before .before .before .before .before .enum-told .given .1)) .templates) _ .parts) .3)
 
 returns-3 : tie.Need-returns-3
 returns-3 c = search needs
@@ -50,6 +53,7 @@ pub print-main-spec : {M : Type 1} → statement M
 print-main-spec =
     tie.close
     (tie.spec
+    print-version-requires
     check-bundle-requires
     enum-told
     returns
