@@ -122,7 +122,7 @@ fn named_helper(s: &[u8], b: &[u8], t: Text) -> HelperDef
 }
 
 // The bytes of a name as one number, the first the most significant. (The compiler works it out where the name is fixed.)
-fn packed(t: &[u8]) -> u64
+pub fn packed(t: &[u8]) -> u64
     requires { ⌜ length (now t) ≤ 6 ⌝ }
     ensures { λ r. ⌜ r ≡ packed (now (t .entry)) ⌝ }
 {

@@ -1,10 +1,11 @@
 -- Expressions that are `lookup` over a path and a string: s is the plan, b the bundle.
 use Prim.Native.Nat.{ℕ, _+_, _*_, _-_, _/_, _%_, _≤_}
 use mathlib.Core.Bool.{Bool, true, false, _&&_}
-use mathlib.Core.List.{List}
+use mathlib.Core.List.{List, [], _∷_}
 use mathlib.Core.Path.{_≡_}
 use lib.Dec.{eqb, ltb}
 use lib.ListN.{length}
+use borrow.Author.Tests.{eq-eqb, le-ltb}
 use Rattle.rules.specs.Bytes.{Bytes, pick}
 use Rattle.rules.specs.Bits.{Bits, bits}
 use Rattle.rules.specs.Layout.{field}
@@ -22,7 +23,7 @@ use Rattle.lookup.specs.Keyed.{LookedNumber}
 use Rattle.context.specs.Evaluated.{evaluated-of}
 use Rattle.expand.specs.declared.Options.{Options}
 use Rattle.expand.specs.declared.HelperDef.the-variants as helper
-use Rattle.expand.specs.Answers.{helper-of}
+use Rattle.expand.specs.Answers.{packed, helper-of}
 use Rattle.state.specs.World.{World}
 use Rattle.helping.proofs.Deciding.{Leads}
 use Rattle.plain.specs.Plain.{expression-of, OneDrawn}
@@ -41,10 +42,14 @@ lookup-of l before z = record { literal = l; before = before; next = z }
 abbrev pub no-lookup : Lookup
 no-lookup = lookup-of 0 false 0
 
+-- the helper's name
+abbrev pub lookup-bytes : Bytes
+lookup-bytes = 108 ∷ 111 ∷ 111 ∷ 107 ∷ 117 ∷ 112 ∷ []
+
 -- the name stands at n, the string ends at f; its literal is at l
 abbrev pub last-view : Bits → ℕ → ℕ → ℕ → Lookup
 last-view b n l f =
-    pick (ltb 1 (field b 5 f)) no-lookup (pick (eqb (field b 48 n) 119225866483056) (lookup-of l (eqb (field b 5 f) 1) (f + 5)) no-lookup)
+    pick (ltb 1 (field b 5 f)) no-lookup (pick (eqb (field b 48 n) (packed lookup-bytes)) (lookup-of l (eqb (field b 5 f) 1) (f + 5)) no-lookup)
 
 -- the path ends at e
 abbrev pub string-view : Bits → ℕ → ℕ → Lookup
@@ -53,6 +58,12 @@ string-view b n e = pick (eqb (field b 21 e / 65536) 21) (last-view b n (e + 2) 
 -- the expression whose kind stands at q; its name is a string of six bytes
 abbrev pub lookup-view : Bits → ℕ → Lookup
 lookup-view b q = pick (eqb (field b 6 (q + 70)) 9) (string-view b (q + 22) (end path b (q + 76))) no-lookup
+
+-- all of it is so: the path ends at e, y are the bits of the string, z those behind it
+pub lookup-found : (b : Bits) (q e y z : ℕ) (before : Bool) → field b 6 (q + 70) ≡ 9 → e ≡ end path b (q + 76) → y ≡ field b 21 e → y / 65536 ≡ 21 → z ≡ field b 5 (e + 21 + 8 * (y % 65536)) → z ≤ 1 → field b 48 (q + 22) ≡ packed lookup-bytes → before ≡ eqb z 1
+    → lookup-of (e + 2) before (e + 21 + 8 * (y % 65536) + 5) ≡ lookup-view b q
+lookup-found b q e y z before two he hy kinds hz few name hb =
+    rw (eq-eqb _ _ two, ← he, ← hy, eq-eqb _ _ kinds, ← hz, le-ltb 1 z few, eq-eqb _ _ name, hb)
 
 -- the call at p: its name is a string, and it has the path at v and the literal at l as parameters, and no hash
 abbrev pub CallIs : ℕ → Bits → ℕ → ℕ → ℕ → Type 0

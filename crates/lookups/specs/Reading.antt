@@ -25,15 +25,11 @@ use Rattle.template.specs.declared.Element.{Element}
 use Rattle.template.specs.Views.{call-end, flag-at, flagged-view, kind-view, content-of, content-view}
 use Rattle.template.specs.Content.{html-holds, expression-holds, FlaggedHolds, written-holds}
 use Rattle.expand.specs.declared.HelperDef.the-variants as helper
-use Rattle.expand.specs.Answers.{helper-of}
+use Rattle.expand.specs.Answers.{packed, helper-of}
 use Rattle.expand.proofs.Naming.{packed-same}
 use Rattle.helping.specs.Few.{first-path, first-fits, second-holds, second-literal, two-is, two-ends}
 use Rattle.plain.specs.Plain.{expression-of}
-use Rattle.lookups.specs.Looked.{coded, lookup-of, CallIs, LookupAre}
-
--- the helper's name
-abbrev lookup-bytes : Bytes
-lookup-bytes = 108 ∷ 111 ∷ 111 ∷ 107 ∷ 117 ∷ 112 ∷ []
+use Rattle.lookups.specs.Looked.{lookup-bytes, coded, lookup-of, CallIs, LookupAre}
 
 module _ (d : ℕ) (b : Bits) (bin : Binary b) (q : ℕ) (H : Holds (element-of (call-of (param d)) (body 16 d)) b q) (kinds : (html : Bool) × (field b 22 q ≡ coded html)) where
   abbrev E : Layout rule.TemplateElement
@@ -159,7 +155,7 @@ module _ (d : ℕ) (b : Bits) (bin : Binary b) (q : ℕ) (H : Holds (element-of 
             (subst (λ (m : ℕ). CallIs d b (q + 4) m (end path b (q + 4 + 18 + 8 * 6 + 6) + 2)) at-path
             (two-is d b bin (q + 4) (flagged .call) 6 six (omega arith) two is-literal no-pairs))
 
-        pub lookup-are : field b 48 (q + 22) ≡ 119225866483056 → (g : Bool) → g ≡ eqb z 1 → LookupAre d b q (lookup-of (e + 2) g (f + 5))
+        pub lookup-are : field b 48 (q + 22) ≡ packed lookup-bytes → (g : Bool) → g ≡ eqb z 1 → LookupAre d b q (lookup-of (e + 2) g (f + 5))
         lookup-are name g hg = record {
           seen = λ html h.
               let K = kind-of html h in

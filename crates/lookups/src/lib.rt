@@ -86,8 +86,7 @@ fn lookup_at(b: &[u8], q: usize, d: usize) -> Lookup
     if 1 < z {
         return no_lookup();
     }
-    // the bytes of `lookup` as one number
-    if bits::field(b, q + 22, 48) != 119225866483056 {
+    if bits::field(b, q + 22, 48) != expand::packed(b"lookup") {
         return no_lookup();
     }
     lookup_of(e + 2, z == 1, f + 5)
