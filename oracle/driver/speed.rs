@@ -4,7 +4,7 @@ use std::fs;
 use std::hint::black_box;
 
 use oracle_core::compare::{self, sheets::beside};
-use oracle_core::gen::{sheets, sheets_even, Case, PAGE};
+use oracle_core::gen::{cases, sheets, sheets_even, Case, Order, PAGE};
 use uncounted_core::call::Made;
 
 use crate::library::{self, Buffers};
@@ -90,7 +90,11 @@ fn whole_sheets(flags: &Flags) -> Result<(), String> {
     for (series, cabinets, case) in all_sheets()? {
         rows.push(row(&series, cabinets, &case, flags.rounds).map_err(|e| format!("{series} {cabinets}: {e}"))?);
     }
-    let tables = format!("{}\n{}", table(&rows, flags.rounds), parts(&rows));
+    let mut generated = String::new();
+    for cabinets in [12, 100] {
+        generated += &generated_sheets(cabinets, flags).map_err(|e| format!("profile sheets, {cabinets} cabinets: {e}"))?;
+    }
+    let tables = format!("{}{generated}\n{}", table(&rows, flags.rounds), parts(&rows));
     print!("{tables}");
     if let Some(file) = &flags.csv {
         fs::write(file, csv(&rows)).map_err(|e| format!("{file}: {e}"))?;
@@ -155,6 +159,45 @@ fn row(series: &str, cabinets: usize, case: &Case, rounds: usize) -> Result<Row,
     })
 }
 
+/// Cases of the profile sheets, quotations, cutting lists and delivery notes as they come, one after the other.
+fn generated_sheets(cabinets: usize, flags: &Flags) -> Result<String, String> {
+    const COUNT: usize = 100;
+    let order = Order { profile: "sheets".to_owned(), seed: flags.seed, count: COUNT, max_bytes: usize::MAX, cabinets };
+    let mut buffers = Buffers::new(PAGE as usize);
+    let mut all = Vec::new();
+    for case in cases(&order) {
+        let made = Made::new(&case.bundle).ok_or("the oracle refuses a bundle")?;
+        let text = made.render("main", &case.plan).ok_or("the Rust refuses a case")?;
+        let given = buffers.render(&case.bundle, &case.plan, &case.start);
+        if given.number != 0 || buffers.page[..given.length] != *text.as_bytes() {
+            return Err("a page of the library is not the Rust's".to_owned());
+        }
+        all.push((made, case));
+    }
+    let mut library = || {
+        for (_, case) in &all {
+            black_box(buffers.render(black_box(&case.bundle), black_box(&case.plan), &case.start));
+        }
+    };
+    let mut rust = || {
+        for (made, case) in &all {
+            black_box(made.render("main", black_box(&case.plan)));
+        }
+    };
+    let mut rust_whole = || {
+        for (_, case) in &all {
+            black_box(Made::new(black_box(&case.bundle)).map(|made| made.render("main", black_box(&case.plan))));
+        }
+    };
+    let seconds = beside(&mut [&mut library, &mut rust, &mut rust_whole], flags.rounds);
+    Ok(format!(
+        "{COUNT} generated cases of the profile *sheets* (seed {}) with {cabinets} cabinets each, one after the other: {:.2} times the Rust, {:.2} times where both read the bundle.\n",
+        flags.seed,
+        seconds[1] / seconds[0],
+        seconds[2] / seconds[0],
+    ))
+}
+
 fn cabinets(row: &Row) -> String {
     if row.cabinets == 0 { String::new() } else { row.cabinets.to_string() }
 }
@@ -190,12 +233,16 @@ fn table(rows: &[Row], rounds: usize) -> String {
             r.rust_whole / r.library,
         );
     }
-    let sum = |of: fn(&Row) -> f64| rows.iter().map(of).sum::<f64>();
-    text += &format!(
-        "\nAll sheets of the table one after the other: {:.2} times the Rust, {:.2} times where both read the bundle.\n",
-        sum(|r| r.rust) / sum(|r| r.library),
-        sum(|r| r.rust_whole) / sum(|r| r.library),
-    );
+    text.push('\n');
+    let samples: Vec<&Row> = rows.iter().filter(|r| r.cabinets == 0).collect();
+    for (name, some) in [("All sheets of the table", rows.iter().collect()), ("The three samples", samples)] {
+        let sum = |of: fn(&Row) -> f64| some.iter().map(|r| of(r)).sum::<f64>();
+        text += &format!(
+            "{name} one after the other: {:.2} times the Rust, {:.2} times where both read the bundle.\n",
+            sum(|r| r.rust) / sum(|r| r.library),
+            sum(|r| r.rust_whole) / sum(|r| r.library),
+        );
+    }
     text
 }
 
