@@ -1,13 +1,17 @@
 -- Fields put together from bytes by shifts, and cut out of a word.
-use Prim.Native.Nat.{ℕ, suc, _+_, _-_, _*_, _/_, _%_, _^_, _≤_, _<_}
-use mathlib.Core.Path.{_≡_, sym, ap, ap₂, _∙_}
+use Prim.Native.Nat.{ℕ, zero, suc, _+_, _-_, _*_, _/_, _%_, _^_, _≤_, _<_}
+use mathlib.Core.Bool.{true, _&&_}
+use mathlib.Core.Path.{_≡_, refl, sym, ap, ap₂, _∙_}
 use native.Mathlib.Nat.{add-comm, add-mul, div-one, mul-assoc, mul-one, mod-eq-of-lt, zero-div}
 use native.Mathlib.Omega.{arith}
-use lib.Bits.{bitOr, or-shifted, or-shifted-r, or-zero-r}
+use lib.Bits.{bitOr, or-shifted, or-shifted-r}
+use lib.Dec.{leb, ltb}
 use lib.ListN.{length, getD, List·getD-eq-default}
 use lib.Pow.{pow-add, pow-mono, shl-lt, shl-exact, shl-shr, shr-shr}
+use borrow.Author.Tests.{ltb-true, leb-true}
 use Rattle.rules.specs.Bytes.{Bytes}
 use Rattle.rules.specs.Bits.{Bits, bits}
+use Rattle.rules.specs.Order.{and-left, and-right}
 use Rattle.rules.specs.Layout.{field}
 use Rattle.rules.specs.LayoutLaws.{Binary, field-lt}
 use Rattle.rules.specs.BundleLaws.{bits-binary}
@@ -16,8 +20,18 @@ use Rattle.bits.specs.Fields.{field-append, field-first, field-middle, f
 pub byte-read : (s : Bytes) (k : ℕ) → getD s k 0 < 256 → getD s k 0 ≡ field (bits s) 8 (8 * k)
 byte-read s k h = sym (field-byte s k ∙ mod-eq-of-lt h)
 
+-- past the end every bit is 0
+pub past : (s : Bytes) (w p : ℕ) → 8 * length s ≤ p → 0 ≡ field (bits s) w p
+unfolding field bits
+past s zero p h = refl
+past s (suc w) p h =
+    let d = 2 ^ (7 - (p + w) % 8) in
+    let z : getD s ((p + w) / 8) 0 ≡ 0 = List·getD-eq-default s 0 (omega arith) in
+    let x : getD s ((p + w) / 8) 0 / d % 2 ≡ 0 = ap (λ (n : ℕ). n / d % 2) z ∙ ap (λ (n : ℕ). n % 2) (zero-div d) in
+    omega (arith, past s w p h, x)
+
 pub byte-past : (s : Bytes) (k : ℕ) → length s ≤ k → 0 ≡ field (bits s) 8 (8 * k)
-byte-past s k h = sym (field-byte s k ∙ ap (λ (x : ℕ). x % 256) (List·getD-eq-default s 0 h))
+byte-past s k h = past s 8 (8 * k) (omega arith)
 
 pub byte-lt : (s : Bytes) (q : ℕ) → field (bits s) 8 q < 256
 byte-lt s q = field-lt (bits s) (bits-binary s) 8 q
@@ -117,6 +131,17 @@ module _ (b : Bits) (bin : Binary b) where
       let w : 64 - o + o ≡ 64 = omega arith in
       rw (v, w) at (joined o (64 - o) (8 - o) p x y (rw v e) (rw (u, v) f))
 
+  -- the same where all that comes in is zero
+  window-past : (o p x : ℕ) → o ≤ 64 → x ≡ field b 64 p → 0 ≡ field b o (p + 64) → x * 2 ^ o % 2 ^ 64 ≡ field b 64 (p + o)
+  window-past o p x h e f =
+      let v : o + (64 - o) ≡ 64 = omega arith in
+      let w : 64 - o + o ≡ 64 = omega arith in
+      let q : p + o + (64 - o) ≡ p + 64 = omega arith in
+      let y = field b (64 - o) (p + o) in
+      let m : x * 2 ^ o % 2 ^ 64 ≡ y * 2 ^ o = ap (λ (n : ℕ). n * 2 ^ o % 2 ^ 64) e ∙ (rw v at (field-shifted b bin o (64 - o) p)) in
+      let n : field b 64 (p + o) ≡ y * 2 ^ o + field b o (p + 64) = rw (w, q) at (field-append b (64 - o) o (p + o)) in
+      omega (arith, m, n, f)
+
   -- w bits behind the first o of a word
   cut-at : (o w p x : ℕ) → w < 64 → o + w ≤ 64 → x ≡ field b 64 p → x * 2 ^ o % 2 ^ 64 / 2 ^ 1 / 2 ^ (63 - w) ≡ field b w (p + o)
   cut-at o w p x h g e =
@@ -144,11 +169,9 @@ module _ (b : Bits) (bin : Binary b) where
     pub window-of : {x y : ℕ} → x ≡ field b 64 (8 * (p / 8)) → y ≡ field b 8 (8 * (p / 8 + 8)) → bitOr (x * 2 ^ (p % 8) % 2 ^ 64) (y / 2 ^ (8 - p % 8)) ≡ field b 64 p
     window-of {x} {y} e f = window-at (p % 8) (8 * (p / 8)) x y (omega arith) e (behind (p / 8) 8 y f) ∙ ap (field b 64) here
 
-    -- where the ninth byte is zero
-    pub window-end : {x : ℕ} → x ≡ field b 64 (8 * (p / 8)) → 0 ≡ field b 8 (8 * (p / 8 + 8)) → x * 2 ^ (p % 8) % 2 ^ 64 ≡ field b 64 p
-    window-end {x} e f =
-        let z : 0 / 2 ^ (8 - p % 8) ≡ 0 = zero-div (2 ^ (8 - p % 8)) in
-        sym (or-zero-r (x * 2 ^ (p % 8) % 2 ^ 64)) ∙ rw z at (window-of e f)
+    -- where what would come of the ninth byte is zero
+    pub window-end : {x : ℕ} → x ≡ field b 64 (8 * (p / 8)) → 0 ≡ field b (p % 8) (8 * (p / 8) + 64) → x * 2 ^ (p % 8) % 2 ^ 64 ≡ field b 64 p
+    window-end {x} e f = window-past (p % 8) (8 * (p / 8)) x (omega arith) e f ∙ ap (field b 64) here
 
     -- the first w bits, where a word holds them
     pub cut-of : (w : ℕ) {x : ℕ} → w ≤ 56 → x ≡ field b 64 (8 * (p / 8)) → x * 2 ^ (p % 8) % 2 ^ 64 / 2 ^ 1 / 2 ^ (63 - w) ≡ field b w p
@@ -171,3 +194,17 @@ module _ (b : Bits) (bin : Binary b) where
   first-of w p x h e =
       let v : w + (64 - w) ≡ 64 = omega arith in
       rw e (rw v at (field-first b bin w (64 - w) p))
+
+  -- n bytes from k on, of the last 8 of l
+  pub last-of : (k l n x : ℕ) → n ≤ 8 → 8 ≤ l → k < l → l ≤ k + 8 → x ≡ field b 64 (8 * (l - 8)) → 0 ≡ field b (64 - 8 * (l - k)) (8 * (l - 8) + 64)
+      → x * 2 ^ (64 - 8 * (l - k)) % 2 ^ 64 / 2 ^ (64 - 8 * n) ≡ field b (8 * n) (8 * k)
+  last-of k l n x h i j m e f =
+      let o = 64 - 8 * (l - k) in
+      let q : 8 * (l - 8) + o ≡ 8 * k = omega arith in
+      first-of (8 * n) (8 * k) (x * 2 ^ o % 2 ^ 64) (omega arith) (window-past o (8 * (l - 8)) x (omega arith) e f ∙ ap (field b 64) q)
+
+-- what the test for the last 8 bytes tells
+pub are-last : (k l : ℕ) → (leb 8 l && (ltb k l && leb l (k + 8))) ≡ true → (8 ≤ l) × (k < l) × (l ≤ k + 8)
+are-last k l h =
+    let g = and-right (leb 8 l) (ltb k l && leb l (k + 8)) h in
+    (leb-true 8 l (and-left (leb 8 l) (ltb k l && leb l (k + 8)) h), ltb-true k l (and-left (ltb k l) (leb l (k + 8)) g), leb-true l (k + 8) (and-right (ltb k l) (leb l (k + 8)) g))

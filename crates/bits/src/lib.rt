@@ -57,6 +57,15 @@ fn word(s: &[u8], k: usize) -> u64
         | ((x >> 56) % 256)
 }
 
+// The n bytes from k on, where at most 8 are left. One load of the last 8 bytes has them all, and a shift brings in the zeros behind.
+fn last_bytes(s: &[u8], k: usize, n: usize) -> u64
+    requires { ⌜ (0 < n) × (n ≤ 8) × (8 ≤ length (now s)) × (k < length (now s)) × (length (now s) ≤ k + 8) ⌝ }
+    ensures { λ r. ⌜ r ≡ field (bits (now (s .entry))) (8 * n) (8 * k) ⌝ }
+{
+    let len = s.len();
+    (word(s, len - 8) << (64 - 8 * (len - k))) >> (64 - 8 * n)
+}
+
 // The n bytes from k on, those past the end as 0. It calls itself, so that the compiler keeps it out of its callers.
 fn bytes_or_zero(s: &[u8], k: usize, n: usize) -> u64
     requires { ⌜ (n ≤ 8) × (k < 2 ^ 61) ⌝ }
@@ -64,6 +73,10 @@ fn bytes_or_zero(s: &[u8], k: usize, n: usize) -> u64
 {
     if n == 0 {
         return 0;
+    }
+    let len = s.len();
+    if (8 <= len) & ((k < len) & (len <= k + 8)) {
+        return last_bytes(s, k, n);
     }
     let i = n - 1;
     bytes_or_zero(s, k, i) * 256 + byte_or_zero(s, k + i)

@@ -1,8 +1,8 @@
-use Rattle.bits.proofs.Laws.{byte-past, window-of, window-end}
+use Rattle.bits.proofs.Laws.{past, window-of, window-end}
 use Rattle.rules.specs.BundleLaws.{bits-binary}
 use Rattle.rules.specs.Bits.{bits}
 use native.Mathlib.Omega.{arith}
-use Prim.Native.Nat.{_+_, _/_}
+use Prim.Native.Nat.{_+_, _*_, _/_, _%_}
 use borrow.Author.Needs.{needs}
 use Rattle.bits.proofs.window.Statement.{statement}
 use Rattle.bits.proofs.window.Tie as tie
@@ -42,7 +42,7 @@ shl-result-2 c = search needs
 returns-2 : tie.Need-returns-2
 returns-2 c =
     let a = c .before .before .before .args in
-    window-end (bits (a .s .now)) (bits-binary (a .s .now)) (a .p) (c .near-end .ensures) (byte-past (a .s .now) (a .p / 8 + 8) (omega arith))
+    window-end (bits (a .s .now)) (bits-binary (a .s .now)) (a .p) (c .near-end .ensures) (past (a .s .now) (a .p % 8) (8 * (a .p / 8) + 64) (omega arith))
 
 pub window-spec : {M : Type 1} → statement M
 window-spec =
