@@ -26,7 +26,7 @@ use Rattle.places.specs.declared.Kind.the-variants as kind
 use Rattle.value.specs.declared.Value.{Value}
 use Rattle.value.specs.declared.Value.the-variants.{Missing, Null, False, True, Empty, Context, Place, Literal, Index, IndexText, Name, Text, SaidChar, PackedChar, Merged}
 use Rattle.places.specs.declared.Found.the-variants.{At}
-use Rattle.value.specs.Numbers.{word-of, place-of, pair-of, decoded, decoded-encoded}
+use Rattle.value.specs.Numbers.{word-of, place-of, pair-of, decoded, context-number, place-number, decoded-encoded}
 use Rattle.merging.specs.Lookup.{find-last}
 use Rattle.meaning.specs.Entries.{hash-value}
 use Rattle.meaning.specs.Meaning.{plain-json, pairs, merged-of, context-place, json-of}
@@ -64,14 +64,6 @@ pub no-member : (s : Bytes) (i : ℕ) (k : Bytes) → is-object s i ≡ false �
 no-member s i k o = record { small = omega arith; known = sym o; told = λ ne. absurd (ne refl) }
 
 -- Values by their last four bits
-
-pub context-number : (v : ℕ) → v % 16 ≡ 5 → decoded v ≡ Context (v / 16)
-unfolding decoded place-of
-context-number v e = rw e
-
-pub place-number : (v : ℕ) → v % 16 ≡ 6 → decoded v ≡ Place (v / 16)
-unfolding decoded place-of
-place-number v e = rw e
 
 module _ (v : ℕ) (h : (eqb (v % 16) 5 || eqb (v % 16) 6) ≡ true) where
   either-place : (C : Type 0) → (v % 16 ≡ 5 → C) → (v % 16 ≡ 6 → C) → C

@@ -1,11 +1,9 @@
 -- What a text that is stored at once leaves to the loop: to move its writer on.
 use Prim.Native.Nat.{ℕ, _+_, _-_, _/_, _%_, _^_, _<_}
-use mathlib.Core.Bool.{Bool, true, false, _&&_, _||_}
-use mathlib.Core.Logic.{inl, inr}
+use mathlib.Core.Bool.{Bool, true, false, _&&_}
 use mathlib.Core.Path.{_≡_, refl, sym, ap, _∙_}
-use lib.Dec.{eqb, ltb}
+use lib.Dec.{ltb}
 use lib.ListN.{length, take, drop}
-use borrow.Author.Tests.{eqb-true}
 use Rattle.rules.specs.Bytes.{Bytes, pick}
 use Rattle.rules.specs.Value.{render}
 use Rattle.output.specs.declared.Writer.{Writer}
@@ -15,9 +13,8 @@ use Rattle.support.specs.Feed.{escaped, fed}
 use Rattle.direct.specs.Direct.{behind, set-bytes}
 use Rattle.value.specs.declared.Value.{Value}
 use Rattle.value.specs.Numbers.{decoded}
-use Rattle.context.specs.Numbers.{context-number, place-number}
 use Rattle.print.specs.declared.Span.{Span}
-use Rattle.print.specs.Span.{calm-of, InPlan}
+use Rattle.print.specs.Span.{calm-value}
 use Rattle.meaning.specs.Forms.{Known}
 use Rattle.meaning.specs.Means.{Means, means-so}
 
@@ -48,23 +45,20 @@ pub record Printed (s : Bytes) (v : Value) (w : Writer) (page texts page′ text
 abbrev pub span-put : Bytes → Writer → ℕ → ℕ → Span → ℕ
 span-put s w page texts p = pick (ltb (p .start) (p .end)) (set-bytes w (pick (w .«block_text») texts page) (take (p .end - p .start) (drop (p .start) s))) 0
 
--- what the value with the number n prints, if it is a place of the plan, stands there so and needs no escaping, and no indent is due
+-- what the value with the number n prints, if it stands in the plan so and needs no escaping, and no indent is due
 abbrev pub number-put : Bytes → Writer → ℕ → ℕ → ℕ → ℕ
-number-put s w page texts n =
-    pick (w .«has_indent» && w .«indent_before_write») 0 (pick (eqb (n % 16) 5 || eqb (n % 16) 6) (span-put s w page texts (calm-of s (n / 16))) 0)
+number-put s w page texts n = pick (w .«has_indent» && w .«indent_before_write») 0 (span-put s w page texts (calm-value s n))
 
 pub record PutNumber (s : Bytes) (n : ℕ) (w : Writer) (page texts page′ texts′ : Bytes) (r : ℕ) : Type 0 where
   pub told : r ≡ number-put s w (length page) (length texts) n
   pub none : r ≡ 0 → (page′ ≡ page) × (texts′ ≡ texts)
   pub some : (r ≡ 0 → ⊥) → Printed s (decoded n) w page texts page′ texts′ (r / 256) (r % 256)
 
--- told apart by three tests
-pub number-by : (s : Bytes) (w : Writer) (page texts n : ℕ) (p : Span) → p ≡ calm-of s (n / 16) → (i j k : Bool) → (w .«has_indent» && w .«indent_before_write») ≡ i → (eqb (n % 16) 5 || eqb (n % 16) 6) ≡ j
-    → ltb (p .start) (p .end) ≡ k
-    → number-put s w page texts n ≡ pick i 0 (pick j (pick k (set-bytes w (pick (w .«block_text») texts page) (take (p .end - p .start) (drop (p .start) s))) 0) 0)
-number-by s w page texts n p hp i j k e f g =
-    ap (λ (z : Span). pick (w .«has_indent» && w .«indent_before_write») 0 (pick (eqb (n % 16) 5 || eqb (n % 16) 6) (span-put s w page texts z) 0)) (sym hp)
-    ∙ rw (e, f, g)
+-- told apart by two tests
+pub number-by : (s : Bytes) (w : Writer) (page texts n : ℕ) (p : Span) → p ≡ calm-value s n → (i k : Bool) → (w .«has_indent» && w .«indent_before_write») ≡ i → ltb (p .start) (p .end) ≡ k
+    → number-put s w page texts n ≡ pick i 0 (pick k (set-bytes w (pick (w .«block_text») texts page) (take (p .end - p .start) (drop (p .start) s))) 0)
+number-by s w page texts n p hp i k e g =
+    ap (λ (z : Span). pick (w .«has_indent» && w .«indent_before_write») 0 (span-put s w page texts z)) (sym hp) ∙ rw (e, g)
 
 pub either-escaped : (e : Bool) (v : Bytes) → escaped true v ≡ v → escaped e v ≡ v
 either-escaped true v h = h
@@ -87,11 +81,3 @@ module _ (s b : Bytes) (v : Value) (i : Bytes) (e : Bool) (w u : Writer) (page t
   value-by n c h p k =
       means-so s b v (λ j. outputs (behind n c w) page′ texts′ ≡ fed i (escaped e (render j)) (outputs w page texts)) (λ j. outputs u page′ texts′ ≡ fed i (escaped e (render j)) (outputs w page texts))
       (λ j q. ap (λ (x : Writer). outputs x page′ texts′) h ∙ q) (p .is b k i e)
-
--- the number of a value that is a place of the plan
-pub number-place : (n : ℕ) → (eqb (n % 16) 5 || eqb (n % 16) 6) ≡ true → InPlan (decoded n) (n / 16)
-number-place n h = by (eqb (n % 16) 5) refl h
-  where
-    by : (t : Bool) → eqb (n % 16) 5 ≡ t → (t || eqb (n % 16) 6) ≡ true → InPlan (decoded n) (n / 16)
-    by true e k = inl (context-number n (eqb-true (n % 16) 5 e))
-    by false e k = inr (place-number n (eqb-true (n % 16) 6 k))

@@ -178,15 +178,11 @@ pub fn put_number(
     if w.has_indent & w.indent_before_write {
         return 0;
     }
-    // a place of the plan, with the path to it or without
-    let tag = n % 16;
-    if (tag == 5) | (tag == 6) {
-        let p = print::calm_place(s, tab, (n / 16) as usize);
-        let at = p.start;
-        let e = p.end;
-        if at < e {
-            return put_bytes(page, texts, w, &s[at..e]);
-        }
+    let p = print::calm_value(s, tab, n);
+    let at = p.start;
+    let e = p.end;
+    if at < e {
+        return put_bytes(page, texts, w, &s[at..e]);
     }
     0
 }

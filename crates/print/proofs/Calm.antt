@@ -1,7 +1,8 @@
 -- What a value prints that stands in the plan, where nothing of it is escaped.
-use Prim.Native.Nat.{ℕ, zero, suc, _+_, _-_, _≤_, _<_}
-use mathlib.Core.Bool.{Bool, true, false, _&&_, not}
+use Prim.Native.Nat.{ℕ, zero, suc, _+_, _-_, _/_, _%_, _≤_, _<_}
+use mathlib.Core.Bool.{Bool, true, false, _&&_, _||_, not}
 use mathlib.Core.List.{List, [], _∷_}
+use mathlib.Core.Logic.{inl, inr}
 use mathlib.Core.Path.{_≡_, refl, sym, ap, _∙_, subst}
 use native.Mathlib.Numerals.{add-one}
 use native.Mathlib.Omega.{arith}
@@ -18,8 +19,10 @@ use Rattle.support.specs.Runs.{quiet-byte}
 use Rattle.support.specs.Table.{row-in, row-of}
 use Rattle.saying.specs.Said.{is-own, own-end}
 use Rattle.places.specs.Places.{start-of, tree-at}
+use Rattle.value.specs.declared.Value.{Value}
+use Rattle.value.specs.Numbers.{decoded, context-number, place-number, name-number}
 use Rattle.print.specs.declared.Span.{Span}
-use Rattle.print.specs.Span.{no-span, string-span, number-span, span-at, span-of, is-calm, calm-end, calm-string, calm-at, calm-of}
+use Rattle.print.specs.Span.{no-span, string-span, number-span, span-at, InPlan, value-span, is-calm, calm-end, calm-string, calm-at, calm-of, calm-value}
 
 pub calm-number : (s : Bytes) (q : ℕ) → (byte-at s q ≡ 34 → ⊥) → calm-at s q ≡ number-span s q
 unfolding calm-at
@@ -160,6 +163,14 @@ run-same (c ∷ l) h = by (is-calm c) refl (run-same l) h
     by true e f k = ap (λ (t : Bool). pick t (suc (run is-own l)) 0) (calm-own c e) ∙ ap suc (f k)
     by false e f k = ap (λ (x : ℕ). pick (is-own x) (suc (run is-own l)) 0) k
 
+-- the number of a value that is a place of the plan
+pub number-place : (n : ℕ) → (eqb (n % 16) 5 || eqb (n % 16) 6) ≡ true → InPlan (decoded n) (n / 16)
+number-place n h = by (eqb (n % 16) 5) refl h
+  where
+    by : (t : Bool) → eqb (n % 16) 5 ≡ t → (t || eqb (n % 16) 6) ≡ true → InPlan (decoded n) (n / 16)
+    by true e k = inl (context-number n (eqb-true (n % 16) 5 e))
+    by false e k = inr (place-number n (eqb-true (n % 16) 6 k))
+
 -- THE LAWS: such a span is the value's, and nothing of it is escaped
 
 record Both (s : Bytes) (has : Bool) (p x : Span) : Type 0 where
@@ -193,8 +204,18 @@ module _ (s : Bytes) (has : Bool) (p : Span) (some : p .end ≡ 0 → ⊥) where
         quiet = subst (λ (y : Span). Quiet has (take (y .end - y .start) (drop (y .start) s))) (sym k) (number-quiet has s q (λ z. some (ap (λ (y : Span). y .end) k ∙ z)));
       }
 
-  pub calm-is : (i : ℕ) → p ≡ calm-of s i → p ≡ span-of s i
-  calm-is i e = place-both (start-of (tree-at s i)) e .same
+  value-both : (n : ℕ) → p ≡ calm-value s n → Both s has p (value-span s (decoded n))
+  unfolding calm-value
+  value-both n k = by (eqb (n % 16) 5) (eqb (n % 16) 6) (eqb (n % 16) 10) refl refl refl k
+    where
+      by : (t u v : Bool) → eqb (n % 16) 5 ≡ t → eqb (n % 16) 6 ≡ u → eqb (n % 16) 10 ≡ v → p ≡ pick (t || u) (calm-of s (n / 16)) (pick v (calm-string s (n / 16 + 1)) no-span) → Both s has p (value-span s (decoded n))
+      by true u v e f g k = subst (λ (x : Value). Both s has p (value-span s x)) (sym (context-number n (eqb-true (n % 16) 5 e))) (place-both (start-of (tree-at s (n / 16))) k)
+      by false true v e f g k = subst (λ (x : Value). Both s has p (value-span s x)) (sym (place-number n (eqb-true (n % 16) 6 f))) (place-both (start-of (tree-at s (n / 16))) k)
+      by false false true e f g k = subst (λ (x : Value). Both s has p (value-span s x)) (sym (name-number n (eqb-true (n % 16) 10 g))) (text-both (n / 16 + 1) k)
+      by false false false e f g k = absurd (some (ap (λ (y : Span). y .end) k))
 
-  pub calm-means : (i : ℕ) → p ≡ calm-of s i → run (quiet-byte has true) (take (p .end - p .start) (drop (p .start) s)) ≡ length (take (p .end - p .start) (drop (p .start) s))
-  calm-means i e = place-both (start-of (tree-at s i)) e .quiet
+  pub calm-is : (n : ℕ) → p ≡ calm-value s n → p ≡ value-span s (decoded n)
+  calm-is n e = value-both n e .same
+
+  pub calm-means : (n : ℕ) → p ≡ calm-value s n → run (quiet-byte has true) (take (p .end - p .start) (drop (p .start) s)) ≡ length (take (p .end - p .start) (drop (p .start) s))
+  calm-means n e = value-both n e .quiet

@@ -69,28 +69,33 @@ digit-starts s (tree q m l) d =
       ne-eqb c 45 (λ z. omega arith),
     )
 
+-- a string whose first quote stands at q
+string-shows : (s : Bytes) (h : answer s ≡ 0) (p : Span) → (p .end ≡ 0 → ⊥) → (q : ℕ) → q < length s → p ≡ string-span s (q + 1) → Shows s p (jstr (saying s q))
+unfolding string-span
+string-shows s h p some q lt k = by (eqb (byte-at s e) 34) refl k
+  where
+    e : ℕ
+    e = own-end s (q + 1)
+
+    by : (t : Bool) → eqb (byte-at s e) 34 ≡ t → p ≡ pick t (record { start = q + 1; end = e }) no-span → Shows s p (jstr (saying s q))
+    by false x k = absurd (some (ap (λ (y : Span). y .end) k))
+    by true x k =
+        let near : q + 1 ≤ 65548 = omega (arith, lt, short s h) in
+        subst (λ (y : Span). Shows s y (jstr (saying s q))) (sym k)
+        (record {
+          within = part-in s (q + 1) e refl;
+          is = part-is s (q + 1) e refl 0 (short s h) (inside-start s (q + 1) near)
+              ∙ ap (λ (l : Bytes). take (e - (q + 1)) (drop (q + 1) s) ++ l) (left-quote s e 0 (eqb-true (byte-at s e) 34 x)) ∙ append-nil (take (e - (q + 1)) (drop (q + 1) s));
+        })
+
 module _ (s : Bytes) (h : answer s ≡ 0) (i : ℕ) (lt : i < places s) (p : Span) (some : p .end ≡ 0 → ⊥) where
   abbrev q : ℕ
   q = start-of (tree-at s i)
 
-  abbrev e : ℕ
-  e = own-end s (q + 1)
-
   -- a string
   text-shows : byte-at s q ≡ 34 → p ≡ string-span s (q + 1) → Shows s p (json-at s i)
-  unfolding string-span json-at
-  text-shows c k = by (eqb (byte-at s e) 34) refl k
-    where
-      by : (t : Bool) → eqb (byte-at s e) 34 ≡ t → p ≡ pick t (record { start = q + 1; end = e }) no-span → Shows s p (json-at s i)
-      by false x k = absurd (some (ap (λ (y : Span). y .end) k))
-      by true x k =
-          let near : q + 1 ≤ 65548 = omega (arith, sound-at s h i lt .within, short s h) in
-          subst (λ (y : Span). Shows s y (json-at s i)) (sym k)
-          (record {
-            within = part-in s (q + 1) e refl;
-            is = ap render (text-starts s (tree-at s i) c) ∙ part-is s (q + 1) e refl 0 (short s h) (inside-start s (q + 1) near)
-                ∙ ap (λ (l : Bytes). take (e - (q + 1)) (drop (q + 1) s) ++ l) (left-quote s e 0 (eqb-true (byte-at s e) 34 x)) ∙ append-nil (take (e - (q + 1)) (drop (q + 1) s));
-          })
+  unfolding json-at
+  text-shows c k = subst (Shows s p) (sym (text-starts s (tree-at s i) c)) (string-shows s h p some q (sound-at s h i lt .within) k)
 
   -- a number: d is the place behind its sign, w that behind its digits
   module _ (d w : ℕ) (hw : w ≡ whole-end s d) (there : w ≡ 0 → ⊥) (m : decimal-value 0 (slice s d w) ≡ magnitude s q) where
@@ -137,7 +142,7 @@ module _ (s : Bytes) (h : answer s ≡ 0) (i : ℕ) (lt : i < places s) (p : Spa
 
 -- the numbers of the kinds of values that stand elsewhere
 abbrev pub others : List ℕ
-others = 0 ∷ 1 ∷ 2 ∷ 3 ∷ 4 ∷ 7 ∷ 8 ∷ 9 ∷ 10 ∷ 11 ∷ 12 ∷ 13 ∷ 14 ∷ []
+others = 0 ∷ 1 ∷ 2 ∷ 3 ∷ 4 ∷ 7 ∷ 8 ∷ 9 ∷ 11 ∷ 12 ∷ 13 ∷ 14 ∷ []
 
 pub elsewhere : (s : Bytes) (v : Value) → OneOf others (tagOf the-type v) → no-span ≡ value-span s v
 elsewhere s Missing k = refl
@@ -150,46 +155,62 @@ elsewhere s (Place i) k = absurd (miss others 6 tt k)
 elsewhere s (Literal p) k = refl
 elsewhere s (Index n) k = refl
 elsewhere s (IndexText n) k = refl
-elsewhere s (Name o) k = refl
+elsewhere s (Name o) k = absurd (miss others 10 tt k)
 elsewhere s (Text p) k = refl
 elsewhere s (SaidChar o n) k = refl
 elsewhere s (PackedChar p n) k = refl
 elsewhere s (Merged h n) k = refl
 
--- a value of which a span is told stands in the plan
-in-plan : (s : Bytes) (v : Value) (p : Span) → (p .end ≡ 0 → ⊥) → p ≡ value-span s v → (i : ℕ) × InPlan v i × (p ≡ span-of s i)
-in-plan s Missing p h e = absurd (h (ap (λ (y : Span). y .end) e))
-in-plan s Null p h e = absurd (h (ap (λ (y : Span). y .end) e))
-in-plan s False p h e = absurd (h (ap (λ (y : Span). y .end) e))
-in-plan s True p h e = absurd (h (ap (λ (y : Span). y .end) e))
-in-plan s Empty p h e = absurd (h (ap (λ (y : Span). y .end) e))
-in-plan s (Context i) p h e = (i, inl refl, e)
-in-plan s (Place i) p h e = (i, inr refl, e)
-in-plan s (Literal q) p h e = absurd (h (ap (λ (y : Span). y .end) e))
-in-plan s (Index n) p h e = absurd (h (ap (λ (y : Span). y .end) e))
-in-plan s (IndexText n) p h e = absurd (h (ap (λ (y : Span). y .end) e))
-in-plan s (Name o) p h e = absurd (h (ap (λ (y : Span). y .end) e))
-in-plan s (Text q) p h e = absurd (h (ap (λ (y : Span). y .end) e))
-in-plan s (SaidChar o n) p h e = absurd (h (ap (λ (y : Span). y .end) e))
-in-plan s (PackedChar q n) p h e = absurd (h (ap (λ (y : Span). y .end) e))
-in-plan s (Merged g n) p h e = absurd (h (ap (λ (y : Span). y .end) e))
+pub plan-within : (s b : Bytes) (v : Value) → Known s b v → (i : ℕ) → InPlan v i → i < places s
+plan-within s b v k i (inl e) = subst (Known s b) e k refl .0
+plan-within s b v k i (inr e) = subst (Known s b) e k refl
+
+pub name-within : (s b : Bytes) (v : Value) → Known s b v → (o : ℕ) → v ≡ Name o → o < length s
+name-within s b v k o e = subst (Known s b) e k refl .within
 
 pub plan-span : (s : Bytes) (v : Value) (i : ℕ) → InPlan v i → span-of s i ≡ value-span s v
 plan-span s v i (inl e) = sym (ap (value-span s) e)
 plan-span s v i (inr e) = sym (ap (value-span s) e)
 
-module _ (s b : Bytes) (v : Value) where
-  pub plan-within : Known s b v → (i : ℕ) → InPlan v i → i < places s
-  plan-within k i (inl e) = subst (Known s b) e k refl .0
-  plan-within k i (inr e) = subst (Known s b) e k refl
+-- what a value means that stands in the plan, and that its span shows
+record Told (s b : Bytes) (v : Value) (p : Span) : Type 1 where
+  json : Json
+  shows : Shows s p json
+  means : (P : Json → Type 0) → P json → Means s b v P
 
-  plan-means : (i : ℕ) → InPlan v i → (P : Json → Type 0) → P (json-at s i) → Means s b v P
-  plan-means i (inl e) P x = subst (λ (u : Value). Means s b u P) (sym e) (record { at = λ ent t st. subst P (sym (plain-is s b ent (Context i) refl)) x })
-  plan-means i (inr e) P x = subst (λ (u : Value). Means s b u P) (sym e) (record { at = λ ent t st. subst P (sym (plain-is s b ent (Place i) refl)) x })
+-- a value of which a span is told stands in the plan
+told : (s b : Bytes) (v : Value) → answer s ≡ 0 → Known s b v → (p : Span) → (p .end ≡ 0 → ⊥) → p ≡ value-span s v → Told s b v p
+told s b Missing h k p n e = absurd (n (ap (λ (y : Span). y .end) e))
+told s b Null h k p n e = absurd (n (ap (λ (y : Span). y .end) e))
+told s b False h k p n e = absurd (n (ap (λ (y : Span). y .end) e))
+told s b True h k p n e = absurd (n (ap (λ (y : Span). y .end) e))
+told s b Empty h k p n e = absurd (n (ap (λ (y : Span). y .end) e))
+told s b (Context i) h k p n e = record {
+  json = json-at s i;
+  shows = span-shows s h i (k refl .0) p n e;
+  means = λ P x. record { at = λ ent t st. subst P (sym (plain-is s b ent (Context i) refl)) x };
+}
+told s b (Place i) h k p n e = record {
+  json = json-at s i;
+  shows = span-shows s h i (k refl) p n e;
+  means = λ P x. record { at = λ ent t st. subst P (sym (plain-is s b ent (Place i) refl)) x };
+}
+told s b (Literal q) h k p n e = absurd (n (ap (λ (y : Span). y .end) e))
+told s b (Index m) h k p n e = absurd (n (ap (λ (y : Span). y .end) e))
+told s b (IndexText m) h k p n e = absurd (n (ap (λ (y : Span). y .end) e))
+told s b (Name o) h k p n e = record {
+  json = jstr (saying s o);
+  shows = string-shows s h p n o (k refl .within) e;
+  means = λ P x. record { at = λ ent t st. subst P (sym (plain-is s b ent (Name o) refl)) x };
+}
+told s b (Text q) h k p n e = absurd (n (ap (λ (y : Span). y .end) e))
+told s b (SaidChar o m) h k p n e = absurd (n (ap (λ (y : Span). y .end) e))
+told s b (PackedChar q m) h k p n e = absurd (n (ap (λ (y : Span). y .end) e))
+told s b (Merged g m) h k p n e = absurd (n (ap (λ (y : Span). y .end) e))
 
-  module _ (h : answer s ≡ 0) (k : Known s b v) (p : Span) (some : p .end ≡ 0 → ⊥) where
-    pub span-within : p ≡ value-span s v → p .start < p .end → p .end ≤ length s
-    span-within e = let x = in-plan s v p some e in span-shows s h (x .0) (plan-within k (x .0) (x .1)) p some (x .2) .within
+module _ (s b : Bytes) (v : Value) (h : answer s ≡ 0) (k : Known s b v) (p : Span) (some : p .end ≡ 0 → ⊥) where
+  pub span-within : p ≡ value-span s v → p .start < p .end → p .end ≤ length s
+  span-within e = told s b v h k p some e .shows .within
 
-    pub span-means : p ≡ value-span s v → (P : Json → Type 0) → ((j : Json) → render j ≡ take (p .end - p .start) (drop (p .start) s) → P j) → Means s b v P
-    span-means e P g = let x = in-plan s v p some e in plan-means (x .0) (x .1) P (g (json-at s (x .0)) (span-shows s h (x .0) (plan-within k (x .0) (x .1)) p some (x .2) .is))
+  pub span-means : p ≡ value-span s v → (P : Json → Type 0) → ((j : Json) → render j ≡ take (p .end - p .start) (drop (p .start) s) → P j) → Means s b v P
+  span-means e P g = let x = told s b v h k p some e in x .means P (g (x .json) (x .shows .is))

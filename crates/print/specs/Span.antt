@@ -1,6 +1,6 @@
 -- Bytes of the plan that a value prints just as they stand there.
-use Prim.Native.Nat.{ℕ, _+_}
-use mathlib.Core.Bool.{Bool, _&&_, not}
+use Prim.Native.Nat.{ℕ, _+_, _/_, _%_}
+use mathlib.Core.Bool.{Bool, _&&_, _||_, not}
 use mathlib.Core.Logic.{_⊎_}
 use mathlib.Core.Path.{_≡_}
 use lib.Dec.{eqb, leb}
@@ -48,7 +48,7 @@ value-span s (Place i) = span-of s i
 value-span s (Literal p) = no-span
 value-span s (Index n) = no-span
 value-span s (IndexText n) = no-span
-value-span s (Name o) = no-span
+value-span s (Name o) = string-span s (o + 1)
 value-span s (Text p) = no-span
 value-span s (SaidChar o n) = no-span
 value-span s (PackedChar p n) = no-span
@@ -71,3 +71,7 @@ calm-at s q = pick (eqb (byte-at s q) 34) (calm-string s (q + 1)) (number-span s
 
 abbrev pub calm-of : Bytes → ℕ → Span
 calm-of s i = calm-at s (start-of (tree-at s i))
+
+-- of the value with the number n
+unfoldable pub calm-value : Bytes → ℕ → Span
+calm-value s n = pick (eqb (n % 16) 5 || eqb (n % 16) 6) (calm-of s (n / 16)) (pick (eqb (n % 16) 10) (calm-string s (n / 16 + 1)) no-span)

@@ -2,7 +2,7 @@
 ghost use mathlib.Core.Path.{_≡_};
 ghost use Prim.Native.Nat.{ℕ, _+_, _-_, _*_, _≤_, _<_};
 ghost use lib.ListN.{length, take, drop};
-ghost use Rattle.rules.specs.Bytes.{same};
+ghost use Rattle.rules.specs.Bytes.{Bytes, same};
 ghost use Rattle.rules.specs.Json.{jbool, jpos, jneg};
 ghost use Rattle.rules.specs.Value.{render};
 ghost use Rattle.rules.specs.Bits.{bits};
@@ -15,11 +15,12 @@ ghost use Rattle.output.specs.Writer.{output};
 ghost use Rattle.places.specs.Accepted.{Accepted};
 ghost use Rattle.places.specs.Places.{places, json-at};
 ghost use Rattle.text.specs.Rest.{rest, Stands};
+ghost use Rattle.value.specs.Numbers.{decoded};
 ghost use Rattle.meaning.specs.Forms.{Known};
 ghost use Rattle.meaning.specs.Means.{Means};
 ghost use Rattle.text.specs.Strip.{stripped};
 ghost use Rattle.print.specs.Printed.{printed, IsList};
-ghost use Rattle.print.specs.Span.{string-span, span-of, InPlan, value-span, is-calm, calm-end, calm-string, calm-of};
+ghost use Rattle.print.specs.Span.{string-span, span-of, value-span, is-calm, calm-end, calm-string, calm-of, calm-value};
 ghost use Rattle.print.specs.Target as target;
 ghost use Rattle.print.specs.Target.{met};
 use meaning::Form;
@@ -226,12 +227,13 @@ fn place_span(s: &[u8], tab: &[u64], i: usize) -> Span
 
 // The same of a value. (What the plan has is mostly printed so, with no question what form it has.)
 pub fn value_span(s: &[u8], tab: &[u64], v: Value) -> Span
-    requires { ⌜ Accepted (now s) (now tab) × ((i : ℕ) → InPlan v i → i < places (now s)) ⌝ }
+    requires { ⌜ Accepted (now s) (now tab) × ((b : Bytes) × Known (now s) b v) ⌝ }
     ensures { λ r. ⌜ r ≡ value-span (now (s .entry)) v ⌝ }
 {
     match v {
         Value::Context(i) => place_span(s, tab, i),
         Value::Place(i) => place_span(s, tab, i),
+        Value::Name(o) => string_span(s, o + 1),
         _ => Span { start: 0, end: 0 },
     }
 }
@@ -272,7 +274,7 @@ fn calm_string(s: &[u8], i: usize) -> Span
 }
 
 // What the value at the place i prints, if that stands in the plan just so and nothing of it is escaped: one pass over its bytes tells both.
-pub fn calm_place(s: &[u8], tab: &[u64], i: usize) -> Span
+fn calm_place(s: &[u8], tab: &[u64], i: usize) -> Span
     requires { ⌜ Accepted (now s) (now tab) × (i < places (now s)) ⌝ }
     ensures { λ r. ⌜ r ≡ calm-of (now (s .entry)) i ⌝ }
 {
@@ -282,6 +284,22 @@ pub fn calm_place(s: &[u8], tab: &[u64], i: usize) -> Span
     }
     let e = scan::whole_end(s, scan::minus_end(s, q));
     Span { start: q, end: e }
+}
+
+// The same of the value with the number n: a place of the plan, with the path to it or without, or a member's name.
+pub fn calm_value(s: &[u8], tab: &[u64], n: u32) -> Span
+    requires { ⌜ Accepted (now s) (now tab) × ((b : Bytes) × Known (now s) b (decoded n)) ⌝ }
+    ensures { λ r. ⌜ r ≡ calm-value (now (s .entry)) n ⌝ }
+{
+    let tag = n % 16;
+    let x = (n / 16) as usize;
+    if (tag == 5) | (tag == 6) {
+        return calm_place(s, tab, x);
+    }
+    if tag == 10 {
+        return calm_string(s, x + 1);
+    }
+    Span { start: 0, end: 0 }
 }
 
 // What a value prints.

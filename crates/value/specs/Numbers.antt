@@ -62,6 +62,19 @@ pair-of t x = pick (eqb t 12) (SaidChar (x / 8) (x % 8)) (pick (eqb t 13) (Packe
 unfoldable pub decoded : ℕ → Value
 decoded n = pick (ltb (n % 16) 5) (word-of (n % 16)) (pick (ltb (n % 16) 12) (place-of (n % 16) (n / 16)) (pair-of (n % 16) (n / 16)))
 
+-- the kinds of the plan, by their last four bits
+pub context-number : (n : ℕ) → n % 16 ≡ 5 → decoded n ≡ Context (n / 16)
+unfolding decoded place-of
+context-number n e = rw e
+
+pub place-number : (n : ℕ) → n % 16 ≡ 6 → decoded n ≡ Place (n / 16)
+unfolding decoded place-of
+place-number n e = rw e
+
+pub name-number : (n : ℕ) → n % 16 ≡ 10 → decoded n ≡ Name (n / 16)
+unfolding decoded place-of
+name-number n e = rw e
+
 -- what was stored is read back
 tagged : (t x : ℕ) → t < 16 → decoded (t + 16 * x) ≡ pick (ltb t 5) (word-of t) (pick (ltb t 12) (place-of t x) (pair-of t x))
 unfolding decoded

@@ -12,7 +12,7 @@ use Rattle.rules.specs.Context.{is-lone-name, parse-json-visitor, follow, navig
 use Rattle.parts.specs.Says.{segments-at}
 use Rattle.places.specs.Places.{json-at}
 use Rattle.value.specs.declared.Value.{Value}
-use Rattle.value.specs.Numbers.{decoded}
+use Rattle.value.specs.Numbers.{decoded, context-number}
 use Rattle.value.specs.declared.Value.the-variants.{Context}
 use Rattle.meaning.specs.Meaning.{context-place}
 use Rattle.meaning.specs.Standing.{Stands, stands-plain}
@@ -26,7 +26,7 @@ use native.Mathlib.Omega.{arith}
 use Rattle.context.specs.declared.Evaluated.{Evaluated}
 use Rattle.context.specs.Evaluated.{Evaluates, Walked, numbered, evaluated-of}
 use Rattle.context.specs.Near.{scopes-near}
-use Rattle.context.specs.Numbers.{context-number, pathless-number}
+use Rattle.context.specs.Numbers.{pathless-number}
 use Rattle.context.proofs.Numbers.{past-one, missing-told}
 use Rattle.context.proofs.Climbing.{navigated}
 use Rattle.context.proofs.Starting.{each-true}

@@ -10,31 +10,24 @@ use Rattle.rules.specs.Value.{render}
 use Rattle.output.specs.Outputs.{outputs}
 use Rattle.support.specs.Feed.{escaped, fed}
 use Rattle.places.specs.Nodes.{short}
-use Rattle.print.proofs.Spans.{plan-within, plan-span, span-within, span-means}
+use Rattle.print.proofs.Spans.{span-within, span-means}
 use Rattle.support.specs.Runs.{quiet-byte}
 use Rattle.print.proofs.Calm.{calm-is, calm-means}
 use Rattle.value.specs.Numbers.{decoded}
-use Rattle.print.specs.Span.{calm-of}
+use Rattle.print.specs.Span.{calm-value}
 use Rattle.direct.specs.Direct.{behind}
-use Rattle.plain.specs.Put.{either-escaped, number-place, number-by}
+use Rattle.plain.specs.Put.{either-escaped, number-by}
 use borrow.Author.Needs.{needs}
 use Rattle.plain.proofs.put_number.Statement.{statement}
 use Rattle.plain.proofs.put_number.Tie as tie
-use Rattle.plain.proofs.put_number.Reads as reads
-use Rattle.plain.proofs.put_number.Lts as lts
-use Rattle.plain.proofs.put_bytes.Reads as put-bytes-reads
-use Rattle.print.proofs.calm_place.Reads as calm-place-reads
 
 returns : tie.Need-returns
 returns c =
     let a = c .before .before .before .before .before .before .args in
-    record { told = sym (number-by (a .s .now) (a .w) (length (a .page .now)) (length (a .texts .now)) (a .n) (calm-of (a .s .now) (a .n / 16)) refl true _ _ (c .if1 .taken) refl refl); none = λ _. (refl, refl); some = λ z. absurd (z refl) }
+    record { told = sym (number-by (a .s .now) (a .w) (length (a .page .now)) (length (a .texts .now)) (a .n) (calm-value (a .s .now) (a .n)) refl true _ (c .if1 .taken) refl); none = λ _. (refl, refl); some = λ z. absurd (z refl) }
 
-cast-calm-place : tie.Need-cast-calm-place
-cast-calm-place c = search needs
-
-calm-place-requires : tie.Need-calm-place-requires
-calm-place-requires c κs = let s = c .before .before .before .before .before .before .before in let a = s .args in (s .pre .0, plan-within (a .s .now) (s .pre .1 .0) (decoded (a .n)) (s .pre .1 .1) (a .n / 16) (number-place (a .n) (c .if2 .taken)))
+calm-value-requires : tie.Need-calm-value-requires
+calm-value-requires c κs = c .before .before .before .before .before .before .pre
 
 sub-put-bytes : tie.Need-sub-put-bytes
 sub-put-bytes c = search needs
@@ -43,17 +36,23 @@ part-put-bytes-start : tie.Need-part-put-bytes-start
 part-put-bytes-start c = search needs
 
 part-put-bytes-end : tie.Need-part-put-bytes-end
-part-put-bytes-end c = let s = c .before .before .before .before .before .before .before .before .before .before .before in let a = s .args in let i = number-place (a .n) (c .before .before .before .before .if2 .taken) in let p = c .before .before .before .calm-place in let lt = c .before .before .if3 .taken in let sp = calm-is (a .s .now) (a .w .«has_indent») (p .result) (λ y. absurd (omega (arith, y, lt))) (a .n / 16) (p .ensures) ∙ plan-span (a .s .now) (decoded (a .n)) (a .n / 16) i in span-within (a .s .now) (s .pre .1 .0) (decoded (a .n)) (s .pre .0 .answers) (s .pre .1 .1) (p .result) (λ y. absurd (omega (arith, y, lt))) sp lt
+part-put-bytes-end c =
+    let s = c .before .before .before .before .before .before .before .before .before .before in
+    let a = s .args in
+    let p = c .before .before .before .calm-value in
+    let lt = c .before .before .if2 .taken in
+    let sp = calm-is (a .s .now) (a .w .«has_indent») (p .result) (λ y. absurd (omega (arith, y, lt))) (a .n) (p .ensures) in
+    span-within (a .s .now) (s .pre .1 .0) (decoded (a .n)) (s .pre .0 .answers) (s .pre .1 .1) (p .result) (λ y. absurd (omega (arith, y, lt))) sp lt
 
 put-bytes-requires : tie.Need-put-bytes-requires
-put-bytes-requires c κs = let s = c .before .before .before .before .before .before .before .before .before .before .before .before in
+put-bytes-requires c κs =
+    let s = c .before .before .before .before .before .before .before .before .before .before .before in
     let a = s .args in
-    let f = c .before .before .before .before .calm-place in
-    let p = f .result in
-    let lt = c .before .before .before .if3 .taken in
-    let v : Bytes = take (p .end - p .start) (drop (p .start) (a .s .now)) in (
-      omega (arith, length-take (p .end - p .start) (drop (p .start) (a .s .now)), length-drop (p .start) (a .s .now), short (a .s .now) (s .pre .0 .answers)),
-      eq-eqb (run (quiet-byte (a .w .«has_indent») true) v) (length v) (calm-means (a .s .now) (a .w .«has_indent») p (λ z. absurd (omega (arith, z, lt))) (a .n / 16) (f .ensures)),
+    let p = c .before .before .before .before .calm-value in
+    let lt = c .before .before .before .if2 .taken in
+    let v : Bytes = take (p .result .end - p .result .start) (drop (p .result .start) (a .s .now)) in (
+      omega (arith, length-take (p .result .end - p .result .start) (drop (p .result .start) (a .s .now)), length-drop (p .result .start) (a .s .now), short (a .s .now) (s .pre .0 .answers)),
+      eq-eqb (run (quiet-byte (a .w .«has_indent») true) v) (length v) (calm-means (a .s .now) (a .w .«has_indent») (p .result) (λ z. absurd (omega (arith, z, lt))) (a .n) (p .ensures)),
     )
 
 same-length : tie.Need-same-length
@@ -63,13 +62,16 @@ same-length-2 : tie.Need-same-length-2
 same-length-2 c = search needs
 
 returns-2 : tie.Need-returns-2
-returns-2 c = let s = c .before .before .before .before .before .before .before .before .before .before .before .before .before .before .before .before .before in
+returns-2 c =
+    let s = c .before .before .before .before .before .before .before .before .before .before .before .before .before .before .before .before in
     let a = s .args in
-    let i = number-place (a .n) (c .before .before .before .before .before .before .before .before .before .before .if2 .taken) in let p = c .before .before .before .before .before .before .before .before .before .calm-place in let lt = c .before .before .before .before .before .before .before .before .if3 .taken in let sp = calm-is (a .s .now) (a .w .«has_indent») (p .result) (λ y. absurd (omega (arith, y, lt))) (a .n / 16) (p .ensures) ∙ plan-span (a .s .now) (decoded (a .n)) (a .n / 16) i in
+    let p = c .before .before .before .before .before .before .before .before .before .calm-value in
+    let lt = c .before .before .before .before .before .before .before .before .if2 .taken in
+    let sp = calm-is (a .s .now) (a .w .«has_indent») (p .result) (λ y. absurd (omega (arith, y, lt))) (a .n) (p .ensures) in
     let f = c .before .before .before .before .put-bytes in
     let v : Bytes = take (p .result .end - p .result .start) (drop (p .result .start) (a .s .now)) in
     record {
-      told = f .ensures .told ∙ sym (number-by (a .s .now) (a .w) (length (a .page .now)) (length (a .texts .now)) (a .n) (p .result) (p .ensures) false true true (c .before .before .before .before .before .before .before .before .before .before .before .if1 .left) (c .before .before .before .before .before .before .before .before .before .before .if2 .taken) (lt-ltb _ _ lt));
+      told = f .ensures .told ∙ sym (number-by (a .s .now) (a .w) (length (a .page .now)) (length (a .texts .now)) (a .n) (p .result) (p .ensures) false true (c .before .before .before .before .before .before .before .before .before .before .if1 .left) (lt-ltb _ _ lt));
       none = f .ensures .put .none;
       some = λ z. let q = f .ensures .put .some z in record {
         byte = q .byte;
@@ -82,22 +84,16 @@ returns-2 c = let s = c .before .before .before .before .before .before .before 
 
 returns-3 : tie.Need-returns-3
 returns-3 c =
-    let a = c .before .before .before .before .before .before .before .before .before .args in
-    let p = c .before .calm-place in
-    record { told = sym (number-by (a .s .now) (a .w) (length (a .page .now)) (length (a .texts .now)) (a .n) (p .result) (p .ensures) false true false (c .before .before .before .if1 .left) (c .before .before .if2 .taken) (le-ltb _ _ (c .if3 .left))); none = λ _. (refl, refl); some = λ z. absurd (z refl) }
-
-returns-4 : tie.Need-returns-4
-returns-4 c =
-    let a = c .before .before .before .before .before .before .before .args in
-    record { told = sym (number-by (a .s .now) (a .w) (length (a .page .now)) (length (a .texts .now)) (a .n) (calm-of (a .s .now) (a .n / 16)) refl false false _ (c .before .if1 .left) (c .if2 .left) refl); none = λ _. (refl, refl); some = λ z. absurd (z refl) }
+    let a = c .before .before .before .before .before .before .before .before .args in
+    let p = c .before .calm-value in
+    record { told = sym (number-by (a .s .now) (a .w) (length (a .page .now)) (length (a .texts .now)) (a .n) (p .result) (p .ensures) false false (c .before .before .if1 .left) (le-ltb _ _ (c .if2 .left))); none = λ _. (refl, refl); some = λ z. absurd (z refl) }
 
 pub put-number-spec : {M : Type 1} → statement M
 put-number-spec =
     tie.close
     (tie.spec
     returns
-    cast-calm-place
-    calm-place-requires
+    calm-value-requires
     sub-put-bytes
     part-put-bytes-start
     part-put-bytes-end
@@ -105,5 +101,4 @@ put-number-spec =
     same-length
     same-length-2
     returns-2
-    returns-3
-    returns-4)
+    returns-3)

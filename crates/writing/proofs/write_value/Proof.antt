@@ -1,4 +1,4 @@
-use Rattle.print.proofs.Spans.{plan-within, span-within, span-means}
+use Rattle.print.proofs.Spans.{span-within, span-means}
 use Rattle.support.specs.Feed.{escaped, fed}
 use Rattle.output.specs.Outputs.{outputs}
 use Rattle.rules.specs.Value.{render}
@@ -18,7 +18,7 @@ use Rattle.writing.proofs.write_bytes.Reads as write-bytes-reads
 
 -- src/lib.rt:218:9
 value-span-requires : tie.Need-value-span-requires
-value-span-requires c κs = let a = c .before .before .before .before .before .before .args in let h = c .before .before .before .before .before .before .pre in (h .0, plan-within (a .s .now) (a .b .now) (a .v) (h .2))
+value-span-requires c κs = let a = c .before .before .before .before .before .before .args in let h = c .before .before .before .before .before .before .pre in (h .0, (a .b .now, h .2))
 
 -- src/lib.rt:222:52
 sub-write-bytes : tie.Need-sub-write-bytes
