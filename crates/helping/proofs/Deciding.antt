@@ -10,16 +10,16 @@ use Rattle.rules.specs.Bits.{bits}
 use Rattle.rules.specs.Error as rule
 use Rattle.rules.specs.Error.{got, invalid-json-index}
 use Rattle.rules.specs.Template as template
-use Rattle.rules.specs.Bundle.{literal}
+use Rattle.rules.specs.Bundle.{string, literal}
 use Rattle.rules.specs.Value.{ScopedJson, derived, render}
 use Rattle.rules.specs.State as rules
 use Rattle.rules.specs.Registry.{Registry, get-helper}
 use Rattle.rules.specs.BlockUtil as block-util
-use Rattle.rules.specs.Expand.{evaluate2, try-from-template}
+use Rattle.rules.specs.Expand.{evaluate2, expand, try-from-template}
 use Rattle.layout.specs.Text.{text-at}
 use Rattle.parts.specs.declared.Maybe.{Maybe}
 use Rattle.parts.specs.Holds.{Holds}
-use Rattle.parts.specs.Says.{path-at}
+use Rattle.parts.specs.Says.{path-at, literal-at}
 use Rattle.calls.specs.Calls.{call-at}
 use Rattle.value.specs.declared.Value.{Value}
 use Rattle.value.specs.declared.Value.the-variants.{Missing, Literal, Text}
@@ -46,7 +46,7 @@ use Rattle.helpers.specs.Does.{Decides}
 use Rattle.state.specs.Context.{RenderContext}
 use Rattle.inlining.specs.Decorated.{is-at}
 use Rattle.helping.specs.declared.Few.the-variants.{One, Two}
-use Rattle.helping.specs.Few.{FewIs}
+use Rattle.helping.specs.Few.{FewIs, PathsAre}
 use Rattle.helping.specs.Decided.{Decided, DecidedBy}
 use Rattle.helping.specs.Laws.{decided-refused, decided-fine}
 
@@ -55,9 +55,13 @@ abbrev pub got-of : Evaluated → Got
 got-of (evaluated.Is w) = Is w
 got-of evaluated.BadIndex = Bad 20
 
--- the string at q as the name, a value or a refusal, and the literal at k
+-- the string at q as the name, and two values or refusals
+abbrev pub with-both : ℕ → Got → Got → Expanded
+with-both q r w = gathered (Is (Text q)) 2 (joined r (joined w (record { first = Missing; second = Missing; bad = 0 }))) (record { zero = false; bad = 0 })
+
+-- the second is the literal at k
 abbrev pub with-two : ℕ → Got → ℕ → Expanded
-with-two q r k = gathered (Is (Text q)) 2 (joined r (joined (Is (Literal k)) (record { first = Missing; second = Missing; bad = 0 }))) (record { zero = false; bad = 0 })
+with-two q r k = with-both q r (Is (Literal k))
 
 module _ (s b : Bytes) (ent : List ℕ) (l : List Scope) (used : ℕ) (o : Options) where
   -- what the path at v leads to
@@ -93,13 +97,24 @@ module _ (s b : Bytes) (ent : List ℕ) (l : List Scope) (used : ℕ) (o : Optio
     worked-one v F f h g st t S =
         subst (λ (y : template.Call). IsTemplate s b ent t (try-from-template g st y) (with-one (p + 2) (got-of f))) (sym (F .0)) (one-given s b ent t (p + 2) (F .1) g st v (got-of f) (expands t _ f (h g st t S)))
 
-    pub worked-two : (v k : ℕ) → FewIs d (bits b) p (Two v k) → (f : Evaluated) → Leads v f → Worked (with-two (p + 2) (got-of f) k)
-    worked-two v k F f h g st t S =
-        subst (λ (y : template.Call). IsTemplate s b ent t (try-from-template g st y) (with-two (p + 2) (got-of f) k)) (sym (F .0))
-        (gathered-given s b ent t _ _ _ (Is (Text (p + 2))) 2 _ _ (string-given s b ent t (p + 2) (F .1) g st _ refl)
-        (joined-given s b ent t _ _ (got-of f) _ 1 (expands t _ f (h g st t S))
-        (joined-given s b ent t _ _ (Is (Literal k)) _ 0 (ap (λ (j : Json). got (derived j)) (sym (plain-is s b ent (Literal k) refl)), plain refl (F .3)) (no-params-given s b ent t)))
+    -- y is what the second parameter says, and w what it works out
+    two-given : (v : ℕ) (y : template.Parameter) → call-at d (bits b) p ≡ template.call (template.name (text-at (bits b) (p + 2))) (template.pcons (template.path (path-at (bits b) v)) (template.pcons y template.pnil)) template.hnil
+        → Holds string (bits b) (p + 2) → (f : Evaluated) → Leads v f → (w : Got) → ((g : Registry) (st : rules.RenderContext) (t : ℕ) → Setting s b ent l used o g st t → Expands s b ent t (expand g st y) w)
+        → Worked (with-both (p + 2) (got-of f) w)
+    two-given v y F N f h w k g st t S =
+        subst (λ (y : template.Call). IsTemplate s b ent t (try-from-template g st y) (with-both (p + 2) (got-of f) w)) (sym F)
+        (gathered-given s b ent t _ _ _ (Is (Text (p + 2))) 2 _ _ (string-given s b ent t (p + 2) N g st _ refl)
+        (joined-given s b ent t _ _ (got-of f) _ 1 (expands t _ f (h g st t S)) (joined-given s b ent t _ _ w _ 0 (k g st t S) (no-params-given s b ent t)))
         (no-hash-given s b ent t))
+
+    pub worked-two : (v k : ℕ) → FewIs d (bits b) p (Two v k) → (f : Evaluated) → Leads v f → Worked (with-two (p + 2) (got-of f) k)
+    worked-two v k F f h =
+        two-given v (template.literal (literal-at (bits b) k)) (F .0) (F .1) f h (Is (Literal k))
+        (λ g st t S. (ap (λ (j : Json). got (derived j)) (sym (plain-is s b ent (Literal k) refl)), plain refl (F .3)))
+
+    pub worked-paths : (v k : ℕ) → PathsAre d (bits b) p v k → (f j : Evaluated) → Leads v f → Leads k j → Worked (with-both (p + 2) (got-of f) (got-of j))
+    worked-paths v k F f j h m =
+        two-given v (template.path (path-at (bits b) k)) (F .0) (F .1) f h (got-of j) (λ g st t S. expands t _ j (m g st t S))
 
     in-setting : (c : RenderContext) → c .scopes ≡ l → c .used ≡ used → (g : Registry) (st : rules.RenderContext) (t : ℕ) → Setting s b ent (c .scopes) (c .used) o g st t → Setting s b ent l used o g st t
     in-setting c el eu g st t S = subst (λ (n : ℕ). Setting s b ent l n o g st t) eu (subst (λ (k : List Scope). Setting s b ent k (c .used) o g st t) el S)

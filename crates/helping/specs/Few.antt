@@ -8,7 +8,7 @@ use borrow.Author.Tests.{eqb-true, ltb-false}
 use Rattle.rules.specs.Bytes.{pick}
 use Rattle.rules.specs.Template as rule
 use Rattle.rules.specs.Bits.{Bits}
-use Rattle.rules.specs.Layout.{field, _then_, counted}
+use Rattle.rules.specs.Layout.{Layout, field, _then_, counted}
 use Rattle.rules.specs.LayoutLaws.{Binary, field-lt}
 use Rattle.rules.specs.Bundle.{string, path, ascending, literal, param, call-of}
 use Rattle.bits.specs.Fields.{field-append}
@@ -53,6 +53,14 @@ FewIs d b p (Two v l) =
     × Holds path b v
     × Holds literal b l
 FewIs d b p Other = Unit {0}
+
+-- the same, where the second parameter is the path at l
+abbrev pub PathsAre : ℕ → Bits → ℕ → ℕ → ℕ → Type 0
+PathsAre d b p v l =
+    (call-at d b p ≡ rule.call (rule.name (text-at b (p + 2))) (rule.pcons (rule.path (path-at b v)) (rule.pcons (rule.path (path-at b l)) rule.pnil)) rule.hnil)
+    × Holds string b (p + 2)
+    × Holds path b v
+    × Holds path b l
 
 -- x is the kind of a call's name and, behind that, the count of its string
 module _ (d : ℕ) (b : Bits) (bin : Binary b) (p : ℕ) (H : Holds (call-of (param d)) b p) (x : ℕ) (hx : x ≡ field b 18 p) (lo : x ≤ 65535) where
@@ -155,6 +163,29 @@ module _ (d : ℕ) (b : Bits) (bin : Binary b) (p : ℕ) (H : Holds (call-of (pa
     second-fits : end path b (p + 18 + 8 * x + 6) + 2 ≤ b .size
     second-fits = omega (arith, behind-first 1 h, param-fits d b u (last .first))
 
+    abbrev e : ℕ
+    e = end path b (p + 18 + 8 * x + 6)
+
+    there : u + 2 ≡ e + 2
+    there = sym (ap (λ (m : ℕ). m + 2) (behind-first 1 h))
+
+    -- its content stands as the layout X has it and ends it, and y is what it says
+    module _ {A : Type 0} (X : Layout A) (y : ℕ → rule.Parameter) (here : Holds X b (u + 2)) (ends : end X b (u + 2) ≡ end (param d) b u) (is : param-at d b u ≡ y (u + 2)) where
+      behind-second : end X b (e + 2) ≡ params-end d b p
+      behind-second = sym (ap (end X b) there) ∙ ends ∙ sym (none-left (param d) b (end (param d) b u)) ∙ last .ends ∙ row-end 1 h
+
+      two-said : field b 4 (end X b (e + 2)) ≡ 0 → call-at d b p ≡ rule.call (rule.name (text-at b (p + 2))) (rule.pcons (rule.path (path-at b (p + 18 + 8 * x + 6))) (rule.pcons (y (e + 2)) rule.pnil)) rule.hnil
+      two-said z =
+          said 1 h (sym (ap (field b 4) behind-second) ∙ z)
+          ∙ ap (λ k. rule.call (rule.name (text-at b (p + 2))) (rule.pcons (rule.path (path-at b (p + 18 + 8 * x + 6))) k) rule.hnil) (params-more d 0 b u (more 1 h .rest))
+          ∙ ap (λ k. rule.call (rule.name (text-at b (p + 2))) (rule.pcons (rule.path (path-at b (p + 18 + 8 * x + 6))) (rule.pcons (param-at d b u) k)) rule.hnil) (no-params d b (end (param d) b u))
+          ∙ ap (λ k. rule.call (rule.name (text-at b (p + 2))) (rule.pcons (rule.path (path-at b (p + 18 + 8 * x + 6))) (rule.pcons k rule.pnil)) rule.hnil) is
+          ∙ ap (λ (m : ℕ). rule.call (rule.name (text-at b (p + 2))) (rule.pcons (rule.path (path-at b (p + 18 + 8 * x + 6))) (rule.pcons (y m) rule.pnil)) rule.hnil) there
+
+      two-end : field b 4 (end X b (e + 2)) ≡ 0 → (end X b (e + 2) + 4 ≡ end (call-of (param d)) b p) × (end X b (e + 2) + 4 ≤ b .size)
+      two-end z = no-pairs-end (end X b (e + 2)) behind-second z
+
+    -- a literal
     module _ (k : field b 2 (end path b (p + 18 + 8 * x + 6)) ≡ 2) where
       is-literal : field b 2 u ≡ 2
       is-literal = sym (ap (field b 2) (behind-first 1 h)) ∙ k
@@ -162,35 +193,48 @@ module _ (d : ℕ) (b : Bits) (bin : Binary b) (p : ℕ) (H : Holds (call-of (pa
       literal-here : ParamStands d b u (Literal (u + 2))
       literal-here = param-read d b u (last .first) (Literal (u + 2)) (ap (param-of (u + 2)) (sym is-literal))
 
-      there : u + 2 ≡ end path b (p + 18 + 8 * x + 6) + 2
-      there = sym (ap (λ (m : ℕ). m + 2) (behind-first 1 h))
+      abbrev literal-says : ℕ → rule.Parameter
+      literal-says m = rule.literal (literal-at b m)
+
+      literal-ends : end literal b (u + 2) ≡ end (param d) b u
+      literal-ends = param-literal d b u (last .first) is-literal .ends
 
       pub second-literal : Holds literal b (end path b (p + 18 + 8 * x + 6) + 2)
       second-literal = moved literal b _ _ there (literal-here .parts)
 
-      behind-second : end literal b (end path b (p + 18 + 8 * x + 6) + 2) ≡ params-end d b p
-      behind-second =
-          sym (ap (end literal b) there)
-          ∙ param-literal d b u (last .first) is-literal .ends
-          ∙ sym (none-left (param d) b (end (param d) b u))
-          ∙ last .ends
-          ∙ row-end 1 h
-
       pub two-is : field b 4 (end literal b (end path b (p + 18 + 8 * x + 6) + 2)) ≡ 0 → FewIs d b p (Two (p + 18 + 8 * x + 6) (end path b (p + 18 + 8 * x + 6) + 2))
-      two-is e = (
-        said 1 h (sym (ap (field b 4) behind-second) ∙ e)
-            ∙ ap (λ y. rule.call (rule.name (text-at b (p + 2))) (rule.pcons (rule.path (path-at b (p + 18 + 8 * x + 6))) y) rule.hnil) (params-more d 0 b u (more 1 h .rest))
-            ∙ ap (λ y. rule.call (rule.name (text-at b (p + 2))) (rule.pcons (rule.path (path-at b (p + 18 + 8 * x + 6))) (rule.pcons (param-at d b u) y)) rule.hnil) (no-params d b (end (param d) b u))
-            ∙ ap (λ y. rule.call (rule.name (text-at b (p + 2))) (rule.pcons (rule.path (path-at b (p + 18 + 8 * x + 6))) (rule.pcons y rule.pnil)) rule.hnil) (literal-here .is)
-            ∙ ap (λ (m : ℕ). rule.call (rule.name (text-at b (p + 2))) (rule.pcons (rule.path (path-at b (p + 18 + 8 * x + 6))) (rule.pcons (rule.literal (literal-at b m)) rule.pnil)) rule.hnil) there,
-        name-here .parts,
-        first-path 1 h,
-        second-literal,
-      )
+      two-is z = (two-said literal literal-says (literal-here .parts) literal-ends (literal-here .is) z, name-here .parts, first-path 1 h, second-literal)
 
       pub two-ends : field b 4 (end literal b (end path b (p + 18 + 8 * x + 6) + 2)) ≡ 0
           → (end literal b (end path b (p + 18 + 8 * x + 6) + 2) + 4 ≡ end (call-of (param d)) b p) × (end literal b (end path b (p + 18 + 8 * x + 6) + 2) + 4 ≤ b .size)
-      two-ends e = no-pairs-end (end literal b (end path b (p + 18 + 8 * x + 6) + 2)) behind-second e
+      two-ends z = two-end literal literal-says (literal-here .parts) literal-ends (literal-here .is) z
+
+    -- a path
+    module _ (k : field b 2 (end path b (p + 18 + 8 * x + 6)) ≡ 1) where
+      is-second-path : field b 2 u ≡ 1
+      is-second-path = sym (ap (field b 2) (behind-first 1 h)) ∙ k
+
+      second-here : ParamStands d b u (Path (u + 2))
+      second-here = param-read d b u (last .first) (Path (u + 2)) (ap (param-of (u + 2)) (sym is-second-path))
+
+      abbrev path-says : ℕ → rule.Parameter
+      path-says m = rule.path (path-at b m)
+
+      path-ends : end path b (u + 2) ≡ end (param d) b u
+      path-ends = param-path d b u (last .first) is-second-path .ends
+
+      pub second-path : Holds path b (end path b (p + 18 + 8 * x + 6) + 2)
+      second-path = moved path b _ _ there (second-here .parts)
+
+      pub paths-fit : end path b (end path b (p + 18 + 8 * x + 6) + 2) + 4 ≤ b .size
+      paths-fit = omega (arith, behind-second path path-says (second-here .parts) path-ends (second-here .is), call-fits d b p H .1)
+
+      pub paths-are : field b 4 (end path b (end path b (p + 18 + 8 * x + 6) + 2)) ≡ 0 → PathsAre d b p (p + 18 + 8 * x + 6) (end path b (p + 18 + 8 * x + 6) + 2)
+      paths-are z = (two-said path path-says (second-here .parts) path-ends (second-here .is) z, name-here .parts, first-path 1 h, second-path)
+
+      pub paths-end : field b 4 (end path b (end path b (p + 18 + 8 * x + 6) + 2)) ≡ 0
+          → (end path b (end path b (p + 18 + 8 * x + 6) + 2) + 4 ≡ end (call-of (param d)) b p) × (end path b (end path b (p + 18 + 8 * x + 6) + 2) + 4 ≤ b .size)
+      paths-end z = two-end path path-says (second-here .parts) path-ends (second-here .is) z
 
     pub second-holds : SecondHolds b (p + 18 + 8 * x + 6)
     second-holds = record { here = first-path 1 h; fits = second-fits; literal-behind = second-literal }

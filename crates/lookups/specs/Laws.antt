@@ -2,18 +2,21 @@
 use Prim.Native.Nat.{ℕ, suc, _+_, _-_, _/_, _%_, _≤_, _<_}
 use mathlib.Core.Bool.{Bool, true, false, not, _&&_}
 use mathlib.Core.List.{List}
+use mathlib.Core.Option.{Option}
 use mathlib.Core.Path.{_≡_, refl, sym, ap, _∙_, subst}
 use native.Mathlib.Omega.{arith}
 use lib.Dec.{eqb, ltb}
 use lib.ListN.{length}
-use borrow.Author.Tests.{eqb-true, eqb-false, eq-eqb, ne-eqb, lt-ltb, le-ltb}
+use borrow.Author.Tests.{eqb-true, eqb-false, ne-eqb, lt-ltb, le-ltb}
 use Rattle.rules.specs.Bytes.{Bytes, pick}
+use Rattle.rules.specs.Order.{differ}
+use Rattle.rules.specs.Json.{Json}
 use Rattle.rules.specs.Bits.{bits}
 use Rattle.rules.specs.Layout.{field}
 use Rattle.rules.specs.HelperLookup.{looked-up}
 use Rattle.rules.specs.Value.{render}
 use Rattle.rules.specs.Template as template
-use Rattle.rules.specs.Template.{name-only, literal-json}
+use Rattle.rules.specs.Template.{name-only}
 use Rattle.rules.specs.Render.{render-element, render-expression}
 use Rattle.output.specs.declared.Writer.{Writer}
 use Rattle.output.specs.Outputs.{outputs}
@@ -25,23 +28,26 @@ use Rattle.template.specs.declared.Content.{Content}
 use Rattle.template.specs.Views.{element-says, element-view}
 use Rattle.value.specs.declared.Value.{Value}
 use Rattle.value.specs.declared.Value.the-variants.{Literal, Text}
-use Rattle.value.specs.Numbers.{decoded}
+use Rattle.value.specs.Numbers.{Fits, encoded, decoded, decoded-encoded}
 use Rattle.meaning.specs.Meaning.{json-of}
 use Rattle.meaning.specs.MeaningLaws.{plain-is}
-use Rattle.parts.specs.Says.{literal-at}
 use Rattle.meaning.specs.Forms.{Known}
 use Rattle.meaning.specs.Means.{Means}
+use Rattle.meaning.specs.Standing.{Stands}
 use Rattle.scope.specs.declared.Scope.{Scope}
+use Rattle.scope.specs.Words.{scopes-of}
+use Rattle.scope.specs.Standing.{ScopesStand}
 use Rattle.lookup.specs.declared.Found.the-variants as found
 use Rattle.lookup.specs.Answers.{IsFound, Finds}
 use Rattle.lookup.specs.Numbers.{numbered-found}
 use Rattle.lookup.proofs.Leading.{finds-eq}
 use Rattle.context.specs.declared.Evaluated.the-variants as evaluated
 use Rattle.context.specs.Evaluated.{Evaluates, some-evaluated}
+use Rattle.context.specs.Near.{scopes-near}
 use Rattle.expand.specs.declared.Options.{Options}
-use Rattle.expand.specs.declared.Expanded.{Expanded}
 use Rattle.expand.specs.declared.Got.the-variants.{Is}
 use Rattle.expand.specs.declared.HelperDef.the-variants as helper
+use Rattle.expand.proofs.Parts.{some-setting, some-used}
 use Rattle.helpers.specs.declared.Does.the-variants as does
 use Rattle.helpers.specs.declared.Shows.the-variants as shows
 use Rattle.helpers.specs.Does.{given}
@@ -55,7 +61,7 @@ use Rattle.drawing.specs.Renders.{Renders}
 use Rattle.drawing.specs.Continues.{unless-fine}
 use Rattle.drawing.specs.Elements.{element-html, element-expression}
 use Rattle.helping.specs.Decided.{Decided, DecidedBy}
-use Rattle.helping.proofs.Deciding.{Leads, with-two, worked-two, by-text}
+use Rattle.helping.proofs.Deciding.{Leads, with-both, Worked, worked-two, worked-paths, by-text}
 use Rattle.expressions.specs.Laws.{bare-printable, bare-written, bare-rendered, expression-helper, html-ready, html-drawn}
 use Rattle.plain.specs.Plain.{expression-of, OneDrawn}
 use Rattle.plain.specs.Laws.{value-prints}
@@ -63,7 +69,7 @@ use Rattle.plain.specs.Put.{number-put, Printed, PutNumber, value-by}
 use Rattle.lookups.specs.declared.Drawn.{Drawn}
 use Rattle.lookups.specs.declared.Lookup.{Lookup}
 use Rattle.lookups.specs.Drawn.{drawn-of, behind, marks-in}
-use Rattle.lookups.specs.Looked.{coded, LookupAre, Keyed, lookup-next, LookupDrawn}
+use Rattle.lookups.specs.Looked.{coded, CallIs, LookupAre, NearValue, Under, Keyed, lookup-next, LookupDrawn}
 
 -- the context behind a helper that u is the writer behind
 abbrev pub left-by : RenderContext → Bool → Writer → RenderContext
@@ -72,39 +78,66 @@ left-by c before u = settled (with-writer (marked c (before-helper (c .writer) b
 -- What the helper does: it writes the value whose number is two less than key
 
 module _ (s b : Bytes) (ent : List ℕ) (l : List Scope) (used : ℕ) (o : Options) (d q : ℕ) (x : Lookup) (X : LookupAre d (bits b) q x) (key : ℕ)
-    (K : Keyed s b ent l used o (q + 76) (x .literal) key) (some : 2 ≤ key) where
+    (K : Keyed s b ent l used o (q + 76) (x .second) (x .path) key) (some : 2 ≤ key) where
   abbrev of : Value
   of = decoded (K .value - 1)
-
-  abbrev worked : Expanded
-  worked = given (Text (q + 4 + 2)) 2 of (Literal (x .literal)) false 0
 
   led : K .value ≡ 0 → ⊥
   led z = omega (arith, K .none z, some)
 
-  is-found : IsFound s b ent of (looked-up (json-of s b ent of) (json-of s b ent (Literal (x .literal)))) (decoded (key - 2))
-  is-found =
-      let e : key ≡ suc (suc (key - 2)) = omega (arith, some) in
-      finds-eq s b ent of _ _ (found.Is (decoded (key - 2))) (ap (looked-up (json-of s b ent of)) (plain-is s b ent (Literal (x .literal)) refl))
-      (subst (λ (n : ℕ). Finds s b ent of (looked-up (json-of s b ent of) (literal-json (literal-at (bits b) (x .literal)))) (numbered-found n)) e (K .some led .told (λ z. omega (arith, z, some))))
-
   leads : Leads s b ent l used o (q + 76) (evaluated.Is of)
   leads g st t S = subst (Evaluates s b ent t _) (some-evaluated (K .value) led) (K .leads g st t S)
 
+  numbered : (j : Option Json) → Finds s b ent of j (numbered-found key) → IsFound s b ent of j (decoded (key - 2))
+  numbered j h = let e : key ≡ suc (suc (key - 2)) = omega (arith, some) in subst (λ (n : ℕ). Finds s b ent of j (numbered-found n)) e h
+
+  -- it is found under w
+  under : (w : Value) → Worked s b ent l used o d (q + 4) (with-both (q + 4 + 2) (Is of) (Is w)) → IsFound s b ent of (looked-up (json-of s b ent of) (json-of s b ent w)) (decoded (key - 2))
+      → DecidedBy s b ent l used o d (q + 4) false false (does.Write (decoded (key - 2)))
+  under w worked is-found =
+      by-text s b ent l used o d (q + 4) false false (with-both (q + 4 + 2) (Is of) (Is w)) worked (q + 4 + 2) refl refl helper.Lookup (does.Write (decoded (key - 2))) (X .named)
+      (by-lookup s b ent used o helper.Lookup (given (Text (q + 4 + 2)) 2 of w false 0) false false refl (does.Write (decoded (key - 2)))
+      (λ g st t e ns T I G E _ _. lookup-found s b ent t used o (given (Text (q + 4 + 2)) 2 of w false 0) g st e ns T I G E (omega arith) (decoded (key - 2)) is-found))
+
   pub lookup-decided : DecidedBy s b ent l used o d (q + 4) false false (does.Write (decoded (key - 2)))
-  lookup-decided =
-      by-text s b ent l used o d (q + 4) false false (with-two (q + 4 + 2) (Is of) (x .literal))
-      (worked-two s b ent l used o d (q + 4) (q + 76) (x .literal) (X .few) (evaluated.Is of) leads) (q + 4 + 2) refl refl helper.Lookup (does.Write (decoded (key - 2))) (X .named)
-      (by-lookup s b ent used o helper.Lookup worked false false refl (does.Write (decoded (key - 2)))
-      (λ g st t e ns T I G E _ _. lookup-found s b ent t used o worked g st e ns T I G E (omega arith) (decoded (key - 2)) is-found))
+  lookup-decided = by (x .path) (X .few) (K .some led)
+    where
+      by : (t : Bool) → CallIs d (bits b) (q + 4) (q + 76) t (x .second) → Under s b ent l used o of (x .second) t key → DecidedBy s b ent l used o d (q + 4) false false (does.Write (decoded (key - 2)))
+      by false few U =
+          under (Literal (x .second)) (worked-two s b ent l used o d (q + 4) (q + 76) (x .second) few (evaluated.Is of) leads)
+          (finds-eq s b ent of _ _ (found.Is (decoded (key - 2))) (ap (looked-up (json-of s b ent of)) (plain-is s b ent (Literal (x .second)) refl)) (numbered _ (U .told (λ z. omega (arith, z, some)))))
+      by true few U =
+          let n : U .key ≡ 0 → ⊥ = λ z. differ (sym (lt-ltb 0 key (omega (arith, some))) ∙ U .known ∙ ap (ltb 0) z) in
+          under (decoded (U .key - 1))
+          (worked-paths s b ent l used o d (q + 4) (q + 76) (x .second) few (evaluated.Is of) (evaluated.Is (decoded (U .key - 1))) leads
+          (λ g st t S. subst (Evaluates s b ent t _) (some-evaluated (U .key) n) (U .leads g st t S)))
+          (numbered _ (U .told n))
 
 -- a number that has room in 32 bits, two taken away
-pub keyed-small : (s b : Bytes) (ent : List ℕ) (l : List Scope) (used : ℕ) (o : Options) (v k r : ℕ) → Keyed s b ent l used o v k r → r < 4294967298
-keyed-small s b ent l used o v k r K = by (eqb (K .value) 0) refl
+pub keyed-small : (s b : Bytes) (ent : List ℕ) (l : List Scope) (used : ℕ) (o : Options) (v k : ℕ) (path : Bool) (r : ℕ) → Keyed s b ent l used o v k path r → r < 4294967298
+keyed-small s b ent l used o v k path r K = by (eqb (K .value) 0) refl
   where
+    small : (t : Bool) (u : Value) → Under s b ent l used o u k t r → r < 4294967298
+    small true u h = h .small
+    small false u h = h .small
+
     by : (t : Bool) → eqb (K .value) 0 ≡ t → r < 4294967298
     by true e = omega (arith, K .none (eqb-true _ 0 e))
-    by false e = K .some (eqb-false _ 0 e) .small
+    by false e = small path (decoded (K .value - 1)) (K .some (eqb-false _ 0 e))
+
+-- n is the number of a value that is found
+pub found-number : (s b : Bytes) (ent : List ℕ) (v : Value) (j : Option Json) (w : Value) → Fits w → (n : ℕ) → n ≡ encoded w → IsFound s b ent v j w → (r : ℕ) → r ≡ 2 + n → Finds s b ent v j (numbered-found r)
+found-number s b ent v j w f n hn F r hr =
+    let e : r ≡ suc (suc n) = omega (arith, hr) in
+    subst (λ (k : ℕ). Finds s b ent v j (numbered-found k)) (sym e) (subst (IsFound s b ent v j) (sym (ap decoded hn ∙ decoded-encoded w f)) F)
+
+-- a value that a path leads to
+pub near-value : (s b : Bytes) (ent sc : List ℕ) (used : ℕ) (o : Options) → 0 < used → used ≤ 32 → (t : ℕ) × ScopesStand s b ent (scopes-of sc) used t → (v : ℕ) (w : Value) → Leads s b ent (scopes-of sc) used o v (evaluated.Is w)
+    → NearValue s b ent (scopes-of sc) used w
+near-value s b ent sc used o some most h v w f =
+    let N = scopes-near s b ent sc used (h .0) some most (h .1) in
+    let z = some-setting s b ent (scopes-of sc) used o some (N .top, N .stand) in
+    record { top = N .top; near = N .near; scopes = N .stand; stands = subst (λ (t : ℕ). Stands s b ent t w) (some-used s b ent (scopes-of sc) used o some (N .top, N .stand)) (f (z .g) (z .st) (z .t) (z .setting) .1) }
 
 -- The expression is drawn
 
@@ -190,7 +223,7 @@ module _ (s b : Bytes) (o : Options) (d p : ℕ) (html : Bool) (x : Lookup) (c :
   none-next = ap (λ (k : Drawn). k .next) h
 
   pub lookup-left : (key : ℕ)
-      → ((html && c .«disable_escape») ≡ false → (x .next ≡ 0 → ⊥) → Keyed s b ent (c .scopes) (c .used) o (p + 16 + 16 + 76) (x .literal) key)
+      → ((html && c .«disable_escape») ≡ false → (x .next ≡ 0 → ⊥) → Keyed s b ent (c .scopes) (c .used) o (p + 16 + 16 + 76) (x .second) (x .path) key)
       → lookup-next s l html key x ≡ 0 → LookupDrawn s b o d p html x l (world (behind c y) page′ texts′ indent ent) (y .next)
   lookup-left key K e = record {
     key = key;
@@ -206,7 +239,7 @@ module _ (s b : Bytes) (o : Options) (d p : ℕ) (html : Bool) (x : Lookup) (c :
 -- the value was stored: r tells how, and u is the writer behind it
 module _ (s b : Bytes) (o : Options) (d p : ℕ) (html : Bool) (x : Lookup) (c : RenderContext) (page texts indent : Bytes) (ent : List ℕ) (ready : Ready s b (world c page texts indent ent))
     (hx : field (bits b) 22 (p + 16 + 16) ≡ coded html) (on : (html && c .«disable_escape») ≡ false) (some : x .next ≡ 0 → ⊥) (X : LookupAre d (bits b) (p + 16 + 16) x)
-    (key : ℕ) (K : Keyed s b ent (c .scopes) (c .used) o (p + 16 + 16 + 76) (x .literal) key) (two : 2 ≤ key) where
+    (key : ℕ) (K : Keyed s b ent (c .scopes) (c .used) o (p + 16 + 16 + 76) (x .second) (x .path) key) (two : 2 ≤ key) where
   abbrev m : Writer
   m = marks-in (c .writer) (x .before)
 

@@ -1,4 +1,4 @@
-// helpers/helper_lookup.rs and render.rs: expressions that are `lookup` over a path and a string. Most calls of `lookup` are such, and only the writer changes by
+// helpers/helper_lookup.rs and render.rs: expressions that are `lookup` over a path and a string or another path. Most calls of `lookup` are such, and only the writer changes by
 // one, so nothing else goes through memory.
 // s is the plan with its places tab, b the bundle; ent holds the entries of open partials; d is the number of depths left for what stands in an element.
 ghost use mathlib.Core.Bool.{Bool};
@@ -8,7 +8,7 @@ ghost use lib.ListN.{length};
 ghost use Rattle.rules.specs.Bits.{bits};
 ghost use Rattle.rules.specs.Bytes.{Bytes};
 ghost use Rattle.rules.specs.Layout.{field};
-ghost use Rattle.rules.specs.Bundle.{path, literal, param, call-of, element-of, body};
+ghost use Rattle.rules.specs.Bundle.{path, param, call-of, element-of, body};
 ghost use Rattle.parts.specs.Holds.{Holds};
 ghost use Rattle.template.specs.Views.{in-body};
 ghost use Rattle.places.specs.Accepted.{Accepted};
@@ -18,10 +18,12 @@ ghost use Rattle.state.specs.Context.{whole};
 ghost use Rattle.state.specs.World.{world, Ready};
 ghost use Rattle.inlining.specs.Decorated.{SomeReady};
 ghost use Rattle.lookups.specs.Drawn.{drawn-of, behind};
-ghost use Rattle.lookups.specs.Looked.{coded, lookup-of, no-lookup, lookup-view, LookupIs, Keyed, LookupDrawn};
+ghost use Rattle.lookups.specs.Looked.{coded, lookup-of, no-lookup, last-view, lookup-view, SecondHolds, LookupIs, NearValue, PathNumber, Keyed, LookupDrawn};
 use expand::Options;
+use lookup::Found;
 use output::Writer;
 use state::RenderContext;
+use value::Value;
 
 // What an element leaves: the writer, the template's name and the place behind it, 0 where nothing was drawn.
 pub struct Drawn {
@@ -41,18 +43,21 @@ pub fn handed(rc: RenderContext, next: usize) -> Drawn
     }
 }
 
-// Such an expression: its string is the literal at a place. next is the place behind it, 0 where it is no such expression.
+// Such an expression: its second parameter stands at a place, and is a path or a literal that is a string. next is the place behind it, 0 where it is no such
+// expression.
 pub struct Lookup {
-    pub literal: usize,
+    pub second: usize,
+    pub path: bool,
     pub before: bool,
     pub next: usize,
 }
 
-fn lookup_of(literal: usize, before: bool, next: usize) -> Lookup
-    ensures { λ r. ⌜ r ≡ lookup-of literal before next ⌝ }
+fn lookup_of(second: usize, is_path: bool, before: bool, next: usize) -> Lookup
+    ensures { λ r. ⌜ r ≡ lookup-of second «is_path» before next ⌝ }
 {
     Lookup {
-        literal,
+        second,
+        path: is_path,
         before,
         next,
     }
@@ -61,7 +66,23 @@ fn lookup_of(literal: usize, before: bool, next: usize) -> Lookup
 fn no_lookup() -> Lookup
     ensures { λ r. ⌜ r ≡ no-lookup ⌝ }
 {
-    lookup_of(0, false, 0)
+    lookup_of(0, false, false, 0)
+}
+
+// The second parameter ends at f; six bytes of a name stand at n.
+fn ended(b: &[u8], n: usize, second: usize, is_path: bool, f: usize) -> Lookup
+    requires { ⌜ f ≤ 1048576 ⌝ }
+    ensures { λ r. ⌜ r ≡ last-view (bits (now (b .entry))) n second «is_path» f ⌝ }
+{
+    // no pairs, and the last bit
+    let z = bits::field(b, f, 5);
+    if 1 < z {
+        return no_lookup();
+    }
+    if bits::field(b, n, 48) != expand::packed(b"lookup") {
+        return no_lookup();
+    }
+    lookup_of(second, is_path, z == 1, f + 5)
 }
 
 // The expression whose kind stands at q; its name is a string of six bytes.
@@ -77,22 +98,42 @@ fn lookup_at(b: &[u8], q: usize, d: usize) -> Lookup
     let e = parts::skip_path(b, q + 76);
     // the second one's kind, the literal's, which are 2 and 5, and the count of its string
     let y = bits::field(b, e, 21);
-    if y / 65536 != 21 {
-        return no_lookup();
+    if y / 65536 == 21 {
+        return ended(b, q + 22, e + 2, false, e + 21 + 8 * ((y % 65536) as usize));
     }
-    let f = e + 21 + 8 * ((y % 65536) as usize);
-    // no pairs, and the last bit
-    let z = bits::field(b, f, 5);
-    if 1 < z {
-        return no_lookup();
+    // a path
+    if y / 524288 == 1 {
+        return ended(b, q + 22, e + 2, true, parts::skip_path(b, e + 2));
     }
-    if bits::field(b, q + 22, 48) != expand::packed(b"lookup") {
-        return no_lookup();
-    }
-    lookup_of(e + 2, z == 1, f + 5)
+    no_lookup()
 }
 
-// What the value that the path at v leads to has under the literal at l: 0 where it is not told, 1 for nothing, else two more than a value's number.
+// What v has under the value that the path at k leads to: 0 where the path is refused, 1 for nothing, else two more than a value's number.
+fn under_path(
+    s: &[u8],
+    tab: &[u64],
+    b: &[u8],
+    ent: &[u64],
+    sc: &[u64],
+    used: usize,
+    options: Options,
+    v: Value,
+    k: usize,
+) -> u64
+    requires { ⌜ Accepted (now s) (now tab) × (length (now b) ≤ 65536) × (0 < used) × (used ≤ 32) × NearValue (now s) (now b) (now ent) (scopes-of (now sc)) used v × Holds path (bits (now b)) k × (length (now sc) ≡ 96) ⌝ }
+    ensures { λ r. ⌜ PathNumber (now (s .entry)) (now (b .entry)) (now (ent .entry)) (scopes-of (now (sc .entry))) used options v k r ⌝ }
+{
+    let key = context::evaluate_number(s, tab, b, ent, sc, used, options.recursive_lookup, k);
+    if key == 0 {
+        return 0;
+    }
+    match lookup::looked_up(s, tab, b, ent, v, value::decode((key - 1) as u32)) {
+        Found::Is(w) => 2 + (value::encode(w) as u64),
+        Found::Nothing => 1,
+    }
+}
+
+// The same of the value that the path at v leads to, under what stands at k: a path, or a literal.
 fn keyed(
     s: &[u8],
     tab: &[u64],
@@ -102,16 +143,21 @@ fn keyed(
     used: usize,
     options: Options,
     v: usize,
-    l: usize,
+    k: usize,
+    is_path: bool,
 ) -> u64
-    requires { ⌜ Accepted (now s) (now tab) × (length (now b) ≤ 65536) × (0 < used) × (used ≤ 32) × ((t : ℕ) × ScopesStand (now s) (now b) (now ent) (scopes-of (now sc)) used t) × Holds path (bits (now b)) v × Holds literal (bits (now b)) l × (length (now sc) ≡ 96) ⌝ }
-    ensures { λ r. ⌜ Keyed (now (s .entry)) (now (b .entry)) (now (ent .entry)) (scopes-of (now (sc .entry))) used options v l r ⌝ }
+    requires { ⌜ Accepted (now s) (now tab) × (length (now b) ≤ 65536) × (0 < used) × (used ≤ 32) × ((t : ℕ) × ScopesStand (now s) (now b) (now ent) (scopes-of (now sc)) used t) × Holds path (bits (now b)) v × SecondHolds «is_path» (bits (now b)) k × (length (now sc) ≡ 96) ⌝ }
+    ensures { λ r. ⌜ Keyed (now (s .entry)) (now (b .entry)) (now (ent .entry)) (scopes-of (now (sc .entry))) used options v k «is_path» r ⌝ }
 {
     let found = context::evaluate_number(s, tab, b, ent, sc, used, options.recursive_lookup, v);
     if found == 0 {
         return 0;
     }
-    lookup::keyed_number(s, tab, b, ent, value::decode((found - 1) as u32), l)
+    let u = value::decode((found - 1) as u32);
+    if is_path {
+        return under_path(s, tab, b, ent, sc, used, options, u, k);
+    }
+    lookup::keyed_number(s, tab, b, ent, u, k)
 }
 
 // The element at p, if it is such an expression, escaped or not, and the value is stored at once. One that is not escaped is drawn only where escaping is not
@@ -141,7 +187,18 @@ pub fn draw_lookup(
     if x.next == 0 {
         return handed(rc, 0);
     }
-    let n = keyed(s, tab, b, ent, sc, rc.used, options, q + 76, x.literal);
+    let n = keyed(
+        s,
+        tab,
+        b,
+        ent,
+        sc,
+        rc.used,
+        options,
+        q + 76,
+        x.second,
+        x.path,
+    );
     if n < 2 {
         return handed(rc, 0);
     }

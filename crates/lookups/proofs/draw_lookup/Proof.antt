@@ -88,7 +88,7 @@ begin-helper-requires c κs = search needs
 
 -- src/lib.rt:152:57
 cast-put-number : tie.Need-cast-put-number
-cast-put-number c = omega (arith, keyed-small (c .before .before .before .before .before .before .before .before .before .before .before .before .before .before .before .before .before .before .before .args .s .now) (c .before .before .before .before .before .before .before .before .before .before .before .before .before .before .before .before .before .before .before .args .b .now) (c .before .before .before .before .before .before .before .before .before .before .before .before .before .before .before .before .before .before .before .args .ent .now) (scopes-of (c .before .before .before .before .before .before .before .before .before .before .before .before .before .before .before .before .before .before .before .args .sc .now)) (c .before .before .before .before .before .before .before .before .before .before .before .before .before .before .before .before .before .before .before .args .rc .used) (c .before .before .before .before .before .before .before .before .before .before .before .before .before .before .before .before .before .before .before .args .options) (c .before .before .before .before .before .before .before .before .before .before .before .before .before .before .before .before .before .before .before .args .p + 16 + 16 + 76) ((c .before .before .before .before .before .before .before .before .before .lookup-at .result) .literal) (c .before .before .before .before .before .before .keyed .result) (c .before .before .before .before .before .before .keyed .ensures))
+cast-put-number c = omega (arith, keyed-small (c .before .before .before .before .before .before .before .before .before .before .before .before .before .before .before .before .before .before .before .args .s .now) (c .before .before .before .before .before .before .before .before .before .before .before .before .before .before .before .before .before .before .before .args .b .now) (c .before .before .before .before .before .before .before .before .before .before .before .before .before .before .before .before .before .before .before .args .ent .now) (scopes-of (c .before .before .before .before .before .before .before .before .before .before .before .before .before .before .before .before .before .before .before .args .sc .now)) (c .before .before .before .before .before .before .before .before .before .before .before .before .before .before .before .before .before .before .before .args .rc .used) (c .before .before .before .before .before .before .before .before .before .before .before .before .before .before .before .before .before .before .before .args .options) (c .before .before .before .before .before .before .before .before .before .before .before .before .before .before .before .before .before .before .before .args .p + 16 + 16 + 76) (c .before .before .before .before .before .before .before .before .before .lookup-at .result .second) (c .before .before .before .before .before .before .before .before .before .lookup-at .result .path) (c .before .before .before .before .before .before .keyed .result) (c .before .before .before .before .before .before .keyed .ensures))
 
 -- src/lib.rt:152:9
 put-number-requires : tie.Need-put-number-requires
