@@ -54,11 +54,6 @@ place-spells s b tab a i lt o e le l f =
     record { is = ap (saying s) e ∙ t .says; spelled = (refl, subst (λ (x : ℕ). Whole s (x + 1)) (sym e) (t .whole), omega arith) }
 
 -- what stands under a number in a string
-past-end : (l : List Bytes) (n : ℕ) → length l ≤ n → getElem? l n ≡ none
-past-end [] n le = refl
-past-end (x ∷ l) zero le = absurd (omega arith)
-past-end (x ∷ l) (suc n) le = past-end l n (omega arith)
-
 pathless-plain : (s b : Bytes) (v : Value) → plain-json s b (pathless v) ≡ plain-json s b v
 pathless-plain s b Missing = refl
 pathless-plain s b Null = refl
@@ -119,9 +114,6 @@ module _ (s b : Bytes) (x : Text) (k : Bytes) (few : length (chars (rest s b x))
   no-number e = by-number none e
 
   module _ (n : ℕ) (e : canonical k ≡ some n) where
-    pub past-string : length (chars (rest s b x)) ≤ n → get-member (base-map (jstr (rest s b x))) k ≡ none
-    past-string le = by-number (some n) e ∙ ap (λ (o : Option Bytes). maybe o none (λ c. some (jstr c))) (past-end (chars (rest s b x)) n le)
-
     pub no-character : getElem? (chars (rest s b x)) n ≡ none → get-member (base-map (jstr (rest s b x))) k ≡ none
     no-character f = by-number (some n) e ∙ ap (λ (o : Option Bytes). maybe o none (λ c. some (jstr c))) f
 

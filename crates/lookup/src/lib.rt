@@ -20,6 +20,7 @@ ghost use Rattle.chars.specs.Spelled.{Spelled};
 ghost use Rattle.places.specs.Accepted.{Accepted};
 ghost use Rattle.places.specs.Places.{places, json-at, name-at, children, member};
 ghost use Rattle.places.specs.Kinds.{found};
+ghost use Rattle.saying.specs.Said.{remaining, Inside};
 ghost use Rattle.text.specs.Rest.{rest, Stands};
 ghost use Rattle.value.specs.Numbers.{decoded};
 ghost use Rattle.value.specs.declared.Value.the-variants.{Merged};
@@ -136,6 +137,17 @@ fn any_member(s: &[u8], tab: &[u64], b: &[u8], i: usize, t: Text) -> places::Fou
     }
 }
 
+// The same for what a string of the plan says from the place `at` and the byte k on. Most often that is all of it, and then two strings are compared where they stand.
+fn said_member(s: &[u8], tab: &[u64], b: &[u8], i: usize, at: usize, k: usize) -> places::Found
+    requires { ⌜ Accepted (now s) (now tab) × (i < places (now s)) × Inside (now s) at k ⌝ }
+    ensures { λ r. ⌜ found r ≡ member (now (s .entry)) i (remaining (now (s .entry)) at k) ⌝ }
+{
+    if (k == 0) & ((0 < at) & (at <= 65536)) {
+        return places::member_said(s, tab, i, at - 1);
+    }
+    any_member(s, tab, b, i, Text::Said(at, k))
+}
+
 // The member of that name of the object at i.
 fn object_member(s: &[u8], tab: &[u64], b: &[u8], i: usize, t: Text) -> places::Found
     requires { ⌜ Accepted (now s) (now tab) × (i < places (now s)) × Stands (now s) (now b) t ⌝ }
@@ -143,6 +155,7 @@ fn object_member(s: &[u8], tab: &[u64], b: &[u8], i: usize, t: Text) -> places::
 {
     match t {
         Text::Packed(p, n) => places::member_packed(s, tab, i, b, p, n),
+        Text::Said(at, k) => said_member(s, tab, b, i, at, k),
         u => any_member(s, tab, b, i, u),
     }
 }
@@ -232,13 +245,9 @@ fn string_member(s: &[u8], b: &[u8], x: Text, t: Text) -> Found
     requires { ⌜ (length (now s) ≤ 65536) × (length (now b) ≤ 65536) × Spelled (now s) (now b) x × Stands (now s) (now b) t ⌝ }
     ensures { λ r. ⌜ PlainFinds (now (s .entry)) (now (b .entry)) (get-member (base-map (jstr (rest (now (s .entry)) (now (b .entry)) x))) (rest (now (s .entry)) (now (b .entry)) t)) r ⌝ }
 {
-    let count = chars::char_count(s, b, x);
     let Parsed::Is(n) = canonical(s, b, t) else {
         return Found::Nothing;
     };
-    if count as u64 <= n {
-        return Found::Nothing;
-    }
     let Nth::Is(w) = chars::nth_char(s, b, x, n as usize) else {
         return Found::Nothing;
     };
