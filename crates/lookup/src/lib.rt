@@ -38,6 +38,7 @@ use decimal::Parsed;
 use meaning::Form;
 use parts::Literal;
 use places::Kind;
+use saying::Name;
 use text::Step;
 use text::Text;
 use value::Value;
@@ -143,7 +144,8 @@ fn said_member(s: &[u8], tab: &[u64], b: &[u8], i: usize, at: usize, k: usize) -
     ensures { λ r. ⌜ found r ≡ member (now (s .entry)) i (remaining (now (s .entry)) at k) ⌝ }
 {
     if (k == 0) & ((0 < at) & (at <= 65536)) {
-        return places::member_said(s, tab, i, at - 1);
+        let q = at - 1;
+        return places::member(s, tab, i, b, Name::Quoted(q));
     }
     any_member(s, tab, b, i, Text::Said(at, k))
 }

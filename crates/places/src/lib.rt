@@ -328,21 +328,6 @@ fn is_same(s: &[u8], i: usize, j: usize) -> bool
     }
 }
 
-// The member of the object at i with the name that the string at q says; of equal names the last one.
-pub fn member_said(s: &[u8], tab: &[u64], i: usize, q: usize) -> Found
-    requires { ⌜ Accepted (now s) (now tab) × (i < places (now s)) × (q ≤ 65536) ⌝ }
-    ensures { λ r. ⌜ found r ≡ member (now (s .entry)) i (saying (now (s .entry)) q) ⌝ }
-{
-    let e = end(s, tab, i);
-    let mut c = i + 1;
-    let mut best = Found::Nothing;
-    while c < e {
-        best = or(is_same(s, name(s, tab, c), q), c, best);
-        c = end(s, tab, c);
-    }
-    best
-}
-
 // Whether the name of the value at c is above that of the one at `after`, where there is one.
 fn is_above(s: &[u8], tab: &[u64], after: Found, c: usize) -> bool
     requires { ⌜ Accepted (now s) (now tab) × FoundIn (now s) after × (c < places (now s)) ⌝ }

@@ -14,8 +14,8 @@ use Rattle.places.specs.Places.{member}
 use Rattle.lookup.proofs.said_member.Statement.{statement}
 use Rattle.lookup.proofs.said_member.Tie as tie
 
-sub-member-said : tie.Need-sub-member-said
-sub-member-said c =
+sub-q : tie.Need-sub-q
+sub-q c =
     let z = c .before .before .before .before in
     let a = z .args in
     let t = c .if1 .taken in
@@ -25,8 +25,8 @@ sub-member-said c =
     let near = leb-true (a .at) 65536 (and-right (ltb 0 (a .at)) (leb (a .at) 65536) rest) in
     omega (arith, some)
 
-member-said-requires : tie.Need-member-said-requires
-member-said-requires c κs =
+member-requires : tie.Need-member-requires
+member-requires c κs =
     let z = c .before .before .before .before in
     let a = z .args in
     let t = c .if1 .taken in
@@ -46,7 +46,7 @@ returns c =
     let some = ltb-true 0 (a .at) (and-left (ltb 0 (a .at)) (leb (a .at) 65536) rest) in
     let near = leb-true (a .at) 65536 (and-right (ltb 0 (a .at)) (leb (a .at) 65536) rest) in
     let e : a .at - 1 + 1 ≡ a .at = omega (arith, some) in
-    c .member-said .ensures
+    c .member .ensures
     ∙ ap (λ (n : ℕ). member (a .s .now) (a .i) (saying-from (a .s .now) (suc (length (a .s .now))) n)) e
     ∙ ap (λ (m : ℕ). member (a .s .now) (a .i) (remaining (a .s .now) (a .at) m)) (sym none)
 
@@ -57,4 +57,4 @@ returns-2 : tie.Need-returns-2
 returns-2 c = c .any-member .ensures
 
 pub said-member-spec : {M : Type 1} → statement M
-said-member-spec = tie.close (tie.spec sub-member-said member-said-requires returns any-member-requires returns-2)
+said-member-spec = tie.close (tie.spec sub-q member-requires returns any-member-requires returns-2)
