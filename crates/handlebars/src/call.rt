@@ -11,6 +11,7 @@ ghost use Rattle.handlebars.specs.Begins.{Roomy, StartHolds, Tabled, goe
 ghost use Rattle.handlebars.specs.Calls.{inputs, left, predicted, Emptied};
 use crate::Answer;
 use crate::draw::draw;
+use crate::numbers::SCRATCH_TOO_SHORT;
 use crate::start::Start;
 use crate::start::begin;
 use crate::start::long_enough;
@@ -101,7 +102,7 @@ fn answer(
 {
     if !long_enough(places.len(), entries.len(), texts.len(), indent.len()) {
         clear::clear_u64(places);
-        return refused(1);
+        return refused(SCRATCH_TOO_SHORT);
     }
     let mut index: [u32; 64] = [0; 64];
     let from = begin(bundle, start, options, &mut index);

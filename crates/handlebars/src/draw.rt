@@ -18,19 +18,22 @@ ghost use Rattle.drawing.specs.Renders.{registry-of};
 ghost use Rattle.handlebars.specs.Answers.{answer-of, Shown};
 ghost use Rattle.handlebars.specs.Begins.{Tabled};
 use crate::Answer;
+use crate::numbers::PAGE_LIMIT;
+use error::BLOCK_TEXTS_LIMIT;
+use error::MISSING_VARIABLE;
 use expand::Options;
 use render::render_template;
 use state::RenderContext;
 
-// The number of a refusal that a drawing met: 11 to 25.
+// The number of a refusal that a drawing met.
 fn number_of(bad: u8) -> u32
     ensures { λ r. ⌜ r ≡ number (reason-of bad) ⌝ }
 {
-    if bad < 11 {
-        return 25;
+    if bad < MISSING_VARIABLE {
+        return PAGE_LIMIT;
     }
-    if 24 < bad {
-        return 25;
+    if BLOCK_TEXTS_LIMIT < bad {
+        return PAGE_LIMIT;
     }
     bad as u32
 }

@@ -12,10 +12,15 @@ use layout::Verdict;
 mod call;
 mod draw;
 mod names;
+mod numbers;
 mod start;
 
 pub use call::render;
 pub use names::handlebars_template_name;
+use numbers::BUNDLE_LAYOUT;
+use numbers::BUNDLE_TOO_LARGE;
+use numbers::PARTIAL_PARAMETER;
+use numbers::SCRATCH_TOO_SHORT;
 
 // The entries that a table of the plan's values has; include/handlebars.h has the same number.
 pub const VALUES: usize = 4096;
@@ -41,9 +46,9 @@ pub extern "C" fn handlebars_check_bundle(bundle: &[u8]) -> u32
     let v = layout::check_bundle(bundle);
     match v {
         Verdict::Accepted => 0,
-        Verdict::TooLong => 2,
-        Verdict::BadLayout => 3,
-        Verdict::PartialContext => 4,
+        Verdict::TooLong => BUNDLE_TOO_LARGE,
+        Verdict::BadLayout => BUNDLE_LAYOUT,
+        Verdict::PartialContext => PARTIAL_PARAMETER,
     }
 }
 
@@ -55,7 +60,7 @@ pub extern "C" fn handlebars_check_plan(plan: &[u8], table: &mut [u64]) -> u32
 {
     if table.len() < VALUES {
         clear::clear_u64(table);
-        return 1;
+        return SCRATCH_TOO_SHORT;
     }
     json::read_plan(plan, table) as u32
 }

@@ -5,6 +5,11 @@ ghost use lib.ListN.{length};
 ghost use Rattle.rules.specs.Call.{long-enough, scratch-lengths};
 ghost use Rattle.registry.specs.Templates.{Standing};
 ghost use Rattle.handlebars.specs.Begins.{Begins, Filled};
+use crate::numbers::BUNDLE_LAYOUT;
+use crate::numbers::BUNDLE_TOO_LARGE;
+use crate::numbers::PARTIAL_PARAMETER;
+use crate::numbers::STRICT_AND_GUIDE_TRUTH;
+use crate::numbers::TEMPLATE_NOT_FOUND;
 use expand::Options;
 use layout::Verdict;
 use registry::Found;
@@ -50,12 +55,12 @@ fn find(b: &[u8], start: &[u8], options: Options) -> Start
     ensures { λ r. ⌜ Begins (now (b .entry)) (now (start .entry)) options r ⌝ }
 {
     if options.strict & options.guide_truth {
-        return Start::Refused(5);
+        return Start::Refused(STRICT_AND_GUIDE_TRUTH);
     }
     let f = registry::get_template(b, 16, start);
     match f {
         Found::Template(_, name, body) => Start::At(name, body),
-        Found::Missing => Start::Refused(6),
+        Found::Missing => Start::Refused(TEMPLATE_NOT_FOUND),
     }
 }
 
@@ -67,8 +72,8 @@ pub fn begin(b: &[u8], start: &[u8], options: Options, index: &mut [u32]) -> Sta
     let v = layout::check_indexed(b, index);
     match v {
         Verdict::Accepted => find(b, start, options),
-        Verdict::TooLong => Start::Refused(2),
-        Verdict::BadLayout => Start::Refused(3),
-        Verdict::PartialContext => Start::Refused(4),
+        Verdict::TooLong => Start::Refused(BUNDLE_TOO_LARGE),
+        Verdict::BadLayout => Start::Refused(BUNDLE_LAYOUT),
+        Verdict::PartialContext => Start::Refused(PARTIAL_PARAMETER),
     }
 }

@@ -9,22 +9,45 @@ ghost use Rattle.json.specs.Table.{entry, table};
 ghost use Rattle.json.specs.Reading.{Meets, MeetsAll, judged};
 ghost use Rattle.json.specs.Quick.{Marked, plain-end};
 use clear::clear_u64;
+use error::NUMBER_NOT_INTEGER;
+use error::PLAN_NOT_JSON;
+use error::PLAN_TOO_LARGE;
+use error::TOO_MANY_VALUES;
 use scan::byte;
 use scan::spaces_end;
 
-// What was read: the place behind it (0 for nothing), the values numbered so far, and how many numbers check 9 refuses.
-pub struct Read {
-    pub at: usize,
-    pub count: usize,
-    pub bad: usize,
+// How many bytes a plan may have, how many values, and how deep it may go
+const BYTES: usize = 65536;
+
+const VALUES: usize = 4096;
+
+const DEPTH: usize = 32;
+
+// The place behind what is not there
+const NOTHING: usize = 0;
+
+// Where the name of a value starts that has none
+const NO_NAME: usize = 0;
+
+// Every place of a text fits 16 bits.
+const PLACES: u64 = 1 << 16;
+
+// From `[` to `]`, and from `{` to `}`
+const TO_CLOSE: u8 = b']' - b'[';
+
+// What was read: the place behind it or `NOTHING`, the values numbered so far, and how many numbers check 9 refuses.
+struct Read {
+    at: usize,
+    count: usize,
+    bad: usize,
 }
 
-// A value's entry. Every place of a text fits 16 bits.
+// A value's entry.
 fn entry_of(start: usize, name: usize, next: usize) -> u64
     requires { ⌜ (start < 65536) × (name < 65536) × (next ≤ 65537) ⌝ }
     ensures { λ r. ⌜ r ≡ entry start name next ⌝ }
 {
-    (start as u64) + 65536 * ((name as u64) + 65536 * (next as u64))
+    (start as u64) + PLACES * ((name as u64) + PLACES * (next as u64))
 }
 
 // Stores an entry where there is room: a plan of more values than the table has entries is refused, and the table cleared.
@@ -42,16 +65,16 @@ fn scalar_end(s: &[u8], i: usize) -> usize
     ensures { λ r. ⌜ r ≡ scalar-end (now (s .entry)) i ⌝ }
 {
     let c = byte(s, i);
-    if c == 34 {
+    if c == b'"' {
         return strings::string_end(s, i + 1);
     }
-    if c == 116 {
+    if c == b't' {
         return scan::word_end(b"true", s, i);
     }
-    if c == 102 {
+    if c == b'f' {
         return scan::word_end(b"false", s, i);
     }
-    if c == 110 {
+    if c == b'n' {
         return scan::word_end(b"null", s, i);
     }
     scan::number_end(s, i)
@@ -60,12 +83,13 @@ fn scalar_end(s: &[u8], i: usize) -> usize
 // A value without others in it; its own number is n.
 fn read_leaf(s: &[u8], tab: &mut [u64], i: usize, name: usize, n: usize, bad: usize) -> Read
     requires { ⌜ (i ≤ length (now s)) × (length (now s) ≤ 65536) × (name < 65536) × (n ≤ i) × (bad ≤ n) ⌝ }
-    ensures { λ r. ⌜ Meets (now (s .entry)) i n bad (now (tab .entry)) (leaf (now (s .entry)) i name) r (now (tab .exit)) ⌝ }
+    ensures { λ r. ⌜ Meets (now (s .entry)) i n bad (now (tab .entry)) (leaf (now (s .entry)) i name) r
+        (now (tab .exit)) ⌝ }
 {
     let e = scalar_end(s, i);
-    if e == 0 {
+    if e == NOTHING {
         return Read {
-            at: 0,
+            at: NOTHING,
             count: n,
             bad: bad,
         };
@@ -90,7 +114,7 @@ fn find_mark(s: &[u8], i: usize) -> Mark
     ensures { λ r. ⌜ Marked (now (s .entry)) i r ⌝ }
 {
     let c = byte(s, i);
-    if 32 < c {
+    if b' ' < c {
         return Mark { at: i, byte: c };
     }
     let e = spaces_end(s, i);
@@ -100,60 +124,60 @@ fn find_mark(s: &[u8], i: usize) -> Mark
     }
 }
 
-// The place of the value behind white space from i on and a colon, 0 for none.
+// The place of the value behind white space from i on and a colon.
 fn colon_behind(s: &[u8], i: usize) -> usize
     requires { ⌜ (i ≤ length (now s)) × (length (now s) ≤ 65536) ⌝ }
     ensures { λ r. ⌜ r ≡ colon-end (now (s .entry)) (spaces-end (now (s .entry)) i) ⌝ }
 {
     let m = find_mark(s, i);
-    if m.byte == 58 {
+    if m.byte == b':' {
         let at = m.at;
         return spaces_end(s, at + 1);
     }
-    0
+    NOTHING
 }
 
-// The place of the value behind a name at i and its colon, 0 for none.
+// The place of the value behind a name at i and its colon.
 fn name_end(s: &[u8], i: usize) -> usize
     requires { ⌜ (i ≤ length (now s)) × (length (now s) ≤ 65536) ⌝ }
     ensures { λ r. ⌜ r ≡ name-end (now (s .entry)) i ⌝ }
 {
-    if byte(s, i) != 34 {
-        return 0;
+    if byte(s, i) != b'"' {
+        return NOTHING;
     }
     let e = strings::string_end(s, i + 1);
-    if e == 0 {
-        return 0;
+    if e == NOTHING {
+        return NOTHING;
     }
     colon_behind(s, e)
 }
 
-// The place of the value of the item at i, 0 for none. `close` is the byte that ends the items.
+// The place of the value of the item at i. `close` is the byte that ends the items.
 fn item_place(s: &[u8], close: u8, i: usize) -> usize
     requires { ⌜ (i ≤ length (now s)) × (length (now s) ≤ 65536) ⌝ }
     ensures { λ r. ⌜ r ≡ item-place (now (s .entry)) close i ⌝ }
 {
-    if close == 125 {
+    if close == b'}' {
         return name_end(s, i);
     }
     i
 }
 
-// Where the name of the item at i starts, 0 in an array.
+// Where the name of the item at i starts; items of an array have none.
 fn item_name(close: u8, i: usize) -> usize
     ensures { λ r. ⌜ r ≡ item-name close i ⌝ }
 {
-    if close == 125 {
+    if close == b'}' {
         return i;
     }
-    0
+    NO_NAME
 }
 
 // `[` and `{`.
 fn is_open(c: u8) -> bool
     ensures { λ r. ⌜ r ≡ is-open c ⌝ }
 {
-    (c == 91) | (c == 123)
+    (c == b'[') | (c == b'{')
 }
 
 // The value at i, of depth `left` at most; its own number is n.
@@ -167,7 +191,8 @@ fn read_value(
     bad: usize,
 ) -> Read
     requires { ⌜ (i ≤ length (now s)) × (length (now s) ≤ 65536) × (name < 65536) × (n ≤ i) × (bad ≤ n) ⌝ }
-    ensures { λ r. ⌜ Meets (now (s .entry)) i n bad (now (tab .entry)) (value-of (now (s .entry)) left i name) r (now (tab .exit)) ⌝ }
+    ensures { λ r. ⌜ Meets (now (s .entry)) i n bad (now (tab .entry)) (value-of (now (s .entry)) left i name) r
+        (now (tab .exit)) ⌝ }
 {
     let c = byte(s, i);
     if !is_open(c) {
@@ -175,13 +200,13 @@ fn read_value(
     }
     if left == 0 {
         return Read {
-            at: 0,
+            at: NOTHING,
             count: n,
             bad: bad,
         };
     }
     let j = spaces_end(s, i + 1);
-    let close = c + 2;
+    let close = c + TO_CLOSE;
     if byte(s, j) == close {
         put(tab, n, entry_of(i, name, n + 1));
         return Read {
@@ -191,36 +216,36 @@ fn read_value(
         };
     }
     let r = read_items(s, tab, close, j, left - 1, n + 1, bad);
-    if r.at == 0 {
+    if r.at == NOTHING {
         return r;
     }
     put(tab, n, entry_of(i, name, r.count));
     r
 }
 
-// The place behind a value that is read at once, at i: a number of few digits, a string of plain characters, a word; 0 for any other.
+// The place behind a value that is read at once, at i: a number of few digits, a string of plain characters, a word.
 fn plain_end(s: &[u8], i: usize) -> usize
     requires { ⌜ (i ≤ length (now s)) × (length (now s) ≤ 65536) ⌝ }
     ensures { λ r. ⌜ r ≡ plain-end (now (s .entry)) i ⌝ }
 {
     let e = scan::plain_number_end(s, i);
-    if e != 0 {
+    if e != NOTHING {
         return e;
     }
     let c = byte(s, i);
-    if c == 34 {
+    if c == b'"' {
         return strings::plain_string_end(s, i + 1);
     }
-    if c == 116 {
+    if c == b't' {
         return scan::word_end(b"true", s, i);
     }
-    if c == 102 {
+    if c == b'f' {
         return scan::word_end(b"false", s, i);
     }
-    if c == 110 {
+    if c == b'n' {
         return scan::word_end(b"null", s, i);
     }
-    0
+    NOTHING
 }
 
 // The value of an item at i, as `read_value` reads it. (Most are read at once, and then no call is made.)
@@ -234,10 +259,11 @@ fn read_item(
     bad: usize,
 ) -> Read
     requires { ⌜ (i ≤ length (now s)) × (length (now s) ≤ 65536) × (name < 65536) × (n ≤ i) × (bad ≤ n) ⌝ }
-    ensures { λ r. ⌜ Meets (now (s .entry)) i n bad (now (tab .entry)) (value-of (now (s .entry)) left i name) r (now (tab .exit)) ⌝ }
+    ensures { λ r. ⌜ Meets (now (s .entry)) i n bad (now (tab .entry)) (value-of (now (s .entry)) left i name) r
+        (now (tab .exit)) ⌝ }
 {
     let e = plain_end(s, i);
-    if e == 0 {
+    if e == NOTHING {
         return read_value(s, tab, i, name, left, n, bad);
     }
     put(tab, n, entry_of(i, name, n + 1));
@@ -259,22 +285,24 @@ fn read_items(
     bad: usize,
 ) -> Read
     requires { ⌜ (i ≤ length (now s)) × (length (now s) ≤ 65536) × (n ≤ i) × (bad ≤ n) × (0 < close) ⌝ }
-    ensures { λ r. ⌜ MeetsAll (now (s .entry)) i n bad (now (tab .entry)) (items (now (s .entry)) (value-of (now (s .entry)) left) close (suc (length (now (s .entry)))) i) r (now (tab .exit)) ⌝ }
+    ensures { λ r. ⌜ MeetsAll (now (s .entry)) i n bad (now (tab .entry))
+        (items (now (s .entry)) (value-of (now (s .entry)) left) close (suc (length (now (s .entry)))) i) r
+        (now (tab .exit)) ⌝ }
 {
     let mut j = i;
     let mut m = n;
     let mut b = bad;
     loop {
         let p = item_place(s, close, j);
-        if p == 0 {
+        if p == NOTHING {
             return Read {
-                at: 0,
+                at: NOTHING,
                 count: m,
                 bad: b,
             };
         }
         let r = read_item(s, tab, p, item_name(close, j), left, m, b);
-        if r.at == 0 {
+        if r.at == NOTHING {
             return r;
         }
         let at = r.at;
@@ -288,9 +316,9 @@ fn read_items(
                 bad: r.bad,
             };
         }
-        if c != 44 {
+        if c != b',' {
             return Read {
-                at: 0,
+                at: NOTHING,
                 count: m,
                 bad: b,
             };
@@ -301,36 +329,36 @@ fn read_items(
     }
 }
 
-// The number that the whole text gets: 8, then 9, then 10.
+// The number that the whole text gets.
 fn judge(s: &[u8], r: Read) -> u8
     ensures { λ v. ⌜ v ≡ judged (now (s .entry)) r ⌝ }
 {
     let at = r.at;
-    if at == 0 {
-        return 8;
+    if at == NOTHING {
+        return PLAN_NOT_JSON;
     }
     if spaces_end(s, at) != s.len() {
-        return 8;
+        return PLAN_NOT_JSON;
     }
     if r.bad != 0 {
-        return 9;
+        return NUMBER_NOT_INTEGER;
     }
-    if 4096 < r.count {
-        return 10;
+    if VALUES < r.count {
+        return TOO_MANY_VALUES;
     }
     0
 }
 
-// Reads the plan s: the number of the answer, and the table of the plan's values, which is all zero after a refusal.
+// Checks 7 to 10: the number of the refusal, or 0 and the table of the plan's values. After a refusal the table is all zero.
 pub fn read_plan(s: &[u8], tab: &mut [u64]) -> u8
     ensures { λ r. ⌜ r ≡ answer (now (s .entry)) ⌝ }
     ensures { λ _. ⌜ now (tab .exit) ≡ table (length (now (tab .entry))) (now (s .entry)) ⌝ }
 {
     clear_u64(tab);
-    if 65536 < s.len() {
-        return 7;
+    if BYTES < s.len() {
+        return PLAN_TOO_LARGE;
     }
-    let r = read_value(s, tab, spaces_end(s, 0), 0, 32, 0, 0);
+    let r = read_value(s, tab, spaces_end(s, 0), NO_NAME, DEPTH, 0, 0);
     let v = judge(s, r);
     if v != 0 {
         clear_u64(tab);

@@ -212,7 +212,7 @@ fn file_name(k: u8) -> [u8; 11]
     requires { ⌜ k < 10 ⌝ }
 {
     let mut name = *b"texts-0.bin";
-    name[6] = 48 + k;
+    name[6] = b'0' + k;
     name
 }
 

@@ -15,6 +15,53 @@ ghost use Rattle.saying.specs.Compared.{ordering, name-bytes, NameFits};
 ghost use Rattle.saying.specs.Characters.{Charred};
 use scan::byte;
 
+// As long as `\u....\u....`, a code point by two surrogates
+const PAIR: usize = 12;
+
+// The first high and the first low surrogate, how many there are of each, and the first code point that they stand for
+const HIGH_SURROGATE: u32 = 55296;
+
+const LOW_SURROGATE: u32 = 56320;
+
+const SURROGATES: u32 = 1024;
+
+const BY_SURROGATES: u32 = 65536;
+
+// The first code points of two, three and four bytes in UTF-8
+const OF_TWO: u32 = 1 << 7;
+
+const OF_THREE: u32 = 1 << 11;
+
+const OF_FOUR: u32 = 1 << 16;
+
+// What is added to the bits in their first byte, and in each byte behind it, which has six
+const LEADS_TWO: u32 = 192;
+
+const LEADS_THREE: u32 = 224;
+
+const LEADS_FOUR: u32 = 240;
+
+const FOLLOWS: u32 = 128;
+
+const SIX_BITS: u32 = 1 << 6;
+
+const TWELVE_BITS: u32 = 1 << 12;
+
+const EIGHTEEN_BITS: u32 = 1 << 18;
+
+// The first bytes of a packed name are read at once: how many, their bits, and how far to the right the first one stands
+const HEAD: usize = 7;
+
+const HEAD_BITS: usize = 8 * HEAD;
+
+const TO_FIRST: usize = 8 * (HEAD - 1);
+
+// What a byte may be
+const BYTES: u64 = 256;
+
+// For a name that is not short, instead of its bytes as one number
+const NOT_SHORT: u64 = 0;
+
 // A place in a string: the byte k of what the text says at `at`.
 pub struct Cursor {
     pub at: usize,
@@ -72,9 +119,9 @@ fn code_point(s: &[u8], i: usize) -> u32
     ensures { λ r. ⌜ (r ≡ code-point (now (s .entry)) i) × (r < 1114112) ⌝ }
 {
     let v = strings::hex_four(s, i + 2);
-    if strings::unicode_length(s, i) == 12 {
+    if strings::unicode_length(s, i) == PAIR {
         let w = strings::hex_four(s, i + 8);
-        return 65536 + (v - 55296) * 1024 + (w - 56320);
+        return BY_SURROGATES + (v - HIGH_SURROGATE) * SURROGATES + (w - LOW_SURROGATE);
     }
     v
 }
@@ -83,13 +130,13 @@ fn code_point(s: &[u8], i: usize) -> u32
 fn encoded_count(p: u32) -> usize
     ensures { λ r. ⌜ r ≡ length (encoded p) ⌝ }
 {
-    if p < 128 {
+    if p < OF_TWO {
         return 1;
     }
-    if p < 2048 {
+    if p < OF_THREE {
         return 2;
     }
-    if p < 65536 {
+    if p < OF_FOUR {
         return 3;
     }
     4
@@ -100,21 +147,21 @@ fn encoded_byte(p: u32, k: usize) -> u8
     requires { ⌜ p < 1114112 ⌝ }
     ensures { λ r. ⌜ r ≡ getD (encoded p) k 0 ⌝ }
 {
-    if p < 128 {
+    if p < OF_TWO {
         return nth(k, p as u8, 0, 0, 0);
     }
-    let last = (128 + p % 64) as u8;
-    if p < 2048 {
-        return nth(k, (192 + p / 64) as u8, last, 0, 0);
+    let last = (FOLLOWS + p % SIX_BITS) as u8;
+    if p < OF_THREE {
+        return nth(k, (LEADS_TWO + p / SIX_BITS) as u8, last, 0, 0);
     }
-    let third = (128 + p / 64 % 64) as u8;
-    if p < 65536 {
-        return nth(k, (224 + p / 4096) as u8, third, last, 0);
+    let third = (FOLLOWS + p / SIX_BITS % SIX_BITS) as u8;
+    if p < OF_FOUR {
+        return nth(k, (LEADS_THREE + p / TWELVE_BITS) as u8, third, last, 0);
     }
     nth(
         k,
-        (240 + p / 262144) as u8,
-        (128 + p / 4096 % 64) as u8,
+        (LEADS_FOUR + p / EIGHTEEN_BITS) as u8,
+        (FOLLOWS + p / TWELVE_BITS % SIX_BITS) as u8,
         third,
         last,
     )
@@ -124,20 +171,20 @@ fn encoded_byte(p: u32, k: usize) -> u8
 fn escaped_byte(e: u8) -> u8
     ensures { λ r. ⌜ r ≡ escaped-byte e ⌝ }
 {
-    if e == 98 {
-        return 8;
+    if e == b'b' {
+        return b'\x08';
     }
-    if e == 102 {
-        return 12;
+    if e == b'f' {
+        return b'\x0c';
     }
-    if e == 110 {
-        return 10;
+    if e == b'n' {
+        return b'\n';
     }
-    if e == 114 {
-        return 13;
+    if e == b'r' {
+        return b'\r';
     }
-    if e == 116 {
-        return 9;
+    if e == b't' {
+        return b'\t';
     }
     e
 }
@@ -148,11 +195,11 @@ fn said_byte(s: &[u8], i: usize, k: usize) -> u8
     ensures { λ r. ⌜ r ≡ getD (says (now (s .entry)) i) k 0 ⌝ }
 {
     let c = byte(s, i);
-    if c != 92 {
+    if c != b'\\' {
         return nth(k, c, 0, 0, 0);
     }
     let e = byte(s, i + 1);
-    if e != 117 {
+    if e != b'u' {
         return nth(k, escaped_byte(e), 0, 0, 0);
     }
     encoded_byte(code_point(s, i), k)
@@ -163,10 +210,10 @@ fn said_count(s: &[u8], i: usize) -> usize
     requires { ⌜ i ≤ 65550 ⌝ }
     ensures { λ r. ⌜ r ≡ length (says (now (s .entry)) i) ⌝ }
 {
-    if byte(s, i) != 92 {
+    if byte(s, i) != b'\\' {
         return 1;
     }
-    if byte(s, i + 1) != 117 {
+    if byte(s, i + 1) != b'u' {
         return 1;
     }
     encoded_count(code_point(s, i))
@@ -178,13 +225,13 @@ pub fn next_byte(s: &[u8], at: usize, k: usize) -> Step
     ensures { λ r. ⌜ Stepped (now (s .entry)) (remaining (now (s .entry)) at k) r ⌝ }
 {
     let c = byte(s, at);
-    if c == 34 {
+    if c == b'"' {
         return Step::End;
     }
-    if c < 32 {
+    if c < b' ' {
         return Step::End;
     }
-    if c != 92 {
+    if c != b'\\' {
         return Step::Byte(c, Cursor { at: at + 1, k: 0 });
     }
     let n = strings::escape_length(s, at);
@@ -203,10 +250,10 @@ pub fn next_byte(s: &[u8], at: usize, k: usize) -> Step
 fn is_own(c: u8) -> bool
     ensures { λ r. ⌜ r ≡ is-own c ⌝ }
 {
-    if 92 < c {
+    if b'\\' < c {
         return true;
     }
-    (32 <= c) & ((c != 34) & (c != 92))
+    (b' ' <= c) & ((c != b'"') & (c != b'\\'))
 }
 
 // The first place from i on that has no such byte: what is said up to there are the bytes of the text.
@@ -229,21 +276,21 @@ pub fn next_char(s: &[u8], at: usize) -> Char
     ensures { λ r. ⌜ Charred (now (s .entry)) at r ⌝ }
 {
     let c = byte(s, at);
-    if c == 34 {
+    if c == b'"' {
         return Char::End;
     }
     let n = strings::char_length(s, at);
     if n == 0 {
         return Char::End;
     }
-    if c == 92 {
+    if c == b'\\' {
         return Char::One(said_count(s, at), at + n);
     }
     Char::One(n, at + n)
 }
 
 // Whether the string at i says the bytes w.
-pub fn says_bytes(s: &[u8], i: usize, w: &[u8]) -> bool
+fn says_bytes(s: &[u8], i: usize, w: &[u8]) -> bool
     requires { ⌜ (length (now s) ≤ 65536) × (i ≤ 65536) ⌝ }
     ensures { λ r. ⌜ r ≡ same (saying (now (s .entry)) i) (now (w .entry)) ⌝ }
 {
@@ -335,7 +382,7 @@ fn packed_from(s: &[u8], i: usize, w: &[u8], p: usize, n: usize) -> bool
     let mut left = n;
     loop {
         let c = byte(s, at);
-        if c == 34 {
+        if c == b'"' {
             return left == 0;
         }
         if !is_own(c) {
@@ -366,23 +413,26 @@ pub fn remaining_packed(s: &[u8], i: usize, j: usize, w: &[u8], p: usize, n: usi
 
 // The same from where a character starts. The number x is the first seven packed bytes, so that most names are compared without another read.
 fn packed_headed(s: &[u8], i: usize, w: &[u8], p: usize, n: usize, x: u64) -> bool
-    requires { ⌜ (length (now s) ≤ 65536) × (i ≤ 65548) × (p + 8 * n < 18446744073709551616) × (x ≡ field (bits (now w)) 56 p) ⌝ }
+    requires { ⌜ (length (now s) ≤ 65536)
+        × (i ≤ 65548)
+        × (p + 8 * n < 18446744073709551616)
+        × (x ≡ field (bits (now w)) 56 p) ⌝ }
     ensures { λ r. ⌜ r ≡ same (remaining (now (s .entry)) i 0) (bytes-at (bits (now (w .entry))) p n) ⌝ }
 {
-    let m = bits::least(n, 7);
+    let m = bits::least(n, HEAD);
     let mut k: usize = 0;
     while k < m {
         let c = byte(s, i + k);
         if !is_own(c) {
             return packed_from(s, i + k, w, p + 8 * k, n - k);
         }
-        if ((x >> (48 - 8 * k)) % 256) as u8 != c {
+        if ((x >> (TO_FIRST - 8 * k)) % BYTES) as u8 != c {
             return false;
         }
         k += 1;
     }
     let left = n - k;
-    if byte(s, i + k) == 34 {
+    if byte(s, i + k) == b'"' {
         return left == 0;
     }
     packed_from(s, i + k, w, p + 8 * k, left)
@@ -391,11 +441,14 @@ fn packed_headed(s: &[u8], i: usize, w: &[u8], p: usize, n: usize, x: u64) -> bo
 // Whether the string at i says the n bytes that are packed into w from the bit place p on. The number x is the first seven of them: a caller
 // reads it once for many strings. Most names differ in their first byte.
 pub fn says_headed(s: &[u8], i: usize, w: &[u8], p: usize, n: usize, x: u64) -> bool
-    requires { ⌜ (length (now s) ≤ 65536) × (i ≤ 65536) × (p + 8 * n < 18446744073709551616) × (x ≡ field (bits (now w)) 56 p) ⌝ }
+    requires { ⌜ (length (now s) ≤ 65536)
+        × (i ≤ 65536)
+        × (p + 8 * n < 18446744073709551616)
+        × (x ≡ field (bits (now w)) 56 p) ⌝ }
     ensures { λ r. ⌜ r ≡ same (saying (now (s .entry)) i) (bytes-at (bits (now (w .entry))) p n) ⌝ }
 {
     let c = byte(s, i + 1);
-    let first = ((x >> 48) % 256) as u8;
+    let first = ((x >> TO_FIRST) % BYTES) as u8;
     if first != c {
         if is_own(c) {
             return false;
@@ -407,28 +460,35 @@ pub fn says_headed(s: &[u8], i: usize, w: &[u8], p: usize, n: usize, x: u64) -> 
 // The same as packed_headed. (Where a function passes its slices to a call, the compiler stores them on the stack when the function begins. This one stands
 // between, so that only the few names that come here pay for that.)
 fn headed_on(s: &[u8], i: usize, w: &[u8], p: usize, n: usize, x: u64) -> bool
-    requires { ⌜ (length (now s) ≤ 65536) × (i ≤ 65548) × (p + 8 * n < 18446744073709551616) × (x ≡ field (bits (now w)) 56 p) ⌝ }
+    requires { ⌜ (length (now s) ≤ 65536)
+        × (i ≤ 65548)
+        × (p + 8 * n < 18446744073709551616)
+        × (x ≡ field (bits (now w)) 56 p) ⌝ }
     ensures { λ r. ⌜ r ≡ same (remaining (now (s .entry)) i 0) (bytes-at (bits (now (w .entry))) p n) ⌝ }
 {
     packed_headed(s, i, w, p, n, x)
 }
 
 // The same as says_headed, for a caller that has a short name as one number v: its bytes, at most seven that stand for themselves, and a quote. It is compared with
-// the text at once. Where v is 0, it is not used.
+// the text at once. `NOT_SHORT` for any other name.
 pub fn says_short(s: &[u8], i: usize, w: &[u8], p: usize, n: usize, x: u64, v: u64) -> bool
-    requires { ⌜ (length (now s) ≤ 65536) × (i ≤ 65536) × (p + 8 * n < 18446744073709551616) × (x ≡ field (bits (now w)) 56 p) × Short x n v ⌝ }
+    requires { ⌜ (length (now s) ≤ 65536)
+        × (i ≤ 65536)
+        × (p + 8 * n < 18446744073709551616)
+        × (x ≡ field (bits (now w)) 56 p)
+        × Short x n v ⌝ }
     ensures { λ r. ⌜ r ≡ same (saying (now (s .entry)) i) (bytes-at (bits (now (w .entry))) p n) ⌝ }
 {
     let d = byte(s, i + 1);
-    let head = ((x >> 48) % 256) as u8;
+    let head = ((x >> TO_FIRST) % BYTES) as u8;
     if head != d {
         if is_own(d) {
             return false;
         }
     }
-    if v != 0 {
+    if v != NOT_SHORT {
         let y = bits::field(s, 8 * (i + 1), 64);
-        if y >> (56 - 8 * n) == v {
+        if y >> (HEAD_BITS - 8 * n) == v {
             return true;
         }
     }
@@ -436,11 +496,11 @@ pub fn says_short(s: &[u8], i: usize, w: &[u8], p: usize, n: usize, x: u64, v: u
 }
 
 // The same for one string.
-pub fn says_packed(s: &[u8], i: usize, w: &[u8], p: usize, n: usize) -> bool
+fn says_packed(s: &[u8], i: usize, w: &[u8], p: usize, n: usize) -> bool
     requires { ⌜ (length (now s) ≤ 65536) × (i ≤ 65536) × (p + 8 * n < 18446744073709551616) ⌝ }
     ensures { λ r. ⌜ r ≡ same (saying (now (s .entry)) i) (bytes-at (bits (now (w .entry))) p n) ⌝ }
 {
-    says_headed(s, i, w, p, n, bits::field(w, p, 56))
+    says_headed(s, i, w, p, n, bits::field(w, p, HEAD_BITS))
 }
 
 // Whether the strings at i and j say the same.

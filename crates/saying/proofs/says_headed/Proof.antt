@@ -15,6 +15,9 @@ add-byte c = search needs
 byte-requires : tie.Need-byte-requires
 byte-requires c κs = search needs
 
+shr-first : tie.Need-shr-first
+shr-first c = search needs
+
 cast-first : tie.Need-cast-first
 cast-first c = search needs
 
@@ -43,6 +46,7 @@ says-headed-spec =
     (tie.spec
     add-byte
     byte-requires
+    shr-first
     cast-first
     is-own-requires
     returns

@@ -16,6 +16,9 @@ add-byte c = search needs
 byte-requires : tie.Need-byte-requires
 byte-requires c κs = search needs
 
+shr-head : tie.Need-shr-head
+shr-head c = search needs
+
 cast-head : tie.Need-cast-head
 cast-head c = search needs
 
@@ -70,6 +73,7 @@ says-short-spec =
     (tie.spec
     add-byte
     byte-requires
+    shr-head
     cast-head
     is-own-requires
     returns
