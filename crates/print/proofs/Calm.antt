@@ -6,17 +6,16 @@ use mathlib.Core.Logic.{inl, inr}
 use mathlib.Core.Path.{_≡_, refl, sym, ap, _∙_, subst}
 use native.Mathlib.Numerals.{add-one}
 use native.Mathlib.Omega.{arith}
-use lib.Dec.{eqb, leb, ltb}
+use lib.Dec.{eqb, leb}
 use lib.ListN.{length, getD, take, drop}
 use lib.Seq.{drop-cons, getD-drop}
 use borrow.Author.Tests.{eqb-true, leb-true, le-leb, ne-eqb, not-true}
 use Rattle.rules.specs.Bytes.{Bytes, pick, byte-at, run}
 use Rattle.rules.specs.Order.{and-left, and-right, differ}
-use Rattle.rules.specs.Support.{entities}
 use Rattle.rules.specs.Scan.{is-digit, minus-end, whole-end, slice}
 use Rattle.scan.proofs.Bounds.{whole-goes}
 use Rattle.support.specs.Runs.{quiet-byte}
-use Rattle.support.specs.Table.{row-in, row-of}
+use Rattle.support.specs.Table.{row-in, is-escaped}
 use Rattle.saying.specs.Said.{is-own, own-end}
 use Rattle.places.specs.Places.{start-of, tree-at}
 use Rattle.value.specs.declared.Value.{Value}
@@ -30,53 +29,33 @@ calm-number s q n = rw (ne-eqb (byte-at s q) 34 n)
 
 -- A byte
 
-own-by : (a b c d e f g h i : Bool) → (a && (not b && (not c && (not d && (not e && (not f && (not g && (not h && not i)))))))) ≡ true → (a && (not b && not h)) ≡ true
-own-by true true c d e f g h i k = differ (sym k)
-own-by true false true d e f g h i k = differ (sym k)
-own-by true false false true e f g h i k = differ (sym k)
-own-by true false false false true f g h i k = differ (sym k)
-own-by true false false false false true g h i k = differ (sym k)
-own-by true false false false false false true h i k = differ (sym k)
-own-by true false false false false false false true i k = differ (sym k)
-own-by true false false false false false false false i k = refl
-own-by false b c d e f g h i k = differ (sym k)
+module _ (c : ℕ) (h : is-calm c ≡ true) where
+  low : leb 32 c ≡ true
+  low = and-left (leb 32 c) (not (is-escaped c) && not (eqb c 92)) h
 
-calm-own : (c : ℕ) → is-calm c ≡ true → is-own c ≡ true
-calm-own c h = own-by (leb 32 c) (eqb c 34) (eqb c 38) (eqb c 39) (eqb c 60) (eqb c 61) (eqb c 62) (eqb c 92) (eqb c 96) h
+  others : (not (is-escaped c) && not (eqb c 92)) ≡ true
+  others = and-right (leb 32 c) (not (is-escaped c) && not (eqb c 92)) h
 
--- none of the rows of the table
-row-by : (b c d e f g i : Bool) → (not b && (not c && (not d && (not e && (not f && (not g && not i)))))) ≡ true
-    → not (ltb (pick e 0 (suc (pick g 0 (suc (pick b 0 (suc (pick c 0 (suc (pick d 0 (suc (pick i 0 (suc (pick f 0 (suc 0)))))))))))))) 7) ≡ true
-row-by true c d e f g i k = differ (sym k)
-row-by false true d e f g i k = differ (sym k)
-row-by false false true e f g i k = differ (sym k)
-row-by false false false true f g i k = differ (sym k)
-row-by false false false false true g i k = differ (sym k)
-row-by false false false false false true i k = differ (sym k)
-row-by false false false false false false true k = differ (sym k)
-row-by false false false false false false false k = refl
+  no-backslash : not (eqb c 92) ≡ true
+  no-backslash = and-right (not (is-escaped c)) (not (eqb c 92)) others
 
-without : (a b c d e f g h i : Bool) → (a && (not b && (not c && (not d && (not e && (not f && (not g && (not h && not i)))))))) ≡ true → (not b && (not c && (not d && (not e && (not f && (not g && not i)))))) ≡ true
-without false b c d e f g h i k = differ (sym k)
-without true true c d e f g h i k = differ (sym k)
-without true false true d e f g h i k = differ (sym k)
-without true false false true e f g h i k = differ (sym k)
-without true false false false true f g h i k = differ (sym k)
-without true false false false false true g h i k = differ (sym k)
-without true false false false false false true h i k = differ (sym k)
-without true false false false false false false true i k = differ (sym k)
-without true false false false false false false false i k = k
+  no-entity : not (is-escaped c) ≡ true
+  no-entity = and-left (not (is-escaped c)) (not (eqb c 92)) others
 
-calm-quiet : (has : Bool) (c : ℕ) → is-calm c ≡ true → quiet-byte has true c ≡ true
-unfolding row-in
-calm-quiet has c h =
-    let low = leb-true 32 c (and-left (leb 32 c) (not (eqb c 34) && (not (eqb c 38) && (not (eqb c 39) && (not (eqb c 60) && (not (eqb c 61) && (not (eqb c 62) && (not (eqb c 92) && not (eqb c 96)))))))) h) in
-    let w = without (leb 32 c) (eqb c 34) (eqb c 38) (eqb c 39) (eqb c 60) (eqb c 61) (eqb c 62) (eqb c 92) (eqb c 96) h in
-    let r = row-by (eqb c 34) (eqb c 38) (eqb c 39) (eqb c 60) (eqb c 61) (eqb c 62) (eqb c 96) w in
-    ap (λ (t : Bool). pick t (not has) (not (ltb (row-of c) 7))) (ne-eqb c 10 (λ z. omega (arith, z, low))) ∙ r
+  -- a quote has one
+  no-quote : (t : Bool) → eqb c 34 ≡ t → not t ≡ true
+  unfolding row-in
+  no-quote true e = differ (sym no-entity ∙ ap (λ (x : ℕ). not (is-escaped x)) (eqb-true c 34 e))
+  no-quote false e = refl
+
+  calm-own : is-own c ≡ true
+  calm-own = rw (low, no-quote (eqb c 34) refl, no-backslash)
+
+  calm-quiet : (has : Bool) → quiet-byte has true c ≡ true
+  calm-quiet has = let l = leb-true 32 c low in ap (λ (t : Bool). pick t (not has) (not (is-escaped c))) (ne-eqb c 10 (λ z. omega (arith, z, l))) ∙ no-entity
 
 digit-calm : (c : ℕ) → is-digit c ≡ true → is-calm c ≡ true
-unfolding is-digit
+unfolding is-digit row-in
 digit-calm c d =
     let low = leb-true 48 c (and-left (leb 48 c) (leb c 57) d) in
     let high = leb-true c 57 (and-right (leb 48 c) (leb c 57) d) in
@@ -100,7 +79,7 @@ Quiet has v = run (quiet-byte has true) v ≡ length v
 module _ (has : Bool) where
   quiet-cons : (c : ℕ) (v : Bytes) → is-calm c ≡ true → Quiet has v → Quiet has (c ∷ v)
   unfolding run
-  quiet-cons c v h q = ap (λ (t : Bool). pick t (suc (run (quiet-byte has true) v)) 0) (calm-quiet has c h) ∙ ap suc q
+  quiet-cons c v h q = ap (λ (t : Bool). pick t (suc (run (quiet-byte has true) v)) 0) (calm-quiet c h has) ∙ ap suc q
 
   -- a run of them by any test that makes them so
   quiet-run : (p : ℕ → Bool) → ((c : ℕ) → p c ≡ true → is-calm c ≡ true) → (l : Bytes) → Quiet has (take (run p l) l)
@@ -124,7 +103,7 @@ module _ (has : Bool) where
   quiet-none l = refl
 
   whole-quiet : (s : Bytes) (d w : ℕ) → w ≡ whole-end s d → (w ≡ 0 → ⊥) → Quiet has (slice s d w)
-  unfolding whole-end
+  unfolding whole-end row-in
   whole-quiet s d w e n = by (eqb (byte-at s d) 48) (is-digit (byte-at s d)) refl refl e
     where
       goes : (d + 1 ≤ w) × (w ≤ length s)
@@ -143,6 +122,7 @@ module _ (has : Bool) where
       by false false f g m = absurd (n m)
 
   number-quiet : (s : Bytes) (q : ℕ) → (whole-end s (minus-end s q) ≡ 0 → ⊥) → Quiet has (slice s q (whole-end s (minus-end s q)))
+  unfolding row-in
   number-quiet s q n = by (eqb (byte-at s q) 45) refl (minus-end s q) refl n
     where
       by : (t : Bool) → eqb (byte-at s q) 45 ≡ t → (d : ℕ) → d ≡ pick t (q + 1) q → (whole-end s d ≡ 0 → ⊥) → Quiet has (slice s q (whole-end s d))
@@ -155,7 +135,7 @@ module _ (has : Bool) where
 
 -- a run of such bytes that a quote ends is all of a string
 run-same : (l : Bytes) → getD l (run is-calm l) 0 ≡ 34 → run is-own l ≡ run is-calm l
-unfolding run
+unfolding run row-in
 run-same [] h = refl
 run-same (c ∷ l) h = by (is-calm c) refl (run-same l) h
   where

@@ -7,6 +7,7 @@ use lib.Dec.{eqb, leb}
 use lib.ListN.{drop}
 use Rattle.rules.specs.Bytes.{Bytes, pick, byte-at, run}
 use Rattle.rules.specs.Scan.{minus-end, whole-end}
+use Rattle.support.specs.Table.{is-escaped}
 use Rattle.saying.specs.Said.{own-end}
 use Rattle.places.specs.Places.{start-of, tree-at}
 use Rattle.value.specs.declared.Value.{Value}
@@ -58,7 +59,7 @@ value-span s (Merged h n) = no-span
 
 -- a byte of a string that stands for itself, and has no entity
 abbrev pub is-calm : ℕ → Bool
-is-calm c = leb 32 c && (not (eqb c 34) && (not (eqb c 38) && (not (eqb c 39) && (not (eqb c 60) && (not (eqb c 61) && (not (eqb c 62) && (not (eqb c 92) && not (eqb c 96))))))))
+is-calm c = leb 32 c && (not (is-escaped c) && not (eqb c 92))
 
 abbrev pub calm-end : Bytes → ℕ → ℕ
 calm-end s i = i + run is-calm (drop i s)

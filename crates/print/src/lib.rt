@@ -30,6 +30,18 @@ use text::Step;
 use text::Text;
 use value::Value;
 
+// A value's number: the kind in its last bits, the place in front of them.
+const KINDS: u32 = 16;
+
+const CONTEXT: u32 = 5;
+
+const PLACE: u32 = 6;
+
+const NAME: u32 = 10;
+
+// As many digits as a u64 may have.
+const DIGITS: usize = 20;
+
 // Byte by byte.
 fn write_steps(
     out: &mut [u8],
@@ -41,7 +53,9 @@ fn write_steps(
     escape: bool,
 ) -> Writer
     requires { ⌜ (length (now s) ≤ 65536) × Stands (now s) (now b) t ⌝ }
-    ensures { λ r. ⌜ output r (now (out .exit)) ≡ printed (now (indent .entry)) escape (rest (now (s .entry)) (now (b .entry)) t) (output w (now (out .entry))) ⌝ }
+    ensures { λ r. ⌜ output r (now (out .exit))
+        ≡ printed (now (indent .entry)) escape (rest (now (s .entry)) (now (b .entry)) t)
+        (output w (now (out .entry))) ⌝ }
 {
     let mut q = w;
     let mut u = t;
@@ -65,7 +79,9 @@ fn write_part(
     escape: bool,
 ) -> Writer
     requires { ⌜ (i < e → e ≤ length (now s)) ⌝ }
-    ensures { λ r. ⌜ output r (now (out .exit)) ≡ printed (now (indent .entry)) escape (take (e - i) (drop i (now (s .entry)))) (output w (now (out .entry))) ⌝ }
+    ensures { λ r. ⌜ output r (now (out .exit))
+        ≡ printed (now (indent .entry)) escape (take (e - i) (drop i (now (s .entry))))
+        (output w (now (out .entry))) ⌝ }
 {
     if i < e {
         return support::feed_bytes(out, indent, w, &s[i..e], escape);
@@ -84,7 +100,8 @@ fn write_said(
     escape: bool,
 ) -> Writer
     requires { ⌜ (length (now s) ≤ 65536) × Inside (now s) at k ⌝ }
-    ensures { λ r. ⌜ output r (now (out .exit)) ≡ printed (now (indent .entry)) escape (remaining (now (s .entry)) at k) (output w (now (out .entry))) ⌝ }
+    ensures { λ r. ⌜ output r (now (out .exit))
+        ≡ printed (now (indent .entry)) escape (remaining (now (s .entry)) at k) (output w (now (out .entry))) ⌝ }
 {
     let mut q = w;
     let mut i = at;
@@ -111,7 +128,8 @@ fn write_packed(
     escape: bool,
 ) -> Writer
     requires { ⌜ p + 8 * n < 18446744073709551616 ⌝ }
-    ensures { λ r. ⌜ output r (now (out .exit)) ≡ printed (now (indent .entry)) escape (bytes-at (bits (now (b .entry))) p n) (output w (now (out .entry))) ⌝ }
+    ensures { λ r. ⌜ output r (now (out .exit))
+        ≡ printed (now (indent .entry)) escape (bytes-at (bits (now (b .entry))) p n) (output w (now (out .entry))) ⌝ }
 {
     if escape {
         return support::feed_packed_escaped(out, indent, w, b, p, n);
@@ -129,7 +147,9 @@ fn write_text(
     escape: bool,
 ) -> Writer
     requires { ⌜ (length (now s) ≤ 65536) × Stands (now s) (now b) t ⌝ }
-    ensures { λ r. ⌜ output r (now (out .exit)) ≡ printed (now (indent .entry)) escape (rest (now (s .entry)) (now (b .entry)) t) (output w (now (out .entry))) ⌝ }
+    ensures { λ r. ⌜ output r (now (out .exit))
+        ≡ printed (now (indent .entry)) escape (rest (now (s .entry)) (now (b .entry)) t)
+        (output w (now (out .entry))) ⌝ }
 {
     match t {
         Text::Said(at, k) => write_said(out, indent, w, s, at, k, escape),
@@ -140,24 +160,27 @@ fn write_text(
 
 // A whole number is written at once: the digits of every u64 fit the buffer.
 fn write_digits(out: &mut [u8], indent: &[u8], w: Writer, n: u64, escape: bool) -> Writer
-    ensures { λ r. ⌜ output r (now (out .exit)) ≡ printed (now (indent .entry)) escape (render (jpos n)) (output w (now (out .entry))) ⌝ }
+    ensures { λ r. ⌜ output r (now (out .exit))
+        ≡ printed (now (indent .entry)) escape (render (jpos n)) (output w (now (out .entry))) ⌝ }
 {
-    let mut buf = [0u8; 20];
+    let mut buf = [0u8; DIGITS];
     let e = decimal::write_digits(&mut buf, 0, n);
     support::feed_bytes(out, indent, w, &buf[..e], escape)
 }
 
 // The same behind a minus.
 fn write_minus(out: &mut [u8], indent: &[u8], w: Writer, n: u64, escape: bool) -> Writer
-    ensures { λ r. ⌜ output r (now (out .exit)) ≡ printed (now (indent .entry)) escape (render (jneg n)) (output w (now (out .entry))) ⌝ }
+    ensures { λ r. ⌜ output r (now (out .exit))
+        ≡ printed (now (indent .entry)) escape (render (jneg n)) (output w (now (out .entry))) ⌝ }
 {
-    let mut buf = [b'-'; 21];
+    let mut buf = [b'-'; DIGITS + 1];
     let e = decimal::write_digits(&mut buf, 1, n);
     support::feed_bytes(out, indent, w, &buf[..e], escape)
 }
 
 fn write_bool(out: &mut [u8], indent: &[u8], w: Writer, x: bool, escape: bool) -> Writer
-    ensures { λ r. ⌜ output r (now (out .exit)) ≡ printed (now (indent .entry)) escape (render (jbool x)) (output w (now (out .entry))) ⌝ }
+    ensures { λ r. ⌜ output r (now (out .exit))
+        ≡ printed (now (indent .entry)) escape (render (jbool x)) (output w (now (out .entry))) ⌝ }
 {
     if x {
         return support::feed_bytes(out, indent, w, b"true", escape);
@@ -176,8 +199,12 @@ fn write_list(
     i: usize,
     escape: bool,
 ) -> Writer
-    requires { ⌜ Accepted (now s) (now tab) × (length (now b) ≤ 65536) × (i < places (now s)) × IsList (json-at (now s) i) ⌝ }
-    ensures { λ r. ⌜ output r (now (out .exit)) ≡ printed (now (indent .entry)) escape (render (json-at (now (s .entry)) i)) (output w (now (out .entry))) ⌝ }
+    requires { ⌜ Accepted (now s) (now tab)
+        × (length (now b) ≤ 65536)
+        × (i < places (now s))
+        × IsList (json-at (now s) i) ⌝ }
+    ensures { λ r. ⌜ output r (now (out .exit))
+        ≡ printed (now (indent .entry)) escape (render (json-at (now (s .entry)) i)) (output w (now (out .entry))) ⌝ }
 {
     let mut q = support::feed_bytes(out, indent, w, b"[", escape);
     let Found::At(f) = places::first(s, tab, i) else {
@@ -200,15 +227,17 @@ pub struct Span {
     pub end: usize,
 }
 
+const NONE: Span = Span { start: 0, end: 0 };
+
 // What a string says whose bytes begin at i, if it has no escapes.
 fn string_span(s: &[u8], i: usize) -> Span
     ensures { λ r. ⌜ r ≡ string-span (now (s .entry)) i ⌝ }
 {
     let e = saying::own_end(s, i);
-    if scan::byte(s, e) == 34 {
+    if scan::byte(s, e) == b'"' {
         return Span { start: i, end: e };
     }
-    Span { start: 0, end: 0 }
+    NONE
 }
 
 // What the value at the place i prints, if that stands in the plan just so. A number does: it has no zero in front, and
@@ -218,7 +247,7 @@ fn place_span(s: &[u8], tab: &[u64], i: usize) -> Span
     ensures { λ r. ⌜ r ≡ span-of (now (s .entry)) i ⌝ }
 {
     let q = places::start(s, tab, i);
-    if scan::byte(s, q) == 34 {
+    if scan::byte(s, q) == b'"' {
         return string_span(s, q + 1);
     }
     let e = scan::whole_end(s, scan::minus_end(s, q));
@@ -234,18 +263,22 @@ pub fn value_span(s: &[u8], tab: &[u64], v: Value) -> Span
         Value::Context(i) => place_span(s, tab, i),
         Value::Place(i) => place_span(s, tab, i),
         Value::Name(o) => string_span(s, o + 1),
-        _ => Span { start: 0, end: 0 },
+        _ => NONE,
     }
 }
 
-// Whether a byte of a string stands for itself, and is printed so whether that is escaped or not.
+// Whether a byte of a string stands for itself, and is printed so whether that is escaped or not. (With the table of what is
+// escaped in front of the last test the compiler makes one test of both.)
 fn is_calm(c: u8) -> bool
     ensures { λ r. ⌜ r ≡ is-calm c ⌝ }
 {
-    (32 <= c)
-        & ((c != 34)
-            & ((c != 38)
-                & ((c != 39) & ((c != 60) & ((c != 61) & ((c != 62) & ((c != 92) & (c != 96))))))))
+    if c < b' ' {
+        return false;
+    }
+    if support::is_escaped(c) {
+        return false;
+    }
+    c != b'\\'
 }
 
 // The first place from i on that has no such byte.
@@ -267,10 +300,10 @@ fn calm_string(s: &[u8], i: usize) -> Span
     ensures { λ r. ⌜ r ≡ calm-string (now (s .entry)) i ⌝ }
 {
     let e = calm_end(s, i);
-    if scan::byte(s, e) == 34 {
+    if scan::byte(s, e) == b'"' {
         return Span { start: i, end: e };
     }
-    Span { start: 0, end: 0 }
+    NONE
 }
 
 // What the value at the place i prints, if that stands in the plan just so and nothing of it is escaped: one pass over its bytes tells both.
@@ -279,7 +312,7 @@ fn calm_place(s: &[u8], tab: &[u64], i: usize) -> Span
     ensures { λ r. ⌜ r ≡ calm-of (now (s .entry)) i ⌝ }
 {
     let q = places::start(s, tab, i);
-    if scan::byte(s, q) == 34 {
+    if scan::byte(s, q) == b'"' {
         return calm_string(s, q + 1);
     }
     let e = scan::whole_end(s, scan::minus_end(s, q));
@@ -291,15 +324,15 @@ pub fn calm_value(s: &[u8], tab: &[u64], n: u32) -> Span
     requires { ⌜ Accepted (now s) (now tab) × ((b : Bytes) × Known (now s) b (decoded n)) ⌝ }
     ensures { λ r. ⌜ r ≡ calm-value (now (s .entry)) n ⌝ }
 {
-    let tag = n % 16;
-    let x = (n / 16) as usize;
-    if (tag == 5) | (tag == 6) {
+    let kind = n % KINDS;
+    let x = (n / KINDS) as usize;
+    if (kind == CONTEXT) | (kind == PLACE) {
         return calm_place(s, tab, x);
     }
-    if tag == 10 {
+    if kind == NAME {
         return calm_string(s, x + 1);
     }
-    Span { start: 0, end: 0 }
+    NONE
 }
 
 // What a value prints.
@@ -314,7 +347,9 @@ pub fn write_value(
     escape: bool,
 ) -> Writer
     requires { ⌜ Accepted (now s) (now tab) × (length (now b) ≤ 65536) × Known (now s) (now b) v ⌝ }
-    ensures { λ r. ⌜ Means (now (s .entry)) (now (b .entry)) v (λ j. output r (now (out .exit)) ≡ printed (now (indent .entry)) escape (render j) (output w (now (out .entry)))) ⌝ }
+    ensures { λ r. ⌜ Means (now (s .entry)) (now (b .entry)) v
+        (λ j. output r (now (out .exit))
+        ≡ printed (now (indent .entry)) escape (render j) (output w (now (out .entry)))) ⌝ }
 {
     match meaning::form_of(s, tab, b, v) {
         Form::Null => w,
@@ -367,7 +402,8 @@ fn front(s: &[u8], b: &[u8], w: &[u8], g: Target) -> Ahead
 // What is left of the target where the bytes v stand in front.
 fn strip_bytes(s: &[u8], b: &[u8], w: &[u8], g: Target, v: &[u8]) -> Left
     requires { ⌜ (length (now s) ≤ 65536) × target.Stands (now s) (now b) (now w) g ⌝ }
-    ensures { λ r. ⌜ target.Stripped (now (s .entry)) (now (b .entry)) (now (w .entry)) (stripped (now (v .entry)) (target.rest (now (s .entry)) (now (b .entry)) (now (w .entry)) g)) r ⌝ }
+    ensures { λ r. ⌜ target.Stripped (now (s .entry)) (now (b .entry)) (now (w .entry))
+        (stripped (now (v .entry)) (target.rest (now (s .entry)) (now (b .entry)) (now (w .entry)) g)) r ⌝ }
 {
     let mut u = g;
     let mut i: usize = 0;
@@ -387,7 +423,9 @@ fn strip_bytes(s: &[u8], b: &[u8], w: &[u8], g: Target, v: &[u8]) -> Left
 // The same for a text.
 fn strip_text(s: &[u8], b: &[u8], w: &[u8], g: Target, t: Text) -> Left
     requires { ⌜ (length (now s) ≤ 65536) × target.Stands (now s) (now b) (now w) g × Stands (now s) (now b) t ⌝ }
-    ensures { λ r. ⌜ target.Stripped (now (s .entry)) (now (b .entry)) (now (w .entry)) (stripped (rest (now (s .entry)) (now (b .entry)) t) (target.rest (now (s .entry)) (now (b .entry)) (now (w .entry)) g)) r ⌝ }
+    ensures { λ r. ⌜ target.Stripped (now (s .entry)) (now (b .entry)) (now (w .entry))
+        (stripped (rest (now (s .entry)) (now (b .entry)) t)
+        (target.rest (now (s .entry)) (now (b .entry)) (now (w .entry)) g)) r ⌝ }
 {
     let mut u = g;
     let mut y = t;
@@ -408,7 +446,8 @@ fn strip_text(s: &[u8], b: &[u8], w: &[u8], g: Target, t: Text) -> Left
 
 fn strip_bool(s: &[u8], b: &[u8], w: &[u8], g: Target, x: bool) -> Left
     requires { ⌜ (length (now s) ≤ 65536) × target.Stands (now s) (now b) (now w) g ⌝ }
-    ensures { λ r. ⌜ target.Stripped (now (s .entry)) (now (b .entry)) (now (w .entry)) (stripped (render (jbool x)) (target.rest (now (s .entry)) (now (b .entry)) (now (w .entry)) g)) r ⌝ }
+    ensures { λ r. ⌜ target.Stripped (now (s .entry)) (now (b .entry)) (now (w .entry))
+        (stripped (render (jbool x)) (target.rest (now (s .entry)) (now (b .entry)) (now (w .entry)) g)) r ⌝ }
 {
     if x {
         return strip_bytes(s, b, w, g, b"true");
@@ -418,8 +457,14 @@ fn strip_bool(s: &[u8], b: &[u8], w: &[u8], g: Target, x: bool) -> Left
 
 // What is left where the list at the place i stands in front.
 fn strip_list(s: &[u8], tab: &[u64], b: &[u8], w: &[u8], g: Target, i: usize) -> Left
-    requires { ⌜ Accepted (now s) (now tab) × (length (now b) ≤ 65536) × target.Stands (now s) (now b) (now w) g × (i < places (now s)) × IsList (json-at (now s) i) ⌝ }
-    ensures { λ r. ⌜ target.Stripped (now (s .entry)) (now (b .entry)) (now (w .entry)) (stripped (render (json-at (now (s .entry)) i)) (target.rest (now (s .entry)) (now (b .entry)) (now (w .entry)) g)) r ⌝ }
+    requires { ⌜ Accepted (now s) (now tab)
+        × (length (now b) ≤ 65536)
+        × target.Stands (now s) (now b) (now w) g
+        × (i < places (now s))
+        × IsList (json-at (now s) i) ⌝ }
+    ensures { λ r. ⌜ target.Stripped (now (s .entry)) (now (b .entry)) (now (w .entry))
+        (stripped (render (json-at (now (s .entry)) i))
+        (target.rest (now (s .entry)) (now (b .entry)) (now (w .entry)) g)) r ⌝ }
 {
     let Left::Is(t) = strip_bytes(s, b, w, g, b"[") else {
         return Left::Other;
@@ -446,7 +491,10 @@ fn strip_list(s: &[u8], tab: &[u64], b: &[u8], w: &[u8], g: Target, i: usize) ->
 
 // What is left where the text of a value stands in front.
 fn strip_value(s: &[u8], tab: &[u64], b: &[u8], w: &[u8], g: Target, v: Value) -> Left
-    requires { ⌜ Accepted (now s) (now tab) × (length (now b) ≤ 65536) × target.Stands (now s) (now b) (now w) g × Known (now s) (now b) v ⌝ }
+    requires { ⌜ Accepted (now s) (now tab)
+        × (length (now b) ≤ 65536)
+        × target.Stands (now s) (now b) (now w) g
+        × Known (now s) (now b) v ⌝ }
     ensures { λ r. ⌜ target.ValueStripped (now (s .entry)) (now (b .entry)) (now (w .entry)) v g r ⌝ }
 {
     match meaning::form_of(s, tab, b, v) {
@@ -491,7 +539,10 @@ pub fn text_is(s: &[u8], tab: &[u64], b: &[u8], v: Value, w: &[u8]) -> bool
 
 // Whether the string at the bit place p of the bundle is the text t. (Names of partials are such strings on both sides.)
 fn held_same(s: &[u8], b: &[u8], p: usize, t: Text) -> bool
-    requires { ⌜ (length (now s) ≤ 65536) × (length (now b) ≤ 65536) × Holds string (bits (now b)) p × Stands (now s) (now b) t ⌝ }
+    requires { ⌜ (length (now s) ≤ 65536)
+        × (length (now b) ≤ 65536)
+        × Holds string (bits (now b)) p
+        × Stands (now s) (now b) t ⌝ }
     ensures { λ r. ⌜ r ≡ same (text-at (bits (now (b .entry))) p) (rest (now (s .entry)) (now (b .entry)) t) ⌝ }
 {
     let x = parts::text_at(b, p);
@@ -503,8 +554,12 @@ fn held_same(s: &[u8], b: &[u8], p: usize, t: Text) -> bool
 
 // Whether it prints just the text t. (No lent bytes are looked at.)
 pub fn text_same(s: &[u8], tab: &[u64], b: &[u8], v: Value, t: Text) -> bool
-    requires { ⌜ Accepted (now s) (now tab) × (length (now b) ≤ 65536) × Known (now s) (now b) v × Stands (now s) (now b) t ⌝ }
-    ensures { λ r. ⌜ Means (now (s .entry)) (now (b .entry)) v (λ j. r ≡ same (render j) (rest (now (s .entry)) (now (b .entry)) t)) ⌝ }
+    requires { ⌜ Accepted (now s) (now tab)
+        × (length (now b) ≤ 65536)
+        × Known (now s) (now b) v
+        × Stands (now s) (now b) t ⌝ }
+    ensures { λ r. ⌜ Means (now (s .entry)) (now (b .entry)) v
+        (λ j. r ≡ same (render j) (rest (now (s .entry)) (now (b .entry)) t)) ⌝ }
 {
     if let Value::Text(p) = v {
         return held_same(s, b, p, t);

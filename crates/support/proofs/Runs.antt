@@ -5,8 +5,8 @@ use mathlib.Core.List.{List, [], _∷_, _++_, append-assoc}
 use Prim.Native.Nat.{ℕ, zero, suc, _+_, _-_, _≤_, _<_, min}
 use native.Mathlib.Nat.{min-comm}
 use native.Mathlib.Omega.{arith}
-use borrow.Author.Tests.{lt-ltb, le-ltb, le-leb, lt-leb, ltb-true, ltb-false, eqb-true, not-true}
-use lib.Dec.{T, eqb, ltb, leb}
+use borrow.Author.Tests.{ltb-false, eqb-true, not-true}
+use lib.Dec.{T, eqb}
 use lib.ListN.{length, getD, take, drop, take-append-drop, length-drop, drop-of-length-le}
 use lib.Seq.{drop-cons, drop-drop}
 use Rattle.rules.specs.Bytes.{Bytes, pick, run}
@@ -14,7 +14,7 @@ use Rattle.rules.specs.Support.{entity, entities, escape-html}
 use Rattle.output.specs.Writer.{Output, over, all-put}
 use Rattle.output.proofs.Steps.{take-min}
 use Rattle.support.specs.Feed.{penned, indent-before, all-emitted, entity-or, escaped}
-use Rattle.support.specs.Table.{row-of, row-bytes}
+use Rattle.support.specs.Table.{row-of, row-bytes, is-escaped}
 use Rattle.support.specs.Runs.{calm, quiet-byte, inner-byte, line-length}
 use Rattle.support.proofs.Steps.{escaped-cons, all-emitted-append}
 use Rattle.support.proofs.Table.{entity-none, row-calm}
@@ -31,20 +31,16 @@ module _ (p : ℕ → Bool) (l : Bytes) (j : ℕ) (h : j < length l) where
   run-end e = rw (drop-cons l j 0 h, e)
 
 -- a quiet byte
-pub not-below : (b : Bool) (k n : ℕ) → ltb k n ≡ b → leb n k ≡ not b
-not-below true k n e = lt-leb n k (ltb-true k n e)
-not-below false k n e = le-leb n k (ltb-false k n e)
-
 calm-by : (b has x : Bool) → pick b (not has) x ≡ true → not (has && b) ≡ true
 calm-by true true x h = h
 calm-by true false x h = refl
 calm-by false true x h = refl
 calm-by false false x h = refl
 
-plain-by : (b has e : Bool) (c : ℕ) → eqb c 10 ≡ b → pick b (not has) (not (e && ltb (row-of c) 7)) ≡ true → entity-or e c ≡ c ∷ []
+plain-by : (b has e : Bool) (c : ℕ) → eqb c 10 ≡ b → pick b (not has) (not (e && is-escaped c)) ≡ true → entity-or e c ≡ c ∷ []
 plain-by b has false c k h = refl
 plain-by true has true c k h = let n : c ≡ 10 = eqb-true c 10 k in ap entity n ∙ ap (λ (x : ℕ). x ∷ []) (sym n)
-plain-by false has true c k h = entity-none entities c (ltb-false (row-of c) 7 (not-true (ltb (row-of c) 7) h))
+plain-by false has true c k h = entity-none entities c (ltb-false (row-of c) (length entities) (not-true (is-escaped c) h))
 
 calm-cons : (has : Bool) (c : ℕ) (v : Bytes) → not (has && eqb c 10) ≡ true → calm has v ≡ true → calm has (c ∷ v) ≡ true
 calm-cons has c [] h k = refl
@@ -52,7 +48,7 @@ calm-cons has c (d ∷ v) h k = ap (λ (t : Bool). t && calm has (d ∷ v)) h �
 
 -- a run of them
 calm-step : (b : Bool) (has e : Bool) (c n : ℕ) (l : Bytes) → quiet-byte has e c ≡ b → calm has (take n l) ≡ true → calm has (take (pick b (suc n) 0) (c ∷ l)) ≡ true
-calm-step true has e c n l q h = calm-cons has c (take n l) (calm-by (eqb c 10) has (not (e && ltb (row-of c) 7)) q) h
+calm-step true has e c n l q h = calm-cons has c (take n l) (calm-by (eqb c 10) has (not (e && is-escaped c)) q) h
 calm-step false has e c n l q h = refl
 
 pub calm-run : (has e : Bool) (l : Bytes) → calm has (take (run (quiet-byte has e) l) l) ≡ true

@@ -2,17 +2,18 @@
 use mathlib.Core.Path.{_≡_, refl, sym, ap, _∙_}
 use mathlib.Core.Bool.{Bool, true, false, _&&_}
 use mathlib.Core.Logic.{⊎-elim}
-use mathlib.Core.List.{List, [], _∷_}
-use Prim.Native.Nat.{ℕ, zero, suc, _+_, _*_, _≤_, _<_}
+use mathlib.Core.List.{List, [], _∷_, _++_, map}
+use Prim.Native.Nat.{ℕ, zero, suc, _-_, _≤_, _<_}
 use native.Mathlib.Nat.{le-of-suc-le-suc, eq-or-lt-of-le}
 use native.Mathlib.Omega.{arith}
 use borrow.Author.Tests.{eq-eqb, ne-eqb}
-use lib.Dec.{T, eqb, leb, leb→le}
-use lib.ListN.{length, getD, take, drop}
-use lib.Seq.{getD-drop, drop-drop, drop-cons}
+use lib.Dec.{T, eqb, leb, leb→le, eqb→eq}
+use lib.ListN.{length, getD, drop, replicate, List·getD-map}
+use lib.Seq.{drop-cons}
 use Rattle.rules.specs.Bytes.{Bytes, pick}
 use Rattle.rules.specs.Support.{entities, entity-in}
-use Rattle.support.specs.Table.{table, row-in, row-of, row-bytes}
+use Rattle.support.specs.Table.{row-in, row-of, row-bytes, row-read}
+use Rattle.support.specs.declared.Entity.{Entity}
 use Rattle.support.specs.Feed.{entity-or}
 use Rattle.support.specs.Runs.{calm}
 
@@ -56,31 +57,8 @@ module _ (e : Bool) (c k : ℕ) (h : k ≡ row-of c) (t : e ≡ true) where
 pub escaped-not : (e : Bool) (c : ℕ) → e ≡ false → c ∷ [] ≡ entity-or e c
 escaped-not e c t = rw t
 
--- its rows in a table: the character, the entity's length, the entity
-
-rows : ℕ → Bytes → List (ℕ × Bytes)
-rows zero t = []
-rows (suc n) t = (getD t 0 0, take (getD t 1 0) (drop 2 t)) ∷ rows n (drop 8 t)
-
-row-at : (n k : ℕ) (t : Bytes) → k < n → getD (rows n t) k (0, []) ≡ (getD t (k * 8) 0, take (getD t (k * 8 + 1) 0) (drop (k * 8 + 2) t))
-unfolding rows
-row-at zero k t h = absurd (omega arith)
-row-at (suc n) zero t h = refl
-row-at (suc n) (suc k) t h =
-    let a : 8 + k * 8 ≡ suc k * 8 = omega arith in
-    let b : 8 + (k * 8 + 1) ≡ suc k * 8 + 1 = omega arith in
-    let d : 8 + (k * 8 + 2) ≡ suc k * 8 + 2 = omega arith in
-    row-at n k (drop 8 t) (le-of-suc-le-suc h) ∙ rw (getD-drop 8 t (k * 8), getD-drop 8 t (k * 8 + 1), drop-drop (k * 8 + 2) 8 t, a, b, d)
-
-right : rows 7 table ≡ entities
-unfolding rows table
-right = refl
-
-row-right : (k : ℕ) → k < 7 → getD entities k (0, []) ≡ (getD table (k * 8) 0, take (getD table (k * 8 + 1) 0) (drop (k * 8 + 2) table))
-row-right k h = ap (λ (l : List (ℕ × Bytes)). getD l k (0, [])) (sym right) ∙ row-at 7 k table h
-
 -- a test that is computed at each number below n
-all-below : ℕ → (ℕ → Bool) → Bool
+abbrev all-below : ℕ → (ℕ → Bool) → Bool
 all-below zero f = true
 all-below (suc n) f = f n && all-below n f
 
@@ -93,22 +71,32 @@ and-right true b t = t
 and-right false b t = absurd t
 
 below : (n : ℕ) (f : ℕ → Bool) → T (all-below n f) → (k : ℕ) → k < n → T (f k)
-unfolding all-below
 below zero f t k h = absurd (omega arith)
 below (suc n) f t k h = ⊎-elim (λ (e : k ≡ n). rw e (and-left (f n) (all-below n f) t)) (λ (l : k < n). below n f (and-right (f n) (all-below n f) t) k l) (eq-or-lt-of-le (le-of-suc-le-suc h))
 
-module _ (k : ℕ) (h : k < 7) where
-  pub character : getD table (k * 8) 0 ≡ getD entities k (0, []) .0
-  character = sym (ap (λ (e : ℕ × Bytes). e .0) (row-right k h))
+-- the code's table: the rules' list, each entity filled up with zeros
+abbrev filled : ℕ × Bytes → Entity
+filled e = record { character = e .0; count = length (e .1); bytes = e .1 ++ replicate (6 - length (e .1)) 0 }
 
-  pub row-taken : take (getD table (k * 8 + 1) 0) (drop (k * 8 + 2) table) ≡ row-bytes k
-  row-taken = sym (ap (λ (e : ℕ × Bytes). e .1) (row-right k h))
+abbrev pub table : List Entity
+table = map filled entities
 
-  -- an entity stays within its row, and has no line feed
-  pub row-short : getD table (k * 8 + 1) 0 ≤ 6
-  unfolding table all-below
-  row-short = leb→le (getD table (k * 8 + 1) 0) 6 (below 7 (λ (m : ℕ). leb (getD table (m * 8 + 1) 0) 6) tt k h)
+abbrev none : Entity
+none = record { character = 0; count = 0; bytes = [] }
 
-  pub row-calm : T (calm true (row-bytes k))
-  unfolding all-below
-  row-calm = below 7 (λ (m : ℕ). calm true (row-bytes m)) tt k h
+abbrev fits : Entity → Bool
+fits e = leb (e .count) 6 && eqb (length (e .bytes)) 6
+
+module _ (k : ℕ) where
+  pub row-right : row-read (getD table k none) ≡ getD entities k (0, [])
+  row-right = sym (List·getD-map row-read table k none)
+
+  pub row-fits : k < 7 → (getD table k none .count ≤ 6) × (length (getD table k none .bytes) ≡ 6)
+  row-fits h =
+      let e = getD table k none in
+      let t = below 7 (λ (m : ℕ). fits (getD table m none)) tt k h in
+      (leb→le (e .count) 6 (and-left (leb (e .count) 6) (eqb (length (e .bytes)) 6) t), eqb→eq (length (e .bytes)) 6 (and-right (leb (e .count) 6) (eqb (length (e .bytes)) 6) t))
+
+-- an entity has no line feed
+pub row-calm : (k : ℕ) → k < 7 → T (calm true (row-bytes k))
+row-calm k h = below 7 (λ (m : ℕ). calm true (row-bytes m)) tt k h

@@ -2,10 +2,10 @@
 use Prim.Native.Nat.{ℕ, suc, min}
 use mathlib.Core.Bool.{Bool, true, _&&_, not}
 use mathlib.Core.List.{[], _∷_}
-use lib.Dec.{eqb, ltb}
+use lib.Dec.{eqb}
 use lib.ListN.{length}
 use Rattle.rules.specs.Bytes.{Bytes, pick, run}
-use Rattle.support.specs.Table.{row-of}
+use Rattle.support.specs.Table.{is-escaped}
 
 -- an indent follows none of them but the last
 abbrev pub calm : Bool → Bytes → Bool
@@ -15,7 +15,7 @@ calm has (c ∷ d ∷ v) = not (has && eqb c 10) && calm has (d ∷ v)
 
 -- nothing comes behind the byte or in its place
 abbrev pub quiet-byte : Bool → Bool → ℕ → Bool
-quiet-byte has escape c = pick (eqb c 10) (not has) (not (escape && ltb (row-of c) 7))
+quiet-byte has escape c = pick (eqb c 10) (not has) (not (escape && is-escaped c))
 
 -- how long the first line is, where an indent makes lines matter
 abbrev pub inner-byte : ℕ → Bool

@@ -4,76 +4,71 @@
 ghost use mathlib.Core.Bool.{true};
 ghost use mathlib.Core.Path.{_≡_};
 ghost use Prim.Native.Nat.{_+_, _*_, _^_, _≤_, _<_};
+ghost use mathlib.Core.List.{[]};
 ghost use lib.ListN.{length, drop, getD};
 ghost use Rattle.rules.specs.Bytes.{run};
 ghost use Rattle.rules.specs.Bits.{bits};
-ghost use Rattle.rules.specs.Support.{newline-matcher};
+ghost use Rattle.rules.specs.Support.{newline-matcher, entities};
 ghost use Rattle.bits.specs.Packed.{bytes-at};
 ghost use Rattle.output.specs.Writer.{output, all-put};
 ghost use Rattle.support.specs.Feed.{begun, finished, wants-indent, indent-before as before, emitted, all-emitted, entity-or, escaped};
 ghost use Rattle.support.specs.Runs.{calm, quiet-byte, line-length};
-ghost use Rattle.support.specs.Table.{table, row-of, row-bytes};
+ghost use Rattle.support.specs.Table.{row-of, row-bytes, row-read, is-escaped};
 use output::Writer;
 
-// A row for each character that is escaped: the character, the length of its entity, and the entity.
-const ENTITIES: [u8; 56] = [
-    60,
-    4,
-    38,
-    108,
-    116,
-    59,
-    0,
-    0,
-    62,
-    4,
-    38,
-    103,
-    116,
-    59,
-    0,
-    0,
-    34,
-    6,
-    38,
-    113,
-    117,
-    111,
-    116,
-    59,
-    38,
-    5,
-    38,
-    97,
-    109,
-    112,
-    59,
-    0,
-    39,
-    6,
-    38,
-    35,
-    120,
-    50,
-    55,
-    59,
-    96,
-    6,
-    38,
-    35,
-    120,
-    54,
-    48,
-    59,
-    61,
-    6,
-    38,
-    35,
-    120,
-    51,
-    68,
-    59,
+// A character that is escaped, and its entity: the first `count` bytes.
+struct Entity {
+    character: u8,
+    count: u8,
+    bytes: [u8; 6],
+}
+
+const ROWS: usize = 7;
+
+// The only place that says which characters are escaped.
+const ENTITIES: [Entity; ROWS] = [
+    Entity {
+        character: b'<',
+        count: 4,
+        bytes: *b"&lt;\0\0",
+    },
+    Entity {
+        character: b'>',
+        count: 4,
+        bytes: *b"&gt;\0\0",
+    },
+    Entity {
+        character: b'"',
+        count: 6,
+        bytes: *b"&quot;",
+    },
+    Entity {
+        character: b'&',
+        count: 5,
+        bytes: *b"&amp;\0",
+    },
+    Entity {
+        character: b'\'',
+        count: 6,
+        bytes: *b"&#x27;",
+    },
+    Entity {
+        character: b'`',
+        count: 6,
+        bytes: *b"&#x60;",
+    },
+    Entity {
+        character: b'=',
+        count: 6,
+        bytes: *b"&#x3D;",
+    },
 ];
+
+const LINE_FEED: usize = b'\n' as usize;
+
+const CARRIAGE_RETURN: usize = b'\r' as usize;
+// The pen behind a line feed.
+const BEHIND_LINE_FEED: usize = LINE_FEED + 1;
 
 fn wide(x: u8) -> usize
     ensures { λ r. ⌜ (r ≡ x) × (r < 256) ⌝ }
@@ -84,10 +79,10 @@ fn wide(x: u8) -> usize
 pub fn newline_matcher(c: usize) -> bool
     ensures { λ r. ⌜ r ≡ newline-matcher c ⌝ }
 {
-    if c == 10 {
+    if c == LINE_FEED {
         return true;
     }
-    c == 13
+    c == CARRIAGE_RETURN
 }
 
 // Behind a line feed, or in front of a text that does not start with a newline.
@@ -98,7 +93,7 @@ fn wants_indent(w: Writer, c: u8) -> bool
         return false;
     }
     if w.pen != 0 {
-        return w.pen == 11;
+        return w.pen == BEHIND_LINE_FEED;
     }
     if newline_matcher(wide(c)) {
         return false;
@@ -107,7 +102,8 @@ fn wants_indent(w: Writer, c: u8) -> bool
 }
 
 fn indent_before(out: &mut [u8], indent: &[u8], w: Writer, c: u8) -> Writer
-    ensures { λ r. ⌜ output r (now (out .exit)) ≡ all-put (before (now (indent .entry)) c w) (output w (now (out .entry))) ⌝ }
+    ensures { λ r. ⌜ output r (now (out .exit))
+        ≡ all-put (before (now (indent .entry)) c w) (output w (now (out .entry))) ⌝ }
 {
     if wants_indent(w, c) {
         let n = bits::least(w.indent, indent.len());
@@ -126,7 +122,7 @@ pub fn begin(w: Writer) -> Writer
 }
 
 // The next byte of a text that `indent_aware_write` writes: the indent where it is due, and the byte.
-pub fn feed(out: &mut [u8], indent: &[u8], w: Writer, c: u8) -> Writer
+fn feed(out: &mut [u8], indent: &[u8], w: Writer, c: u8) -> Writer
     ensures { λ r. ⌜ output r (now (out .exit)) ≡ emitted (now (indent .entry)) c (output w (now (out .entry))) ⌝ }
 {
     let q = indent_before(out, indent, w, c);
@@ -138,7 +134,8 @@ pub fn feed(out: &mut [u8], indent: &[u8], w: Writer, c: u8) -> Writer
 // The next bytes, at once: an indent follows none of them but the last.
 fn feed_run(out: &mut [u8], indent: &[u8], w: Writer, v: &[u8]) -> Writer
     requires { ⌜ calm (w .«has_indent») (now v) ≡ true ⌝ }
-    ensures { λ r. ⌜ output r (now (out .exit)) ≡ all-emitted (now (indent .entry)) (now (v .entry)) (output w (now (out .entry))) ⌝ }
+    ensures { λ r. ⌜ output r (now (out .exit))
+        ≡ all-emitted (now (indent .entry)) (now (v .entry)) (output w (now (out .entry))) ⌝ }
 {
     let n = v.len();
     if n == 0 {
@@ -165,20 +162,22 @@ pub fn finish(w: Writer) -> Writer
     q
 }
 
-fn entry(k: usize) -> u8
-    requires { ⌜ k < 56 ⌝ }
-    ensures { λ r. ⌜ r ≡ getD table k 0 ⌝ }
+fn entry(k: usize) -> Entity
+    requires { ⌜ k < 7 ⌝ }
+    ensures { λ r. ⌜ row-read r ≡ getD entities k (0, []) ⌝ }
+    ensures { λ r. ⌜ (r .count ≤ 6) × (length (r .bytes) ≡ 6) ⌝ }
 {
     ENTITIES[k]
 }
 
-// The row of a character in the table; 7 where it has none.
+// The row of a character in the table; `ROWS` where it has none.
 fn row(c: u8) -> usize
     ensures { λ r. ⌜ r ≡ row-of c ⌝ }
 {
     let mut k = 0;
-    while k < 7 {
-        if entry(k * 8) == c {
+    while k < ROWS {
+        let e = entry(k);
+        if e.character == c {
             return k;
         }
         k += 1;
@@ -186,24 +185,33 @@ fn row(c: u8) -> usize
     k
 }
 
+// Whether a character has an entity. (The table is constant, so the compiler makes one test of the loop over it: a bit of a
+// word. A table with an entry for each byte would be no quicker.)
+pub fn is_escaped(c: u8) -> bool
+    ensures { λ r. ⌜ r ≡ is-escaped c ⌝ }
+{
+    row(c) < ROWS
+}
+
 fn feed_entity(out: &mut [u8], indent: &[u8], w: Writer, k: usize) -> Writer
     requires { ⌜ k < 7 ⌝ }
-    ensures { λ r. ⌜ output r (now (out .exit)) ≡ all-emitted (now (indent .entry)) (row-bytes k) (output w (now (out .entry))) ⌝ }
+    ensures { λ r. ⌜ output r (now (out .exit))
+        ≡ all-emitted (now (indent .entry)) (row-bytes k) (output w (now (out .entry))) ⌝ }
 {
-    let n = wide(entry(k * 8 + 1));
-    let t = ENTITIES;
-    let a = k * 8 + 2;
-    let e = a + n;
-    feed_run(out, indent, w, &t[a..e])
+    let e = entry(k);
+    let n = wide(e.count);
+    let v = e.bytes;
+    feed_run(out, indent, w, &v[..n])
 }
 
 // A byte, or its entity.
 pub fn feed_escaped(out: &mut [u8], indent: &[u8], w: Writer, c: u8, escape: bool) -> Writer
-    ensures { λ r. ⌜ output r (now (out .exit)) ≡ all-emitted (now (indent .entry)) (entity-or escape c) (output w (now (out .entry))) ⌝ }
+    ensures { λ r. ⌜ output r (now (out .exit))
+        ≡ all-emitted (now (indent .entry)) (entity-or escape c) (output w (now (out .entry))) ⌝ }
 {
     if escape {
         let k = row(c);
-        if k < 7 {
+        if k < ROWS {
             return feed_entity(out, indent, w, k);
         }
     }
@@ -220,13 +228,14 @@ fn is_quiet(c: u8, has_indent: bool, escape: bool) -> bool
     if !escape {
         return true;
     }
-    7 <= row(c)
+    !is_escaped(c)
 }
 
 // Where the quiet bytes from i on end.
 pub fn quiet(v: &[u8], i: usize, has_indent: bool, escape: bool) -> usize
     requires { ⌜ i ≤ length (now v) ⌝ }
-    ensures { λ r. ⌜ (r ≡ i + run (quiet-byte «has_indent» escape) (drop i (now (v .entry)))) × (r ≤ length (now (v .entry))) ⌝ }
+    ensures { λ r. ⌜ (r ≡ i + run (quiet-byte «has_indent» escape) (drop i (now (v .entry))))
+        × (r ≤ length (now (v .entry))) ⌝ }
 {
     let mut j = i;
     while j < v.len() {
@@ -240,7 +249,8 @@ pub fn quiet(v: &[u8], i: usize, has_indent: bool, escape: bool) -> usize
 
 // All of a lent text, by runs: what needs no indent and no entity is copied at once.
 pub fn feed_bytes(out: &mut [u8], indent: &[u8], w: Writer, v: &[u8], escape: bool) -> Writer
-    ensures { λ r. ⌜ output r (now (out .exit)) ≡ all-emitted (now (indent .entry)) (escaped escape (now (v .entry))) (output w (now (out .entry))) ⌝ }
+    ensures { λ r. ⌜ output r (now (out .exit))
+        ≡ all-emitted (now (indent .entry)) (escaped escape (now (v .entry))) (output w (now (out .entry))) ⌝ }
 {
     let mut q = w;
     let mut i = 0;
@@ -277,7 +287,8 @@ pub fn line_end(s: &[u8], p: usize, i: usize, n: usize, has_indent: bool) -> usi
 // The next bytes, of a packed string, at once: as `feed_run`.
 fn feed_packed_run(out: &mut [u8], indent: &[u8], w: Writer, s: &[u8], p: usize, n: usize) -> Writer
     requires { ⌜ (p + 8 * n < 2 ^ 64) × (calm (w .«has_indent») (bytes-at (bits (now s)) p n) ≡ true) ⌝ }
-    ensures { λ r. ⌜ output r (now (out .exit)) ≡ all-emitted (now (indent .entry)) (bytes-at (bits (now (s .entry))) p n) (output w (now (out .entry))) ⌝ }
+    ensures { λ r. ⌜ output r (now (out .exit))
+        ≡ all-emitted (now (indent .entry)) (bytes-at (bits (now (s .entry))) p n) (output w (now (out .entry))) ⌝ }
 {
     if n == 0 {
         return w;
@@ -291,7 +302,8 @@ fn feed_packed_run(out: &mut [u8], indent: &[u8], w: Writer, s: &[u8], p: usize,
 // All of a packed string as it is, line by line. (Strings lie within a bundle, so the sum fits.)
 pub fn feed_packed(out: &mut [u8], indent: &[u8], w: Writer, s: &[u8], p: usize, n: usize) -> Writer
     requires { ⌜ p + 8 * n < 2 ^ 64 ⌝ }
-    ensures { λ r. ⌜ output r (now (out .exit)) ≡ all-emitted (now (indent .entry)) (bytes-at (bits (now (s .entry))) p n) (output w (now (out .entry))) ⌝ }
+    ensures { λ r. ⌜ output r (now (out .exit))
+        ≡ all-emitted (now (indent .entry)) (bytes-at (bits (now (s .entry))) p n) (output w (now (out .entry))) ⌝ }
 {
     let mut q = w;
     let mut i = 0;
@@ -306,7 +318,8 @@ pub fn feed_packed(out: &mut [u8], indent: &[u8], w: Writer, s: &[u8], p: usize,
 // Where the quiet bytes of a packed string from i on end, when it is escaped.
 fn quiet_packed(s: &[u8], p: usize, i: usize, n: usize, has_indent: bool) -> usize
     requires { ⌜ (p + 8 * n < 2 ^ 64) × (i ≤ n) ⌝ }
-    ensures { λ r. ⌜ (r ≡ i + run (quiet-byte «has_indent» true) (drop i (bytes-at (bits (now (s .entry))) p n))) × (r ≤ n) ⌝ }
+    ensures { λ r. ⌜ (r ≡ i + run (quiet-byte «has_indent» true) (drop i (bytes-at (bits (now (s .entry))) p n)))
+        × (r ≤ n) ⌝ }
 {
     let mut j = i;
     while j < n {
@@ -329,7 +342,9 @@ pub fn feed_packed_escaped(
     n: usize,
 ) -> Writer
     requires { ⌜ p + 8 * n < 2 ^ 64 ⌝ }
-    ensures { λ r. ⌜ output r (now (out .exit)) ≡ all-emitted (now (indent .entry)) (escaped true (bytes-at (bits (now (s .entry))) p n)) (output w (now (out .entry))) ⌝ }
+    ensures { λ r. ⌜ output r (now (out .exit))
+        ≡ all-emitted (now (indent .entry)) (escaped true (bytes-at (bits (now (s .entry))) p n))
+        (output w (now (out .entry))) ⌝ }
 {
     let mut q = w;
     let mut i = 0;

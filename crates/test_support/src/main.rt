@@ -119,7 +119,7 @@ fn block_texts() {
 // A text that comes in pieces has one beginning and one end.
 fn pieces(vector: usize, c: u8, escape: bool) {
     let mut out = [46u8; 20];
-    let w = support::feed(&mut out, b"  ", support::begin(indenting(0, 2)), c);
+    let w = support::feed_escaped(&mut out, b"  ", support::begin(indenting(0, 2)), c, false);
     let q = support::feed_bytes(&mut out, b"  ", w, b"a\n", escape);
     let r = support::feed_escaped(&mut out, b"  ", q, c, escape);
     show(vector, r, &out);
@@ -228,6 +228,22 @@ fn finished_texts() {
     write_text(39, drawing(8, 8), 12, 0);
 }
 
+// Which characters have an entity: the seven, and three others.
+fn escaped(vector: usize) {
+    number(vector);
+    answer(support::is_escaped(b'<'));
+    answer(support::is_escaped(b'>'));
+    answer(support::is_escaped(b'"'));
+    answer(support::is_escaped(b'&'));
+    answer(support::is_escaped(b'\''));
+    answer(support::is_escaped(b'`'));
+    answer(support::is_escaped(b'='));
+    answer(support::is_escaped(b'\n'));
+    answer(support::is_escaped(b';'));
+    answer(support::is_escaped(b'\\'));
+    io::write_all(STDOUT_FILENO, b"\n");
+}
+
 fn main() {
     texts();
     indents();
@@ -244,4 +260,5 @@ fn main() {
     move_text(33, 6, 12);
     finished_texts();
     packed_strings();
+    escaped(52);
 }
