@@ -7,6 +7,7 @@ ghost use Rattle.rules.specs.Bundle.{param, call-of, maybe-body, element-of, bo
 ghost use Rattle.layout.specs.Walk.{place-by, past};
 use super::call;
 use super::part;
+use super::part::BROKEN;
 
 // A bit, and a body if it is 1.
 fn maybe_body(b: &[u8], p: usize, w: usize, d: usize) -> usize
@@ -21,13 +22,14 @@ fn maybe_body(b: &[u8], p: usize, w: usize, d: usize) -> usize
     if k == 1 {
         return body(b, q, w, d);
     }
-    0
+    BROKEN
 }
 
 // Kind (4) and what it holds; d depths are left for parameters and bodies in it.
 fn element(b: &[u8], p: usize, w: usize, d: usize) -> usize
     requires { ⌜ length (now b) ≤ 65536 ⌝ }
-    ensures { λ r. ⌜ place-by r ≡ past element-context (element-of (call-of (param d)) (body w d)) (bits (now (b .entry))) (place-by p) ⌝ }
+    ensures { λ r. ⌜ place-by r
+        ≡ past element-context (element-of (call-of (param d)) (body w d)) (bits (now (b .entry))) (place-by p) ⌝ }
 {
     let k = part::number(b, p, 4);
     let q = part::ahead(b, p, 4);
@@ -61,7 +63,7 @@ fn element(b: &[u8], p: usize, w: usize, d: usize) -> usize
     if k == 8 {
         return part::string(b, q);
     }
-    0
+    BROKEN
 }
 
 // Body: element count (12), each: line (w), column (w), element; d depths are left, its own included.
@@ -70,7 +72,7 @@ pub fn body(b: &[u8], p: usize, w: usize, d: usize) -> usize
     ensures { λ r. ⌜ place-by r ≡ past body-context (body w d) (bits (now (b .entry))) (place-by p) ⌝ }
 {
     if d == 0 {
-        return 0;
+        return BROKEN;
     }
     let n = part::number(b, p, 12);
     let mut cur = part::ahead(b, p, 12);

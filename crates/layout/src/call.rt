@@ -8,6 +8,8 @@ ghost use Rattle.layout.specs.Walk.{place-by, after, past};
 ghost use Rattle.layout.specs.Text.{text-at};
 ghost use Rattle.layout.specs.Names.{key-before, key-ok};
 use super::part;
+use super::part::BROKEN;
+use super::part::START;
 
 // Whether the key at the bit at may follow the one at prev, where i keys stand before it.
 fn may_follow(b: &[u8], i: usize, prev: usize, at: usize) -> bool
@@ -23,12 +25,12 @@ fn may_follow(b: &[u8], i: usize, prev: usize, at: usize) -> bool
 }
 
 // Parameter (2): 0 Name, 1 Path, 2 Literal, 3 Subexpression; d depths are left, its own included.
-pub fn param(b: &[u8], p: usize, d: usize) -> usize
+fn param(b: &[u8], p: usize, d: usize) -> usize
     requires { ⌜ length (now b) ≤ 65536 ⌝ }
     ensures { λ r. ⌜ place-by r ≡ after (param d) (bits (now (b .entry))) (place-by p) ⌝ }
 {
     if d == 0 {
-        return 0;
+        return BROKEN;
     }
     let k = part::number(b, p, 2);
     let q = part::ahead(b, p, 2);
@@ -44,7 +46,7 @@ pub fn param(b: &[u8], p: usize, d: usize) -> usize
     if k == 3 {
         return call(b, q, d - 1);
     }
-    0
+    BROKEN
 }
 
 // Count (4) and parameters.
@@ -72,16 +74,16 @@ fn pairs(b: &[u8], p: usize, d: usize) -> usize
     let mut prev: usize = 0;
     let mut i: usize = 0;
     while i < n {
-        if cur < 2 {
-            return 0;
+        if cur < START {
+            return BROKEN;
         }
         let at = cur / 2 - 1;
         let value = part::string(b, cur);
-        if value < 2 {
-            return 0;
+        if value < START {
+            return BROKEN;
         }
         if !may_follow(b, i, prev, at) {
-            return 0;
+            return BROKEN;
         }
         prev = at;
         cur = param(b, value, d);

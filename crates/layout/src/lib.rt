@@ -16,14 +16,26 @@ ghost use Rattle.layout.specs.Listed.{Listed, BundleListed};
 ghost use Rattle.layout.specs.declared.Verdict.the-variants.{Accepted};
 ghost use Rattle.layout.specs.Text.{text-at};
 ghost use Rattle.layout.specs.Names.{seen-at};
-ghost use Rattle.layout.specs.Verdict.{verdict};
+ghost use Rattle.layout.specs.Verdict.{verdict-number, bundle-answer};
 
 mod body;
 mod call;
 mod part;
 
-// The number of the first bit, without the mark.
-const START: usize = 2;
+use part::BROKEN;
+use part::START;
+
+const VERSION: u64 = 1;
+
+// How many bytes a bundle may have, how many templates, and how deep a template's body may go
+const BYTES: usize = 65536;
+
+const TEMPLATES: usize = 64;
+
+const DEPTH: usize = 16;
+
+// The bits of a line or a column
+const POSITION: usize = 16;
 
 // Whether the strings at the bits p and q are the same bytes.
 pub fn same_text(b: &[u8], p: usize, q: usize) -> bool
@@ -38,7 +50,8 @@ pub fn same_text(b: &[u8], p: usize, q: usize) -> bool
 // Whether the string at the bit at is one of those at the first n places.
 fn known(b: &[u8], places: &[u32], n: usize, at: usize) -> bool
     requires { ⌜ (n ≤ length (now places)) × ((j : ℕ) → j < n → getD (now places) j 0 ≤ 524288) × (at ≤ 524288) ⌝ }
-    ensures { λ r. ⌜ r ≡ among (text-at (bits (now (b .entry))) at) (seen-at (bits (now (b .entry))) (now (places .entry)) n) ⌝ }
+    ensures { λ r. ⌜ r
+        ≡ among (text-at (bits (now (b .entry))) at) (seen-at (bits (now (b .entry))) (now (places .entry)) n) ⌝ }
 {
     let mut j = n;
     while 0 < j {
@@ -53,40 +66,45 @@ fn known(b: &[u8], places: &[u32], n: usize, at: usize) -> bool
 // Template count 1 to 64 (8), each: name, body; names distinct. Fills in the place of each, and zeroes the rest.
 fn templates(b: &[u8], p: usize, w: usize, places: &mut [u32]) -> usize
     requires { ⌜ (length (now b) ≤ 65536) × (64 ≤ length (now places)) ⌝ }
-    ensures { λ r. ⌜ (place-by r ≡ past partial-context (templates w) (bits (now (b .entry))) (place-by p)) × (length (now (places .exit)) ≡ length (now (places .entry))) × ((q : ℕ) (m : Bool) → place-by r ≡ At q m → Listed w (bits (now (b .entry))) (ahead (bits (now (b .entry))) 8 (place-by p)) (number-at (bits (now (b .entry))) 8 (place-by p)) (now (places .exit))) ⌝ }
+    ensures { λ r. ⌜ (place-by r ≡ past partial-context (templates w) (bits (now (b .entry))) (place-by p))
+        × (length (now (places .exit)) ≡ length (now (places .entry)))
+        × ((q : ℕ) (m : Bool)
+        → place-by r ≡ At q m
+        → Listed w (bits (now (b .entry))) (ahead (bits (now (b .entry))) 8 (place-by p))
+        (number-at (bits (now (b .entry))) 8 (place-by p)) (now (places .exit))) ⌝ }
 {
     let n = part::number(b, p, 8);
     if n < 1 {
-        return 0;
+        return BROKEN;
     }
-    if 64 < n {
-        return 0;
+    if TEMPLATES < n {
+        return BROKEN;
     }
     clear::clear_u32(places);
     let mut cur = part::ahead(b, p, 8);
     let mut i: usize = 0;
     while i < n {
-        if cur < 2 {
-            return 0;
+        if cur < START {
+            return BROKEN;
         }
         let at = cur / 2 - 1;
         let template = part::string(b, cur);
-        if template < 2 {
-            return 0;
+        if template < START {
+            return BROKEN;
         }
         if known(b, places, i, at) {
-            return 0;
+            return BROKEN;
         }
         places[i] = at as u32;
-        cur = body::body(b, template, w, 16);
+        cur = body::body(b, template, w, DEPTH);
         i += 1;
     }
     cur
 }
 
+// What the checks 2, 3 and 4 answer; `verdict-number` in specs/Verdict is the paper's number of each.
 pub enum Verdict {
     Accepted,
-    // 2, 3 and 4
     TooLong,
     BadLayout,
     PartialContext,
@@ -95,16 +113,18 @@ pub enum Verdict {
 // Checks 2, 3 and 4, and the places of the templates where all are passed.
 fn checked(b: &[u8], places: &mut [u32]) -> Verdict
     requires { ⌜ 64 ≤ length (now places) ⌝ }
-    ensures { λ r. ⌜ (r ≡ verdict (now (b .entry))) × (length (now (places .exit)) ≡ length (now (places .entry))) × (r ≡ Accepted → BundleListed (bits (now (b .entry))) (now (places .exit))) ⌝ }
+    ensures { λ r. ⌜ (verdict-number r ≡ bundle-answer (now (b .entry)))
+        × (length (now (places .exit)) ≡ length (now (places .entry)))
+        × (r ≡ Accepted → BundleListed (bits (now (b .entry))) (now (places .exit))) ⌝ }
 {
-    if 65536 < b.len() {
+    if BYTES < b.len() {
         return Verdict::TooLong;
     }
-    if part::number(b, START, 8) != 1 {
+    if !reader::is_version(b, VERSION) {
         return Verdict::BadLayout;
     }
-    let last = templates(b, part::ahead(b, START, 8), 16, places);
-    if last < 2 {
+    let last = templates(b, part::ahead(b, START, 8), POSITION, places);
+    if last < START {
         return Verdict::BadLayout;
     }
     let at = last / 2 - 1;
@@ -127,16 +147,19 @@ fn checked(b: &[u8], places: &mut [u32]) -> Verdict
 
 // Checks 2, 3 and 4 of any bytes.
 pub fn check_bundle(b: &[u8]) -> Verdict
-    ensures { λ r. ⌜ r ≡ verdict (now (b .entry)) ⌝ }
+    ensures { λ r. ⌜ verdict-number r ≡ bundle-answer (now (b .entry)) ⌝ }
 {
-    let mut places: [u32; 64] = [0; 64];
+    let mut places: [u32; TEMPLATES] = [0; TEMPLATES];
     checked(b, &mut places)
 }
 
 // The same, with the places of the templates in the table, and zero behind them; all zero where a check refuses.
 pub fn check_indexed(b: &[u8], places: &mut [u32]) -> Verdict
     requires { ⌜ 64 ≤ length (now places) ⌝ }
-    ensures { λ r. ⌜ (r ≡ verdict (now (b .entry))) × (length (now (places .exit)) ≡ length (now (places .entry))) × (r ≡ Accepted → BundleListed (bits (now (b .entry))) (now (places .exit))) × ((r ≡ Accepted → ⊥) → now (places .exit) ≡ replicate (length (now (places .entry))) 0) ⌝ }
+    ensures { λ r. ⌜ (verdict-number r ≡ bundle-answer (now (b .entry)))
+        × (length (now (places .exit)) ≡ length (now (places .entry)))
+        × (r ≡ Accepted → BundleListed (bits (now (b .entry))) (now (places .exit)))
+        × ((r ≡ Accepted → ⊥) → now (places .exit) ≡ replicate (length (now (places .entry))) 0) ⌝ }
 {
     let r = checked(b, places);
     match r {

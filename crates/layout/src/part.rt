@@ -11,12 +11,20 @@ ghost use Rattle.utf8.specs.Machine.{wanted, after as fed};
 ghost use Rattle.layout.specs.Walk.{place-by, after, number-at, ahead, marked};
 ghost use Rattle.layout.specs.Ascii.{ascii};
 
+// A place that is broken, and the place of the first bit, without the mark. What is below that is broken, too.
+pub const BROKEN: usize = 0;
+
+pub const START: usize = 2;
+
+// Of a number of 64 bits in two's complement.
+const SIGN: usize = 1 << 63;
+
 // The w bits at p as a number, those past the end as 0.
 pub fn number(b: &[u8], p: usize, w: usize) -> usize
     requires { ⌜ w ≤ 64 ⌝ }
     ensures { λ r. ⌜ r ≡ number-at (bits (now (b .entry))) w (place-by p) ⌝ }
 {
-    if p < 2 {
+    if p < START {
         return 0;
     }
     bits::field(b, p / 2 - 1, w) as usize
@@ -27,15 +35,15 @@ pub fn ahead(b: &[u8], p: usize, n: usize) -> usize
     requires { ⌜ length (now b) ≤ 65536 ⌝ }
     ensures { λ r. ⌜ place-by r ≡ ahead (bits (now (b .entry))) n (place-by p) ⌝ }
 {
-    if p < 2 {
-        return 0;
+    if p < START {
+        return BROKEN;
     }
     let end = 8 * b.len();
     if end < n {
-        return 0;
+        return BROKEN;
     }
     if end - n < p / 2 - 1 {
-        return 0;
+        return BROKEN;
     }
     p + 2 * n
 }
@@ -44,8 +52,8 @@ pub fn ahead(b: &[u8], p: usize, n: usize) -> usize
 pub fn marked(p: usize) -> usize
     ensures { λ r. ⌜ place-by r ≡ marked (place-by p) ⌝ }
 {
-    if p < 2 {
-        return 0;
+    if p < START {
+        return BROKEN;
     }
     p - p % 2 + 1
 }
@@ -136,13 +144,13 @@ pub fn string(b: &[u8], p: usize) -> usize
 {
     let n = number(b, p, 16);
     let q = ahead(b, p, 16);
-    if q < 2 {
-        return 0;
+    if q < START {
+        return BROKEN;
     }
     if utf8_at(b, q / 2 - 1, n) {
         return ahead(b, q, 8 * n);
     }
-    0
+    BROKEN
 }
 
 // Segment (2): 0 Named string, 1 root, 2 up.
@@ -158,7 +166,7 @@ fn segment(b: &[u8], p: usize) -> usize
     if k <= 2 {
         return q;
     }
-    0
+    BROKEN
 }
 
 // Segment count (8) and segments.
@@ -198,7 +206,7 @@ pub fn path(b: &[u8], p: usize) -> usize
     if k == 1 {
         return level(b, q);
     }
-    0
+    BROKEN
 }
 
 // A negative number: 64 bits, two's complement, the top bit set.
@@ -206,10 +214,10 @@ fn negative(b: &[u8], p: usize) -> usize
     requires { ⌜ length (now b) ≤ 65536 ⌝ }
     ensures { λ r. ⌜ place-by r ≡ after below-zero (bits (now (b .entry))) (place-by p) ⌝ }
 {
-    if 9223372036854775808 <= number(b, p, 64) {
+    if SIGN <= number(b, p, 64) {
         return ahead(b, p, 64);
     }
-    0
+    BROKEN
 }
 
 // Literal (3): 0 null, 1 false, 2 true, 3 unsigned (64), 4 negative, 5 string.
@@ -231,7 +239,7 @@ pub fn literal(b: &[u8], p: usize) -> usize
     if k == 5 {
         return string(b, q);
     }
-    0
+    BROKEN
 }
 
 // Block names (2): 0 none, 1 one string, 2 two.
@@ -250,7 +258,7 @@ pub fn block_names(b: &[u8], p: usize) -> usize
     if k == 2 {
         return string(b, string(b, q));
     }
-    0
+    BROKEN
 }
 
 // The indent bit, the indent if it is 1, and the `indent_before_write` bit: the end of decorators and partials.
@@ -266,5 +274,5 @@ pub fn tail(b: &[u8], p: usize) -> usize
     if k == 1 {
         return flag(b, string(b, q));
     }
-    0
+    BROKEN
 }

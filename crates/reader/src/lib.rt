@@ -7,33 +7,18 @@ ghost use lib.Dec.{eqb};
 ghost use Rattle.rules.specs.Bits.{bits};
 ghost use Rattle.rules.specs.Layout.{field};
 
+const BYTE: usize = 8;
+
 pub struct BitReader<'a> {
     pub bundle: &'a [u8],
     pub bit: usize,
 }
 
-// At the bundle's first bit.
-pub fn new<'a>(bundle: &'a [u8]) -> BitReader<'a>
-    ensures { λ r. ⌜ (r .bundle ≡ bundle .entry) × (r .bit ≡ 0) ⌝ }
+// At a bit of the bundle. It may lie past the end, where every bit is 0.
+pub fn at<'a>(bundle: &'a [u8], bit: usize) -> BitReader<'a>
+    ensures { λ r. ⌜ (r .bundle ≡ bundle .entry) × (r .bit ≡ bit) ⌝ }
 {
-    BitReader { bundle, bit: 0 }
-}
-
-// The current bit.
-pub fn bit<'a>(r: BitReader<'a>) -> usize
-    ensures { λ n. ⌜ n ≡ r .entry .bit ⌝ }
-{
-    r.bit
-}
-
-// The same bundle at another bit. It may lie past the end, where every bit is 0.
-pub fn at<'a>(r: BitReader<'a>, bit: usize) -> BitReader<'a>
-    ensures { λ q. ⌜ (q .bundle ≡ r .entry .bundle) × (q .bit ≡ bit) ⌝ }
-{
-    BitReader {
-        bundle: r.bundle,
-        bit,
-    }
+    BitReader { bundle, bit }
 }
 
 // The w bits from the current one on, as a number.
@@ -44,11 +29,19 @@ pub fn field<'a>(r: BitReader<'a>, w: usize) -> u64
     bits::field(r.bundle, r.bit, w)
 }
 
+// The w bits of the bundle from a bit on, as a number.
+fn read(bundle: &[u8], bit: usize, w: usize) -> u64
+    requires { ⌜ w ≤ 64 ⌝ }
+    ensures { λ r. ⌜ r ≡ field (bits (now (bundle .entry))) w bit ⌝ }
+{
+    field(at(bundle, bit), w)
+}
+
 // The bundle's version, its first byte.
 pub fn version(bundle: &[u8]) -> u64
     ensures { λ r. ⌜ r ≡ field (bits (now (bundle .entry))) 8 0 ⌝ }
 {
-    field(new(bundle), 8)
+    read(bundle, 0, BYTE)
 }
 
 // Whether the bundle's version is n.
@@ -56,4 +49,11 @@ pub fn is_version(bundle: &[u8], n: u64) -> bool
     ensures { λ r. ⌜ r ≡ eqb (field (bits (now (bundle .entry))) 8 0) n ⌝ }
 {
     version(bundle) == n
+}
+
+// How many templates the bundle has, its second byte.
+pub fn template_count(bundle: &[u8]) -> u64
+    ensures { λ r. ⌜ r ≡ field (bits (now (bundle .entry))) 8 8 ⌝ }
+{
+    read(bundle, BYTE, BYTE)
 }

@@ -1,10 +1,15 @@
 // Replays every bundle of the fixed list, and damaged ones: what check_bundle says of each beside the oracle's number, and how many
 // elements of each kind the accepted ones of up to 4,096 bytes have. `make-data` makes the files and states their form.
+use error::BUNDLE_LAYOUT;
+use error::BUNDLE_TOO_LARGE;
+use error::PARTIAL_PARAMETER;
 use layout::Verdict;
 use libc::STDOUT_FILENO;
+ghost use mathlib.Core.Path.{_≡_};
 ghost use Prim.Native.Nat.{_+_, _≤_, _<_};
 ghost use Rattle.io.specs.Counts.{Counts};
 ghost use lib.ListN.{length};
+ghost use Rattle.layout.specs.Verdict.{verdict-number};
 
 // No place of a file is behind this one.
 const END: usize = 262144;
@@ -158,13 +163,13 @@ fn unpack(f: &[u8], at: usize, out: &mut [u8], to: usize) -> Unpacked
 
 // The paper's numbers.
 fn number_of(v: Verdict) -> usize
-    ensures { λ r. ⌜ r < 5 ⌝ }
+    ensures { λ r. ⌜ (r ≡ verdict-number v) × (r < 5) ⌝ }
 {
     match v {
         Verdict::Accepted => 0,
-        Verdict::TooLong => 2,
-        Verdict::BadLayout => 3,
-        Verdict::PartialContext => 4,
+        Verdict::TooLong => BUNDLE_TOO_LARGE as usize,
+        Verdict::BadLayout => BUNDLE_LAYOUT as usize,
+        Verdict::PartialContext => PARTIAL_PARAMETER as usize,
     }
 }
 

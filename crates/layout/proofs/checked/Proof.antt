@@ -17,11 +17,11 @@ use Rattle.layout.proofs.checked.Tie as tie
 returns : tie.Need-returns
 returns c = (too-long (c .before .before .before .args .b .now) (c .if1 .taken), refl, never-accepted TooLong (omega arith))
 
-number-requires : tie.Need-number-requires
-number-requires c κs = search needs
+is-version-requires : tie.Need-is-version-requires
+is-version-requires c κs = search needs
 
 returns-2 : tie.Need-returns-2
-returns-2 c = let z = c .before .before .before .before .before in (verdict-broken (z .args .b .now) (omega arith) (other-version (bits (z .args .b .now)) _ (c .before .number .ensures) (c .if2 .taken)), refl, never-accepted BadLayout (omega arith))
+returns-2 c = let z = c .before .before .before .before .before in (verdict-broken (z .args .b .now) (omega arith) (other-version (bits (z .args .b .now)) _ (c .before .is-version .ensures) (c .if2 .taken)), refl, never-accepted BadLayout (omega arith))
 
 ahead-requires : tie.Need-ahead-requires
 ahead-requires c κs = search needs
@@ -36,7 +36,7 @@ returns-3 : tie.Need-returns-3
 returns-3 c =
     let z = c .before .before .before .before .before .before .before .before .before .before .before .args in
     let b = bits (z .b .now) in
-    (verdict-broken (z .b .now) (omega (arith, c .before .before .before .before .before .before .before .before .if1 .left)) (this-version b _ (c .before .before .before .before .before .before .before .number .ensures) (c .before .before .before .before .before .before .if2 .left) _ _ (c .before .before .before .before .before .ahead .ensures) (c .before .before .before .templates .ensures .0) ∙ place-none _ (c .if3 .taken)), c .before .before .before .templates .ensures .1, never-accepted BadLayout (omega arith))
+    (verdict-broken (z .b .now) (omega (arith, c .before .before .before .before .before .before .before .before .if1 .left)) (this-version b _ (c .before .before .before .before .before .before .before .is-version .ensures) (c .before .before .before .before .before .before .if2 .left) _ _ (c .before .before .before .before .before .ahead .ensures) (c .before .before .before .templates .ensures .0) ∙ place-none _ (c .if3 .taken)), c .before .before .before .templates .ensures .1, never-accepted BadLayout (omega arith))
 
 sub-at : tie.Need-sub-at
 sub-at c = search needs
@@ -52,7 +52,7 @@ returns-4 c =
     let z = c .before .before .before .before .before .before .before .before .before .before .before .before .args in
     let b = bits (z .b .now) in
     let small : length (z .b .now) ≤ 65536 = omega (arith, c .before .before .before .before .before .before .before .before .before .if1 .left) in
-    let e = this-version b _ (c .before .before .before .before .before .before .before .before .number .ensures) (c .before .before .before .before .before .before .before .if2 .left) _ _ (c .before .before .before .before .before .before .ahead .ensures) (c .before .before .before .before .templates .ensures .0) ∙ place-some (c .before .before .before .before .templates .result) (omega (arith, c .before .if3 .left)) in
+    let e = this-version b _ (c .before .before .before .before .before .before .before .before .is-version .ensures) (c .before .before .before .before .before .before .before .if2 .left) _ _ (c .before .before .before .before .before .before .ahead .ensures) (c .before .before .before .before .templates .ensures .0) ∙ place-some (c .before .before .before .before .templates .result) (omega (arith, c .before .if3 .left)) in
     (verdict-short (z .b .now) small _ _ e (c .if4 .taken), c .before .before .before .before .templates .ensures .1, never-accepted BadLayout (omega arith))
 
 same-length-3 : tie.Need-same-length-3
@@ -63,7 +63,7 @@ returns-5 c =
     let z = c .before .before .before .before .before .before .before .before .before .before .before .before .before .args in
     let b = bits (z .b .now) in
     let small : length (z .b .now) ≤ 65536 = omega (arith, c .before .before .before .before .before .before .before .before .before .before .if1 .left) in
-    let e = this-version b _ (c .before .before .before .before .before .before .before .before .before .number .ensures) (c .before .before .before .before .before .before .before .before .if2 .left) _ _ (c .before .before .before .before .before .before .before .ahead .ensures) (c .before .before .before .before .before .templates .ensures .0) ∙ place-some (c .before .before .before .before .before .templates .result) (omega (arith, c .before .before .if3 .left)) in
+    let e = this-version b _ (c .before .before .before .before .before .before .before .before .before .is-version .ensures) (c .before .before .before .before .before .before .before .before .if2 .left) _ _ (c .before .before .before .before .before .before .before .ahead .ensures) (c .before .before .before .before .before .templates .ensures .0) ∙ place-some (c .before .before .before .before .before .templates .result) (omega (arith, c .before .before .if3 .left)) in
     (verdict-more (z .b .now) small _ _ e (c .before .if4 .left) (c .if5 .taken), c .before .before .before .before .before .templates .ensures .1, never-accepted BadLayout (omega arith))
 
 field-requires : tie.Need-field-requires
@@ -77,7 +77,7 @@ returns-6 c =
     let z = c .before .before .before .before .before .before .before .before .before .before .before .before .before .before .before .args in
     let b = bits (z .b .now) in
     let small : length (z .b .now) ≤ 65536 = omega (arith, c .before .before .before .before .before .before .before .before .before .before .before .before .if1 .left) in
-    let e = this-version b _ (c .before .before .before .before .before .before .before .before .before .before .before .number .ensures) (c .before .before .before .before .before .before .before .before .before .before .if2 .left) _ _ (c .before .before .before .before .before .before .before .before .before .ahead .ensures) (c .before .before .before .before .before .before .before .templates .ensures .0) ∙ place-some (c .before .before .before .before .before .before .before .templates .result) (omega (arith, c .before .before .before .before .if3 .left)) in
+    let e = this-version b _ (c .before .before .before .before .before .before .before .before .before .before .before .is-version .ensures) (c .before .before .before .before .before .before .before .before .before .before .if2 .left) _ _ (c .before .before .before .before .before .before .before .before .before .ahead .ensures) (c .before .before .before .before .before .before .before .templates .ensures .0) ∙ place-some (c .before .before .before .before .before .before .before .templates .result) (omega (arith, c .before .before .before .before .if3 .left)) in
     (verdict-padding (z .b .now) small _ _ e (omega arith) (omega arith) _ (c .before .field .ensures) (c .if6 .taken), c .before .before .before .before .before .before .before .templates .ensures .1, never-accepted BadLayout (omega arith))
 
 same-length-5 : tie.Need-same-length-5
@@ -88,7 +88,7 @@ returns-7 c =
     let z = c .before .before .before .before .before .before .before .before .before .before .before .before .before .before .before .before .args in
     let b = bits (z .b .now) in
     let small : length (z .b .now) ≤ 65536 = omega (arith, c .before .before .before .before .before .before .before .before .before .before .before .before .before .if1 .left) in
-    let e = this-version b _ (c .before .before .before .before .before .before .before .before .before .before .before .before .number .ensures) (c .before .before .before .before .before .before .before .before .before .before .before .if2 .left) _ _ (c .before .before .before .before .before .before .before .before .before .before .ahead .ensures) (c .before .before .before .before .before .before .before .before .templates .ensures .0) ∙ place-some (c .before .before .before .before .before .before .before .before .templates .result) (omega (arith, c .before .before .before .before .before .if3 .left)) in
+    let e = this-version b _ (c .before .before .before .before .before .before .before .before .before .before .before .before .is-version .ensures) (c .before .before .before .before .before .before .before .before .before .before .before .if2 .left) _ _ (c .before .before .before .before .before .before .before .before .before .before .ahead .ensures) (c .before .before .before .before .before .before .before .before .templates .ensures .0) ∙ place-some (c .before .before .before .before .before .before .before .before .templates .result) (omega (arith, c .before .before .before .before .before .if3 .left)) in
     (verdict-context (z .b .now) small _ _ e (omega arith) (omega arith) _ (c .before .before .field .ensures) (c .before .if6 .left) (eq-eqb _ 1 (c .if7 .taken)), c .before .before .before .before .before .before .before .before .templates .ensures .1, never-accepted PartialContext (omega arith))
 
 same-length-6 : tie.Need-same-length-6
@@ -99,7 +99,7 @@ returns-8 c =
     let z = c .before .before .before .before .before .before .before .before .before .before .before .before .before .before .before .before .args in
     let b = bits (z .b .now) in
     let small : length (z .b .now) ≤ 65536 = omega (arith, c .before .before .before .before .before .before .before .before .before .before .before .before .before .if1 .left) in
-    let e = this-version b _ (c .before .before .before .before .before .before .before .before .before .before .before .before .number .ensures) (c .before .before .before .before .before .before .before .before .before .before .before .if2 .left) _ _ (c .before .before .before .before .before .before .before .before .before .before .ahead .ensures) (c .before .before .before .before .before .before .before .before .templates .ensures .0) ∙ place-some (c .before .before .before .before .before .before .before .before .templates .result) (omega (arith, c .before .before .before .before .before .if3 .left)) in (
+    let e = this-version b _ (c .before .before .before .before .before .before .before .before .before .before .before .before .is-version .ensures) (c .before .before .before .before .before .before .before .before .before .before .before .if2 .left) _ _ (c .before .before .before .before .before .before .before .before .before .before .ahead .ensures) (c .before .before .before .before .before .before .before .before .templates .ensures .0) ∙ place-some (c .before .before .before .before .before .before .before .before .templates .result) (omega (arith, c .before .before .before .before .before .if3 .left)) in (
       verdict-accepted (z .b .now) small _ _ e (omega arith) (omega arith) _ (c .before .before .field .ensures) (c .before .if6 .left) (ne-eqb _ 1 (c .if7 .left)),
       c .before .before .before .before .before .before .before .before .templates .ensures .1,
       λ a. bundle-listed b _ (c .before .before .before .before .before .before .before .before .before .before .ahead .ensures) _ (c .before .before .before .before .before .before .before .before .templates .ensures .2 _ _ (place-some (c .before .before .before .before .before .before .before .before .templates .result) (omega (arith, c .before .before .before .before .before .if3 .left)))),
@@ -110,7 +110,7 @@ checked-spec =
     tie.close
     (tie.spec
     returns
-    number-requires
+    is-version-requires
     returns-2
     ahead-requires
     templates-requires

@@ -1,6 +1,5 @@
 -- `replay_bundles::count_kinds` meets its contract.
-use mathlib.Core.Path.{sym, _∙_}
--- `replay_bundles::count_kinds` meets its contract.
+use Rattle.layout.specs.Verdict.{accepts}
 use Prim.Native.Nat.{_-_}
 use borrow.Author.Needs.{needs}
 use Rattle.replay_bundles.proofs.count_kinds.Statement.{statement}
@@ -28,7 +27,7 @@ loop-holds : tie.Need-loop-holds Inv-loop μ-loop
 loop-holds c = search needs
 
 count-requires : tie.Need-count-requires Inv-loop μ-loop
-count-requires c κs = sym (c .before .before .before .before .check-bundle .ensures) ∙ c .before .before .enum-told .given .1
+count-requires c κs = accepts _ _ (c .before .before .before .before .check-bundle .ensures) (c .before .before .enum-told .given .1)
 
 mul-before : tie.Need-mul-before Inv-loop μ-loop
 mul-before c = search needs
