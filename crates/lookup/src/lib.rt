@@ -43,6 +43,57 @@ use text::Step;
 use text::Text;
 use value::Value;
 
+// How many bytes a plan may have
+const BYTES: usize = 65536;
+
+// A string of the bundle starts with its count.
+const COUNT: usize = 16;
+
+// A literal starts with its kind, and where that says a string, its count follows.
+const LITERAL: usize = 3;
+
+const LITERAL_AND_COUNT: usize = LITERAL + COUNT;
+
+const COUNTS: u64 = 1 << COUNT;
+
+const STRING: u64 = 5 * COUNTS;
+
+// A value's number: the kind in its last bits, the place in front of them.
+const KINDS: u32 = 16;
+
+const CONTEXT: u32 = 5;
+
+const PLACE: u32 = 6;
+
+const CONTEXT_TO_PLACE: u32 = PLACE - CONTEXT;
+
+const MERGED: u32 = 14;
+
+// The same for a number of 64 bits
+const WIDE_KINDS: u64 = KINDS as u64;
+
+const WIDE_CONTEXT: u64 = CONTEXT as u64;
+
+const WIDE_PLACE: u64 = PLACE as u64;
+
+// What a search by numbers answers: that it does not tell, that there is nothing, or the number of a value with this added
+const NOT_TOLD: u64 = 0;
+
+const NOTHING: u64 = 1;
+
+const VALUE: u64 = 2;
+
+// A member's place is told by one more than it; what is below says `NOT_TOLD` or `NOTHING`.
+const MEMBER: usize = 2;
+
+// For a value that is no string
+const NO_TEXT: Text = Text::Packed(0, 0);
+
+// Added to the number of a value that a merged object's own pair has
+const PAIR: u64 = 1 << 32;
+
+const PAIR_TO_VALUE: u64 = PAIR - VALUE;
+
 pub enum Found {
     Is(Value),
     Nothing,
@@ -78,13 +129,6 @@ fn index_of(s: &[u8], b: &[u8], t: Text) -> Parsed
     }
 }
 
-pub fn is_same(s: &[u8], b: &[u8], t: Text, u: Text) -> bool
-    requires { ⌜ (length (now s) ≤ 65536) × Stands (now s) (now b) t × Stands (now s) (now b) u ⌝ }
-    ensures { λ r. ⌜ r ≡ same (rest (now (s .entry)) (now (b .entry)) t) (rest (now (s .entry)) (now (b .entry)) u) ⌝ }
-{
-    text::same(s, b, t, u)
-}
-
 // The number whose digits a text is.
 fn canonical(s: &[u8], b: &[u8], t: Text) -> Parsed
     requires { ⌜ (length (now s) ≤ 65536) × Stands (now s) (now b) t ⌝ }
@@ -93,7 +137,7 @@ fn canonical(s: &[u8], b: &[u8], t: Text) -> Parsed
     let Parsed::Is(n) = index_of(s, b, t) else {
         return Parsed::Refused;
     };
-    if is_same(s, b, Text::Digits(n, 0), t) {
+    if text::same(s, b, Text::Digits(n, 0), t) {
         return Parsed::Is(n);
     }
     Parsed::Refused
@@ -102,7 +146,9 @@ fn canonical(s: &[u8], b: &[u8], t: Text) -> Parsed
 // The string at the bit place p of the bundle.
 pub fn text_of(s: &[u8], b: &[u8], p: usize) -> Text
     requires { ⌜ (length (now b) ≤ 65536) × Holds string (bits (now b)) p ⌝ }
-    ensures { λ r. ⌜ (rest (now (s .entry)) (now (b .entry)) r ≡ text-at (bits (now (b .entry))) p) × Stands (now (s .entry)) (now (b .entry)) r × Spelled (now (s .entry)) (now (b .entry)) r ⌝ }
+    ensures { λ r. ⌜ (rest (now (s .entry)) (now (b .entry)) r ≡ text-at (bits (now (b .entry))) p)
+        × Stands (now (s .entry)) (now (b .entry)) r
+        × Spelled (now (s .entry)) (now (b .entry)) r ⌝ }
 {
     let t = parts::text_at(b, p);
     Text::Packed(t.first, t.count)
@@ -113,10 +159,11 @@ pub fn text_of(s: &[u8], b: &[u8], p: usize) -> Text
 // The place c where its name is t, or else the best one so far.
 fn latest(s: &[u8], tab: &[u64], b: &[u8], t: Text, c: usize, best: places::Found) -> places::Found
     requires { ⌜ Accepted (now s) (now tab) × (c < places (now s)) × Stands (now s) (now b) t ⌝ }
-    ensures { λ r. ⌜ found r ≡ pick (same (name-at (now (s .entry)) c) (rest (now (s .entry)) (now (b .entry)) t)) (some c) (found best) ⌝ }
+    ensures { λ r. ⌜ found r
+        ≡ pick (same (name-at (now (s .entry)) c) (rest (now (s .entry)) (now (b .entry)) t)) (some c) (found best) ⌝ }
 {
     let n = places::name(s, tab, c);
-    if is_same(s, b, Text::Said(n + 1, 0), t) {
+    if text::same(s, b, Text::Said(n + 1, 0), t) {
         return places::Found::At(c);
     }
     best
@@ -143,7 +190,7 @@ fn said_member(s: &[u8], tab: &[u64], b: &[u8], i: usize, at: usize, k: usize) -
     requires { ⌜ Accepted (now s) (now tab) × (i < places (now s)) × Inside (now s) at k ⌝ }
     ensures { λ r. ⌜ found r ≡ member (now (s .entry)) i (remaining (now (s .entry)) at k) ⌝ }
 {
-    if (k == 0) & ((0 < at) & (at <= 65536)) {
+    if (k == 0) & ((0 < at) & (at <= BYTES)) {
         let q = at - 1;
         return places::member(s, tab, i, b, Name::Quoted(q));
     }
@@ -165,7 +212,8 @@ fn object_member(s: &[u8], tab: &[u64], b: &[u8], i: usize, t: Text) -> places::
 // The item of the list at i that stands under t where the list is taken as an object.
 fn list_member(s: &[u8], tab: &[u64], b: &[u8], i: usize, t: Text) -> places::Found
     requires { ⌜ Accepted (now s) (now tab) × (i < places (now s)) × Stands (now s) (now b) t ⌝ }
-    ensures { λ r. ⌜ found r ≡ maybe (canonical (rest (now (s .entry)) (now (b .entry)) t)) none (getElem? (children (now (s .entry)) i)) ⌝ }
+    ensures { λ r. ⌜ found r
+        ≡ maybe (canonical (rest (now (s .entry)) (now (b .entry)) t)) none (getElem? (children (now (s .entry)) i)) ⌝ }
 {
     let Parsed::Is(n) = canonical(s, b, t) else {
         return places::Found::Nothing;
@@ -207,14 +255,15 @@ fn place_text(s: &[u8], tab: &[u64], b: &[u8], i: usize) -> Text
 
 fn literal_text(s: &[u8], b: &[u8], p: usize) -> Text
     requires { ⌜ (length (now b) ≤ 65536) × Holds literal (bits (now b)) p ⌝ }
-    ensures { λ r. ⌜ Spells (now (s .entry)) (now (b .entry)) (literal-json (literal-at (bits (now (b .entry))) p)) r ⌝ }
+    ensures { λ r. ⌜ Spells (now (s .entry)) (now (b .entry)) (literal-json (literal-at (bits (now (b .entry))) p))
+        r ⌝ }
 {
     let l = parts::literal_at(b, p);
     match l {
-        Literal::Null => Text::Packed(0, 0),
-        Literal::Boolean(_) => Text::Packed(0, 0),
-        Literal::Unsigned(_) => Text::Packed(0, 0),
-        Literal::Negative(_) => Text::Packed(0, 0),
+        Literal::Null => NO_TEXT,
+        Literal::Boolean(_) => NO_TEXT,
+        Literal::Unsigned(_) => NO_TEXT,
+        Literal::Negative(_) => NO_TEXT,
         Literal::String(q) => text_of(s, b, q),
     }
 }
@@ -224,28 +273,33 @@ pub fn string_text(s: &[u8], tab: &[u64], b: &[u8], v: Value) -> Text
     ensures { λ r. ⌜ Spells (now (s .entry)) (now (b .entry)) (plain-json (now (s .entry)) (now (b .entry)) v) r ⌝ }
 {
     match v {
-        Value::Missing => Text::Packed(0, 0),
-        Value::Null => Text::Packed(0, 0),
-        Value::False => Text::Packed(0, 0),
-        Value::True => Text::Packed(0, 0),
-        Value::Empty => Text::Packed(0, 0),
+        Value::Missing => NO_TEXT,
+        Value::Null => NO_TEXT,
+        Value::False => NO_TEXT,
+        Value::True => NO_TEXT,
+        Value::Empty => NO_TEXT,
         Value::Context(i) => place_text(s, tab, b, i),
         Value::Place(i) => place_text(s, tab, b, i),
         Value::Literal(p) => literal_text(s, b, p),
-        Value::Index(_) => Text::Packed(0, 0),
+        Value::Index(_) => NO_TEXT,
         Value::IndexText(n) => Text::Digits(n as u64, 0),
         Value::Name(o) => Text::Said(o + 1, 0),
         Value::Text(p) => text_of(s, b, p),
         Value::SaidChar(o, n) => Text::Part(o, 0, n),
         Value::PackedChar(p, n) => Text::Packed(p, n),
-        Value::Merged(_, _) => Text::Packed(0, 0),
+        Value::Merged(_, _) => NO_TEXT,
     }
 }
 
 // The character of a string that stands under t where the string is taken as an object.
 fn string_member(s: &[u8], b: &[u8], x: Text, t: Text) -> Found
-    requires { ⌜ (length (now s) ≤ 65536) × (length (now b) ≤ 65536) × Spelled (now s) (now b) x × Stands (now s) (now b) t ⌝ }
-    ensures { λ r. ⌜ PlainFinds (now (s .entry)) (now (b .entry)) (get-member (base-map (jstr (rest (now (s .entry)) (now (b .entry)) x))) (rest (now (s .entry)) (now (b .entry)) t)) r ⌝ }
+    requires { ⌜ (length (now s) ≤ 65536)
+        × (length (now b) ≤ 65536)
+        × Spelled (now s) (now b) x
+        × Stands (now s) (now b) t ⌝ }
+    ensures { λ r. ⌜ PlainFinds (now (s .entry)) (now (b .entry))
+        (get-member (base-map (jstr (rest (now (s .entry)) (now (b .entry)) x)))
+        (rest (now (s .entry)) (now (b .entry)) t)) r ⌝ }
 {
     let Parsed::Is(n) = canonical(s, b, t) else {
         return Found::Nothing;
@@ -258,8 +312,13 @@ fn string_member(s: &[u8], b: &[u8], x: Text, t: Text) -> Found
 
 // What stands under t in a value that is not merged, taken as an object: by its form.
 fn form_member(s: &[u8], tab: &[u64], b: &[u8], v: Value, t: Text) -> Found
-    requires { ⌜ Accepted (now s) (now tab) × (length (now b) ≤ 65536) × PlainHeld (now s) (now b) v × Stands (now s) (now b) t ⌝ }
-    ensures { λ r. ⌜ PlainFinds (now (s .entry)) (now (b .entry)) (get-member (base-map (plain-json (now (s .entry)) (now (b .entry)) v)) (rest (now (s .entry)) (now (b .entry)) t)) r ⌝ }
+    requires { ⌜ Accepted (now s) (now tab)
+        × (length (now b) ≤ 65536)
+        × PlainHeld (now s) (now b) v
+        × Stands (now s) (now b) t ⌝ }
+    ensures { λ r. ⌜ PlainFinds (now (s .entry)) (now (b .entry))
+        (get-member (base-map (plain-json (now (s .entry)) (now (b .entry)) v))
+        (rest (now (s .entry)) (now (b .entry)) t)) r ⌝ }
 {
     let f = meaning::form_of(s, tab, b, v);
     match f {
@@ -276,8 +335,13 @@ fn form_member(s: &[u8], tab: &[u64], b: &[u8], v: Value, t: Text) -> Found
 
 // The same. Most often an object of the plan stands there, which is told without the form.
 fn plain_member(s: &[u8], tab: &[u64], b: &[u8], v: Value, t: Text) -> Found
-    requires { ⌜ Accepted (now s) (now tab) × (length (now b) ≤ 65536) × PlainHeld (now s) (now b) v × Stands (now s) (now b) t ⌝ }
-    ensures { λ r. ⌜ PlainFinds (now (s .entry)) (now (b .entry)) (get-member (base-map (plain-json (now (s .entry)) (now (b .entry)) v)) (rest (now (s .entry)) (now (b .entry)) t)) r ⌝ }
+    requires { ⌜ Accepted (now s) (now tab)
+        × (length (now b) ≤ 65536)
+        × PlainHeld (now s) (now b) v
+        × Stands (now s) (now b) t ⌝ }
+    ensures { λ r. ⌜ PlainFinds (now (s .entry)) (now (b .entry))
+        (get-member (base-map (plain-json (now (s .entry)) (now (b .entry)) v))
+        (rest (now (s .entry)) (now (b .entry)) t)) r ⌝ }
 {
     let Value::Place(i) = pathless(v) else {
         return form_member(s, tab, b, v, t);
@@ -290,14 +354,21 @@ fn plain_member(s: &[u8], tab: &[u64], b: &[u8], v: Value, t: Text) -> Found
 
 // The last of the n entries from h on whose key is t.
 fn last_key(s: &[u8], b: &[u8], ent: &[u64], h: usize, n: usize, t: Text) -> places::Found
-    requires { ⌜ (length (now s) ≤ 65536) × (length (now b) ≤ 65536) × (2 * (h + n) ≤ length (now ent)) × KeysStand (now b) (now ent) h n × Stands (now s) (now b) t ⌝ }
-    ensures { λ r. ⌜ KeyFound (now (s .entry)) (now (b .entry)) (now (ent .entry)) h n (find-last (pairs (now (b .entry)) (now (ent .entry)) (json-of (now (s .entry)) (now (b .entry)) (now (ent .entry))) h n) (rest (now (s .entry)) (now (b .entry)) t)) r ⌝ }
+    requires { ⌜ (length (now s) ≤ 65536)
+        × (length (now b) ≤ 65536)
+        × (2 * (h + n) ≤ length (now ent))
+        × KeysStand (now b) (now ent) h n
+        × Stands (now s) (now b) t ⌝ }
+    ensures { λ r. ⌜ KeyFound (now (s .entry)) (now (b .entry)) (now (ent .entry)) h n
+        (find-last
+        (pairs (now (b .entry)) (now (ent .entry)) (json-of (now (s .entry)) (now (b .entry)) (now (ent .entry))) h n)
+        (rest (now (s .entry)) (now (b .entry)) t)) r ⌝ }
 {
     let mut k = n;
     while 0 < k {
         k -= 1;
         let key = text_of(s, b, entries::place(ent, h + k));
-        if is_same(s, b, key, t) {
+        if text::same(s, b, key, t) {
             return places::Found::At(h + k);
         }
     }
@@ -306,8 +377,13 @@ fn last_key(s: &[u8], b: &[u8], ent: &[u64], h: usize, n: usize, t: Text) -> pla
 
 // What stands under t in a value taken as an object: of a merged one the last hash pair of that name, and where there is none what its base has.
 pub fn get_member(s: &[u8], tab: &[u64], b: &[u8], ent: &[u64], v: Value, t: Text) -> Found
-    requires { ⌜ Accepted (now s) (now tab) × (length (now b) ≤ 65536) × Held (now s) (now b) (now ent) v × Stands (now s) (now b) t ⌝ }
-    ensures { λ r. ⌜ Finds (now (s .entry)) (now (b .entry)) (now (ent .entry)) v (get-member (base-map (json-of (now (s .entry)) (now (b .entry)) (now (ent .entry)) v)) (rest (now (s .entry)) (now (b .entry)) t)) r ⌝ }
+    requires { ⌜ Accepted (now s) (now tab)
+        × (length (now b) ≤ 65536)
+        × Held (now s) (now b) (now ent) v
+        × Stands (now s) (now b) t ⌝ }
+    ensures { λ r. ⌜ Finds (now (s .entry)) (now (b .entry)) (now (ent .entry)) v
+        (get-member (base-map (json-of (now (s .entry)) (now (b .entry)) (now (ent .entry)) v))
+        (rest (now (s .entry)) (now (b .entry)) t)) r ⌝ }
 {
     let mut u = v;
     loop {
@@ -334,7 +410,8 @@ fn from_place(at: places::Found) -> Reached
 
 fn list_data(s: &[u8], tab: &[u64], b: &[u8], i: usize, t: Text) -> Reached
     requires { ⌜ Accepted (now s) (now tab) × (i < places (now s)) × Stands (now s) (now b) t ⌝ }
-    ensures { λ r. ⌜ r ≡ list-reached (children (now (s .entry)) i) (parse-usize (rest (now (s .entry)) (now (b .entry)) t)) ⌝ }
+    ensures { λ r. ⌜ r ≡ list-reached (children (now (s .entry)) i)
+        (parse-usize (rest (now (s .entry)) (now (b .entry)) t)) ⌝ }
 {
     let Parsed::Is(n) = index_of(s, b, t) else {
         return Reached::BadIndex;
@@ -391,8 +468,13 @@ fn from_member(found: Found) -> Got
 
 // One segment of a path, t, from a value whose own path is not known.
 fn derived_data(s: &[u8], tab: &[u64], b: &[u8], ent: &[u64], v: Value, t: Text) -> Got
-    requires { ⌜ Accepted (now s) (now tab) × (length (now b) ≤ 65536) × Held (now s) (now b) (now ent) v × (context-place v ≡ none) × Stands (now s) (now b) t ⌝ }
-    ensures { λ r. ⌜ DataGot (now (s .entry)) (now (b .entry)) (now (ent .entry)) v (rest (now (s .entry)) (now (b .entry)) t) r ⌝ }
+    requires { ⌜ Accepted (now s) (now tab)
+        × (length (now b) ≤ 65536)
+        × Held (now s) (now b) (now ent) v
+        × (context-place v ≡ none)
+        × Stands (now s) (now b) t ⌝ }
+    ensures { λ r. ⌜ DataGot (now (s .entry)) (now (b .entry)) (now (ent .entry)) v
+        (rest (now (s .entry)) (now (b .entry)) t) r ⌝ }
 {
     let f = meaning::form_of(s, tab, b, v);
     match f {
@@ -409,20 +491,27 @@ fn derived_data(s: &[u8], tab: &[u64], b: &[u8], ent: &[u64], v: Value, t: Text)
 
 // One segment of a path, the string at the bit place q of the bundle, from the place i of the plan. Most often an object stands there.
 fn segment_data(s: &[u8], tab: &[u64], b: &[u8], i: usize, q: usize) -> Reached
-    requires { ⌜ Accepted (now s) (now tab) × (length (now b) ≤ 65536) × (i < places (now s)) × Holds string (bits (now b)) q ⌝ }
+    requires { ⌜ Accepted (now s) (now tab)
+        × (length (now b) ≤ 65536)
+        × (i < places (now s))
+        × Holds string (bits (now b)) q ⌝ }
     ensures { λ r. ⌜ Reaches (now (s .entry)) i (text-at (bits (now (b .entry))) q) r ⌝ }
 {
     if places::is_object(s, tab, i) {
-        let n = bits::field(b, q, 16) as usize;
-        return from_place(places::member_packed(s, tab, i, b, q + 16, n));
+        let n = bits::field(b, q, COUNT) as usize;
+        return from_place(places::member_packed(s, tab, i, b, q + COUNT, n));
     }
     place_data(s, tab, b, i, text_of(s, b, q))
 }
 
 // The same from the value v.
 pub fn get_data(s: &[u8], tab: &[u64], b: &[u8], ent: &[u64], v: Value, q: usize) -> Got
-    requires { ⌜ Accepted (now s) (now tab) × (length (now b) ≤ 65536) × Held (now s) (now b) (now ent) v × Holds string (bits (now b)) q ⌝ }
-    ensures { λ r. ⌜ DataGot (now (s .entry)) (now (b .entry)) (now (ent .entry)) v (text-at (bits (now (b .entry))) q) r ⌝ }
+    requires { ⌜ Accepted (now s) (now tab)
+        × (length (now b) ≤ 65536)
+        × Held (now s) (now b) (now ent) v
+        × Holds string (bits (now b)) q ⌝ }
+    ensures { λ r. ⌜ DataGot (now (s .entry)) (now (b .entry)) (now (ent .entry)) v
+        (text-at (bits (now (b .entry))) q) r ⌝ }
 {
     let Value::Place(i) = pathless(v) else {
         return derived_data(s, tab, b, ent, v, text_of(s, b, q));
@@ -434,16 +523,20 @@ pub fn get_data(s: &[u8], tab: &[u64], b: &[u8], ent: &[u64], v: Value, q: usize
     with_path(at)
 }
 
-// The same for a value and an answer that are numbers, as `value::encode` makes them: an enum would go through memory. 0 where it is not told here,
-// 1 where there is nothing, else two more than the number of what there is.
+// The same for a value and an answer that are numbers, as `value::encode` makes them: an enum would go through memory. The answer is
+// `NOT_TOLD`, `NOTHING`, or the number of what there is with `VALUE` added.
 
 // From the place i of the plan along the string at q of m bytes: 0 where no object stands there, else one more than the member's place or 0.
 fn place_number(s: &[u8], tab: &[u64], b: &[u8], i: usize, q: usize, m: usize) -> usize
-    requires { ⌜ Accepted (now s) (now tab) × (length (now b) ≤ 65536) × (i < places (now s)) × Holds string (bits (now b)) q × (m ≡ field (bits (now b)) 16 q) ⌝ }
+    requires { ⌜ Accepted (now s) (now tab)
+        × (length (now b) ≤ 65536)
+        × (i < places (now s))
+        × Holds string (bits (now b)) q
+        × (m ≡ field (bits (now b)) 16 q) ⌝ }
     ensures { λ r. ⌜ MemberNumber (now (s .entry)) i (text-at (bits (now (b .entry))) q) r ⌝ }
 {
     if places::is_object(s, tab, i) {
-        let c = places::member_number(s, tab, i, b, q + 16, m);
+        let c = places::member_number(s, tab, i, b, q + COUNT, m);
         return c + 1;
     }
     0
@@ -454,10 +547,10 @@ fn placed_number(r: usize, tag: u64) -> u64
     requires { ⌜ (r ≤ 4096) × (tag < 16) ⌝ }
     ensures { λ n. ⌜ n ≡ placed-number r tag ⌝ }
 {
-    if r < 2 {
+    if r < MEMBER {
         return r as u64;
     }
-    2 + tag + 16 * ((r - 1) as u64)
+    VALUE + tag + WIDE_KINDS * ((r - 1) as u64)
 }
 
 // Whether the string at p is the one at q of m bytes: most keys differ in their counts.
@@ -465,7 +558,7 @@ fn is_key(b: &[u8], p: usize, q: usize, m: usize) -> bool
     requires { ⌜ (p ≤ 524288) × (q ≤ 524288) × (m ≡ field (bits (now b)) 16 q) ⌝ }
     ensures { λ r. ⌜ r ≡ same (text-at (bits (now (b .entry))) p) (text-at (bits (now (b .entry))) q) ⌝ }
 {
-    let n = bits::field(b, p, 16) as usize;
+    let n = bits::field(b, p, COUNT) as usize;
     if n != m {
         return false;
     }
@@ -474,8 +567,15 @@ fn is_key(b: &[u8], p: usize, q: usize, m: usize) -> bool
 
 // The last of the n entries from h on whose key is the string at q of m bytes: one more than its number among them, or 0.
 fn last_pair(b: &[u8], ent: &[u64], h: usize, n: usize, q: usize, m: usize) -> usize
-    requires { ⌜ (length (now b) ≤ 65536) × (2 * (h + n) ≤ length (now ent)) × KeysStand (now b) (now ent) h n × (q ≤ 524288) × (m ≡ field (bits (now b)) 16 q) ⌝ }
-    ensures { λ r. ⌜ ((s : Bytes) → KeyFound s (now (b .entry)) (now (ent .entry)) h n (find-last (pairs (now (b .entry)) (now (ent .entry)) (json-of s (now (b .entry)) (now (ent .entry))) h n) (text-at (bits (now (b .entry))) q)) (pair-at h r)) ⌝ }
+    requires { ⌜ (length (now b) ≤ 65536)
+        × (2 * (h + n) ≤ length (now ent))
+        × KeysStand (now b) (now ent) h n
+        × (q ≤ 524288)
+        × (m ≡ field (bits (now b)) 16 q) ⌝ }
+    ensures { λ r. ⌜ ((s : Bytes)
+        → KeyFound s (now (b .entry)) (now (ent .entry)) h n
+        (find-last (pairs (now (b .entry)) (now (ent .entry)) (json-of s (now (b .entry)) (now (ent .entry))) h n)
+        (text-at (bits (now (b .entry))) q)) (pair-at h r)) ⌝ }
 {
     let mut left = n;
     while 0 < left {
@@ -491,17 +591,21 @@ fn last_pair(b: &[u8], ent: &[u64], h: usize, n: usize, q: usize, m: usize) -> u
 fn pathless_number(n: u32) -> u32
     ensures { λ r. ⌜ decoded r ≡ pathless (decoded n) ⌝ }
 {
-    if n % 16 == 5 {
-        return n + 1;
+    if n % KINDS == CONTEXT {
+        return n + CONTEXT_TO_PLACE;
     }
     n
 }
 
-// Where a name is to be looked for in a merged object: its own pairs come before its base. The number of what a pair has, with 2 ^ 32 added, or that of the base,
+// Where a name is to be looked for in a merged object: its own pairs come before its base. The number of what a pair has, with `PAIR` added, or that of the base,
 // which is not merged.
 fn inner_number(s: &[u8], b: &[u8], ent: &[u64], v: u32, q: usize, m: usize) -> u64
-    requires { ⌜ (length (now b) ≤ 65536) × Held (now s) (now b) (now ent) (decoded v) × Holds string (bits (now b)) q × (m ≡ field (bits (now b)) 16 q) ⌝ }
-    ensures { λ r. ⌜ Inner (now (s .entry)) (now (b .entry)) (now (ent .entry)) (decoded v) (text-at (bits (now (b .entry))) q) r ⌝ }
+    requires { ⌜ (length (now b) ≤ 65536)
+        × Held (now s) (now b) (now ent) (decoded v)
+        × Holds string (bits (now b)) q
+        × (m ≡ field (bits (now b)) 16 q) ⌝ }
+    ensures { λ r. ⌜ Inner (now (s .entry)) (now (b .entry)) (now (ent .entry)) (decoded v)
+        (text-at (bits (now (b .entry))) q) r ⌝ }
 {
     let mut u = v;
     loop {
@@ -512,7 +616,7 @@ fn inner_number(s: &[u8], b: &[u8], ent: &[u64], v: u32, q: usize, m: usize) -> 
         let k = last_pair(b, ent, h, n, q, m);
         if k != 0 {
             let low = entries::low(ent, h + (k - 1));
-            return 4294967296 + (pathless_number(low) as u64);
+            return PAIR + (pathless_number(low) as u64);
         }
         u = entries::high(ent, h);
     }
@@ -520,10 +624,14 @@ fn inner_number(s: &[u8], b: &[u8], ent: &[u64], v: u32, q: usize, m: usize) -> 
 
 // The same for any value: what is not merged keeps its path.
 fn asked_number(s: &[u8], b: &[u8], ent: &[u64], v: u32, q: usize, m: usize) -> u64
-    requires { ⌜ (length (now b) ≤ 65536) × Held (now s) (now b) (now ent) (decoded v) × Holds string (bits (now b)) q × (m ≡ field (bits (now b)) 16 q) ⌝ }
-    ensures { λ r. ⌜ Asked (now (s .entry)) (now (b .entry)) (now (ent .entry)) (decoded v) (text-at (bits (now (b .entry))) q) r ⌝ }
+    requires { ⌜ (length (now b) ≤ 65536)
+        × Held (now s) (now b) (now ent) (decoded v)
+        × Holds string (bits (now b)) q
+        × (m ≡ field (bits (now b)) 16 q) ⌝ }
+    ensures { λ r. ⌜ Asked (now (s .entry)) (now (b .entry)) (now (ent .entry)) (decoded v)
+        (text-at (bits (now (b .entry))) q) r ⌝ }
 {
-    if 14 <= v % 16 {
+    if MERGED <= v % KINDS {
         return inner_number(s, b, ent, v, q, m);
     }
     v as u64
@@ -531,26 +639,36 @@ fn asked_number(s: &[u8], b: &[u8], ent: &[u64], v: u32, q: usize, m: usize) -> 
 
 // From the value v along the string at q of m bytes. There is one call only that follows a name from a place, so that the compiler puts it here.
 pub fn get_number(s: &[u8], tab: &[u64], b: &[u8], ent: &[u64], v: u32, q: usize, m: usize) -> u64
-    requires { ⌜ Accepted (now s) (now tab) × (length (now b) ≤ 65536) × Held (now s) (now b) (now ent) (decoded v) × Holds string (bits (now b)) q × (m ≡ field (bits (now b)) 16 q) ⌝ }
-    ensures { λ r. ⌜ NumberGot (now (s .entry)) (now (b .entry)) (now (ent .entry)) (decoded v) (text-at (bits (now (b .entry))) q) r ⌝ }
+    requires { ⌜ Accepted (now s) (now tab)
+        × (length (now b) ≤ 65536)
+        × Held (now s) (now b) (now ent) (decoded v)
+        × Holds string (bits (now b)) q
+        × (m ≡ field (bits (now b)) 16 q) ⌝ }
+    ensures { λ r. ⌜ NumberGot (now (s .entry)) (now (b .entry)) (now (ent .entry)) (decoded v)
+        (text-at (bits (now (b .entry))) q) r ⌝ }
 {
     let u = asked_number(s, b, ent, v, q, m);
-    if 4294967296 <= u {
-        return u - 4294967294;
+    if PAIR <= u {
+        return u - PAIR_TO_VALUE;
     }
-    let tag = u % 16;
-    if (tag == 5) | (tag == 6) {
-        let r = place_number(s, tab, b, (u / 16) as usize, q, m);
+    let tag = u % WIDE_KINDS;
+    if (tag == WIDE_CONTEXT) | (tag == WIDE_PLACE) {
+        let r = place_number(s, tab, b, (u / WIDE_KINDS) as usize, q, m);
         return placed_number(r, tag);
     }
-    0
+    NOT_TOLD
 }
 
 // The helper `lookup`
 
 fn item_at(s: &[u8], tab: &[u64], b: &[u8], i: usize, n: Value) -> Found
-    requires { ⌜ Accepted (now s) (now tab) × (length (now b) ≤ 65536) × Known (now s) (now b) n × (i < places (now s)) ⌝ }
-    ensures { λ r. ⌜ r ≡ placed-at (maybe (as-u64 (plain-json (now (s .entry)) (now (b .entry)) n)) none (getElem? (children (now (s .entry)) i))) ⌝ }
+    requires { ⌜ Accepted (now s) (now tab)
+        × (length (now b) ≤ 65536)
+        × Known (now s) (now b) n
+        × (i < places (now s)) ⌝ }
+    ensures { λ r. ⌜ r ≡ placed-at
+        (maybe (as-u64 (plain-json (now (s .entry)) (now (b .entry)) n)) none
+        (getElem? (children (now (s .entry)) i))) ⌝ }
 {
     let f = meaning::form_of(s, tab, b, n);
     match f {
@@ -566,8 +684,13 @@ fn item_at(s: &[u8], tab: &[u64], b: &[u8], i: usize, n: Value) -> Found
 }
 
 fn member_at(s: &[u8], tab: &[u64], b: &[u8], ent: &[u64], v: Value, k: Value) -> Found
-    requires { ⌜ Accepted (now s) (now tab) × (length (now b) ≤ 65536) × Held (now s) (now b) (now ent) v × Held (now s) (now b) (now ent) k ⌝ }
-    ensures { λ r. ⌜ Finds (now (s .entry)) (now (b .entry)) (now (ent .entry)) v (maybe (as-str (json-of (now (s .entry)) (now (b .entry)) (now (ent .entry)) k)) none (get-member (base-map (json-of (now (s .entry)) (now (b .entry)) (now (ent .entry)) v)))) r ⌝ }
+    requires { ⌜ Accepted (now s) (now tab)
+        × (length (now b) ≤ 65536)
+        × Held (now s) (now b) (now ent) v
+        × Held (now s) (now b) (now ent) k ⌝ }
+    ensures { λ r. ⌜ Finds (now (s .entry)) (now (b .entry)) (now (ent .entry)) v
+        (maybe (as-str (json-of (now (s .entry)) (now (b .entry)) (now (ent .entry)) k)) none
+        (get-member (base-map (json-of (now (s .entry)) (now (b .entry)) (now (ent .entry)) v)))) r ⌝ }
 {
     let f = meaning::form_of(s, tab, b, k);
     match f {
@@ -583,8 +706,13 @@ fn member_at(s: &[u8], tab: &[u64], b: &[u8], ent: &[u64], v: Value, k: Value) -
 }
 
 fn looked_any(s: &[u8], tab: &[u64], b: &[u8], ent: &[u64], v: Value, i: Value) -> Found
-    requires { ⌜ Accepted (now s) (now tab) × (length (now b) ≤ 65536) × Held (now s) (now b) (now ent) v × Held (now s) (now b) (now ent) i ⌝ }
-    ensures { λ r. ⌜ Finds (now (s .entry)) (now (b .entry)) (now (ent .entry)) v (looked-up (json-of (now (s .entry)) (now (b .entry)) (now (ent .entry)) v) (json-of (now (s .entry)) (now (b .entry)) (now (ent .entry)) i)) r ⌝ }
+    requires { ⌜ Accepted (now s) (now tab)
+        × (length (now b) ≤ 65536)
+        × Held (now s) (now b) (now ent) v
+        × Held (now s) (now b) (now ent) i ⌝ }
+    ensures { λ r. ⌜ Finds (now (s .entry)) (now (b .entry)) (now (ent .entry)) v
+        (looked-up (json-of (now (s .entry)) (now (b .entry)) (now (ent .entry)) v)
+        (json-of (now (s .entry)) (now (b .entry)) (now (ent .entry)) i)) r ⌝ }
 {
     let f = meaning::form_of(s, tab, b, v);
     match f {
@@ -599,14 +727,18 @@ fn looked_any(s: &[u8], tab: &[u64], b: &[u8], ent: &[u64], v: Value, i: Value) 
     }
 }
 
-// By numbers where the second parameter is a string of the bundle and the first an object, as most are: 0 where it is not told so.
+// By numbers where the second parameter is a string of the bundle and the first an object, as most are.
 
 // What the object at i has under the string at q of m bytes.
 fn object_key(s: &[u8], tab: &[u64], b: &[u8], i: usize, q: usize, m: usize) -> u64
-    requires { ⌜ Accepted (now s) (now tab) × (length (now b) ≤ 65536) × (i < places (now s)) × Holds string (bits (now b)) q × (m ≡ field (bits (now b)) 16 q) ⌝ }
+    requires { ⌜ Accepted (now s) (now tab)
+        × (length (now b) ≤ 65536)
+        × (i < places (now s))
+        × Holds string (bits (now b)) q
+        × (m ≡ field (bits (now b)) 16 q) ⌝ }
     ensures { λ r. ⌜ KeyNumber (now (s .entry)) (now (b .entry)) i (text-at (bits (now (b .entry))) q) r ⌝ }
 {
-    placed_number(place_number(s, tab, b, i, q, m), 6)
+    placed_number(place_number(s, tab, b, i, q, m), WIDE_PLACE)
 }
 
 // The same of the merged object with n pairs from h on. Its base most often is an object of the plan.
@@ -620,54 +752,66 @@ fn merged_key(
     q: usize,
     m: usize,
 ) -> u64
-    requires { ⌜ Accepted (now s) (now tab) × (length (now b) ≤ 65536) × Held (now s) (now b) (now ent) (Merged h n) × Holds string (bits (now b)) q × (m ≡ field (bits (now b)) 16 q) ⌝ }
-    ensures { λ r. ⌜ MergedNumber (now (s .entry)) (now (b .entry)) (now (ent .entry)) (Merged h n) (text-at (bits (now (b .entry))) q) r ⌝ }
+    requires { ⌜ Accepted (now s) (now tab)
+        × (length (now b) ≤ 65536)
+        × Held (now s) (now b) (now ent) (Merged h n)
+        × Holds string (bits (now b)) q
+        × (m ≡ field (bits (now b)) 16 q) ⌝ }
+    ensures { λ r. ⌜ MergedNumber (now (s .entry)) (now (b .entry)) (now (ent .entry)) (Merged h n)
+        (text-at (bits (now (b .entry))) q) r ⌝ }
 {
     let k = last_pair(b, ent, h, n, q, m);
     if k != 0 {
         let low = entries::low(ent, h + (k - 1));
-        return 2 + (pathless_number(low) as u64);
+        return VALUE + (pathless_number(low) as u64);
     }
     let u = entries::high(ent, h);
-    let tag = u % 16;
-    if (tag == 5) | (tag == 6) {
-        return object_key(s, tab, b, (u / 16) as usize, q, m);
+    let tag = u % KINDS;
+    if (tag == CONTEXT) | (tag == PLACE) {
+        return object_key(s, tab, b, (u / KINDS) as usize, q, m);
     }
-    0
+    NOT_TOLD
 }
 
-// What the value v has under the literal at l: 0 where it is not told, 1 for nothing, else two more than a value's number.
+// What the value v has under the literal at l.
 pub fn keyed_number(s: &[u8], tab: &[u64], b: &[u8], ent: &[u64], v: Value, l: usize) -> u64
-    requires { ⌜ Accepted (now s) (now tab) × (length (now b) ≤ 65536) × Held (now s) (now b) (now ent) v × Holds literal (bits (now b)) l ⌝ }
+    requires { ⌜ Accepted (now s) (now tab)
+        × (length (now b) ≤ 65536)
+        × Held (now s) (now b) (now ent) v
+        × Holds literal (bits (now b)) l ⌝ }
     ensures { λ r. ⌜ LookedNumber (now (s .entry)) (now (b .entry)) (now (ent .entry)) v l r ⌝ }
 {
-    // the kind of the literal, and the count of the string that 5 is
-    let x = bits::field(b, l, 19);
-    if x < 327680 {
-        return 0;
+    let x = bits::field(b, l, LITERAL_AND_COUNT);
+    if x < STRING {
+        return NOT_TOLD;
     }
-    let m = (x % 65536) as usize;
+    let m = (x % COUNTS) as usize;
     match v {
-        Value::Context(i) => object_key(s, tab, b, i, l + 3, m),
-        Value::Place(i) => object_key(s, tab, b, i, l + 3, m),
-        Value::Merged(h, n) => merged_key(s, tab, b, ent, h, n, l + 3, m),
-        _ => 0,
+        Value::Context(i) => object_key(s, tab, b, i, l + LITERAL, m),
+        Value::Place(i) => object_key(s, tab, b, i, l + LITERAL, m),
+        Value::Merged(h, n) => merged_key(s, tab, b, ent, h, n, l + LITERAL, m),
+        _ => NOT_TOLD,
     }
 }
 
 pub fn looked_up(s: &[u8], tab: &[u64], b: &[u8], ent: &[u64], v: Value, i: Value) -> Found
-    requires { ⌜ Accepted (now s) (now tab) × (length (now b) ≤ 65536) × Held (now s) (now b) (now ent) v × Held (now s) (now b) (now ent) i ⌝ }
-    ensures { λ r. ⌜ Finds (now (s .entry)) (now (b .entry)) (now (ent .entry)) v (looked-up (json-of (now (s .entry)) (now (b .entry)) (now (ent .entry)) v) (json-of (now (s .entry)) (now (b .entry)) (now (ent .entry)) i)) r ⌝ }
+    requires { ⌜ Accepted (now s) (now tab)
+        × (length (now b) ≤ 65536)
+        × Held (now s) (now b) (now ent) v
+        × Held (now s) (now b) (now ent) i ⌝ }
+    ensures { λ r. ⌜ Finds (now (s .entry)) (now (b .entry)) (now (ent .entry)) v
+        (looked-up (json-of (now (s .entry)) (now (b .entry)) (now (ent .entry)) v)
+        (json-of (now (s .entry)) (now (b .entry)) (now (ent .entry)) i)) r ⌝ }
 {
     let Value::Literal(l) = i else {
         return looked_any(s, tab, b, ent, v, i);
     };
     let r = keyed_number(s, tab, b, ent, v, l);
-    if r == 0 {
+    if r == NOT_TOLD {
         return looked_any(s, tab, b, ent, v, i);
     }
-    if r == 1 {
+    if r == NOTHING {
         return Found::Nothing;
     }
-    Found::Is(value::decode((r - 2) as u32))
+    Found::Is(value::decode((r - VALUE) as u32))
 }

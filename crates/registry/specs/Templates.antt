@@ -114,12 +114,6 @@ pub place-next : (c : Layout rule.Template) (b : Bits) (i p z : ℕ) → p ≡ p
 unfolding place-of
 place-next c b i p z e h = h ∙ ap (end (string then c) b) e ∙ ap (place-of c b) (sym (add-one i))
 
--- the code's view of the template k, where i templates are passed
-pub template-made : (c : Layout rule.Template) (b : Bits) (k p i : ℕ) → i ≡ k → p ≡ place-of c b i → (q : ℕ) → q ≡ end string b p
-    → _≡_ {A = Template} (record { name = p; body = q }) (template-view b (place-of c b k))
-template-made c b k p i e h q g =
-    ap (λ (q : ℕ). record { name = p; body = q }) g ∙ ap (λ (p : ℕ). template-view b p) h ∙ ap (λ (i : ℕ). template-view b (place-of c b i)) e
-
 -- A search that has passed i templates of n and stands at p, that of the next
 
 pub record Searching (c : Layout rule.Template) (b : Bits) (m : Bytes) (n i p q : ℕ) (f : Found) : Type 0 where

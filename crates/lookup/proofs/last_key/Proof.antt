@@ -31,8 +31,8 @@ place-requires c κs = omega (arith, c .before .before .before .before .before .
 text-of-requires : tie.Need-text-of-requires Inv-loop μ-loop
 text-of-requires c κs = (c .before .before .before .before .before .before .pre .1, rw (c .place .ensures) (c .before .before .before .before .before .before .pre .3 .keys (c .before .before .loop .k - 1) (omega (arith, c .before .before .loop .inv .0))))
 
-is-same-requires : tie.Need-is-same-requires Inv-loop μ-loop
-is-same-requires c κs = (c .before .before .before .before .before .before .before .pre .0, c .text-of .ensures .1, c .before .before .before .before .before .before .before .pre .4)
+same-requires : tie.Need-same-requires Inv-loop μ-loop
+same-requires c κs = (c .before .before .before .before .before .before .before .pre .0, c .text-of .ensures .1, c .before .before .before .before .before .before .before .pre .4)
 
 add-t13 : tie.Need-add-t13 Inv-loop μ-loop
 add-t13 c = omega (arith, c .before .before .before .before .before .before .before .before .before .pre .2, c .before .before .before .before .before .loop .inv .0)
@@ -40,8 +40,8 @@ add-t13 c = omega (arith, c .before .before .before .before .before .before .bef
 returns : tie.Need-returns Inv-loop μ-loop
 returns c =
     let k = c .before .before .before .before .before .loop .k in
-    let f = key-same (c .before .before .before .before .before .before .before .before .before .args .b .now) (rest (c .before .before .before .before .before .before .before .before .before .args .s .now) (c .before .before .before .before .before .before .before .before .before .args .b .now) (c .before .before .before .before .before .before .before .before .before .args .t)) (rest (c .before .before .before .before .before .before .before .before .before .args .s .now) (c .before .before .before .before .before .before .before .before .before .args .b .now) (c .before .before .text-of .result)) (c .before .is-same .result) (c .before .before .before .place .result) (place (c .before .before .before .before .before .before .before .before .before .args .ent .now) (c .before .before .before .before .before .before .before .before .before .args .h + (k - 1))) (c .before .is-same .ensures) (c .before .before .text-of .ensures .0) (c .before .before .before .place .ensures) in
-    last-hit (c .before .before .before .before .before .before .before .before .before .args .s .now) (c .before .before .before .before .before .before .before .before .before .args .b .now) (c .before .before .before .before .before .before .before .before .before .args .ent .now) (c .before .before .before .before .before .before .before .before .before .args .h) (c .before .before .before .before .before .before .before .before .before .args .n) (rest (c .before .before .before .before .before .before .before .before .before .args .s .now) (c .before .before .before .before .before .before .before .before .before .args .b .now) (c .before .before .before .before .before .before .before .before .before .args .t)) _ k (c .before .before .before .before .loop-test .taken) (c .before .before .before .before .before .loop .inv .1) (c .before .is-same .result) f (c .before .before .before .before .before .loop .inv .0) (c .if1 .taken)
+    let f = key-same (c .before .before .before .before .before .before .before .before .before .args .b .now) (rest (c .before .before .before .before .before .before .before .before .before .args .s .now) (c .before .before .before .before .before .before .before .before .before .args .b .now) (c .before .before .before .before .before .before .before .before .before .args .t)) (rest (c .before .before .before .before .before .before .before .before .before .args .s .now) (c .before .before .before .before .before .before .before .before .before .args .b .now) (c .before .before .text-of .result)) (c .before .same .result) (c .before .before .before .place .result) (place (c .before .before .before .before .before .before .before .before .before .args .ent .now) (c .before .before .before .before .before .before .before .before .before .args .h + (k - 1))) (c .before .same .ensures) (c .before .before .text-of .ensures .0) (c .before .before .before .place .ensures) in
+    last-hit (c .before .before .before .before .before .before .before .before .before .args .s .now) (c .before .before .before .before .before .before .before .before .before .args .b .now) (c .before .before .before .before .before .before .before .before .before .args .ent .now) (c .before .before .before .before .before .before .before .before .before .args .h) (c .before .before .before .before .before .before .before .before .before .args .n) (rest (c .before .before .before .before .before .before .before .before .before .args .s .now) (c .before .before .before .before .before .before .before .before .before .args .b .now) (c .before .before .before .before .before .before .before .before .before .args .t)) _ k (c .before .before .before .before .loop-test .taken) (c .before .before .before .before .before .loop .inv .1) (c .before .same .result) f (c .before .before .before .before .before .loop .inv .0) (c .if1 .taken)
 
 loop-less : tie.Need-loop-less Inv-loop μ-loop
 loop-less c = omega (arith, c .before .before .before .before .loop-test .taken)
@@ -49,8 +49,8 @@ loop-less c = omega (arith, c .before .before .before .before .loop-test .taken)
 loop-again : tie.Need-loop-again Inv-loop μ-loop
 loop-again c =
     let k = c .before .before .before .before .before .loop .k in
-    let f = key-same (c .before .before .before .before .before .before .before .before .before .args .b .now) (rest (c .before .before .before .before .before .before .before .before .before .args .s .now) (c .before .before .before .before .before .before .before .before .before .args .b .now) (c .before .before .before .before .before .before .before .before .before .args .t)) (rest (c .before .before .before .before .before .before .before .before .before .args .s .now) (c .before .before .before .before .before .before .before .before .before .args .b .now) (c .before .before .text-of .result)) (c .before .is-same .result) (c .before .before .before .place .result) (place (c .before .before .before .before .before .before .before .before .before .args .ent .now) (c .before .before .before .before .before .before .before .before .before .args .h + (k - 1))) (c .before .is-same .ensures) (c .before .before .text-of .ensures .0) (c .before .before .before .place .ensures) in
-    (omega (arith, c .before .before .before .before .before .loop .inv .0), last-miss (c .before .before .before .before .before .before .before .before .before .args .s .now) (c .before .before .before .before .before .before .before .before .before .args .b .now) (c .before .before .before .before .before .before .before .before .before .args .ent .now) (c .before .before .before .before .before .before .before .before .before .args .h) (c .before .before .before .before .before .before .before .before .before .args .n) (rest (c .before .before .before .before .before .before .before .before .before .args .s .now) (c .before .before .before .before .before .before .before .before .before .args .b .now) (c .before .before .before .before .before .before .before .before .before .args .t)) _ k (c .before .before .before .before .loop-test .taken) (c .before .before .before .before .before .loop .inv .1) (c .before .is-same .result) f (c .if1 .left))
+    let f = key-same (c .before .before .before .before .before .before .before .before .before .args .b .now) (rest (c .before .before .before .before .before .before .before .before .before .args .s .now) (c .before .before .before .before .before .before .before .before .before .args .b .now) (c .before .before .before .before .before .before .before .before .before .args .t)) (rest (c .before .before .before .before .before .before .before .before .before .args .s .now) (c .before .before .before .before .before .before .before .before .before .args .b .now) (c .before .before .text-of .result)) (c .before .same .result) (c .before .before .before .place .result) (place (c .before .before .before .before .before .before .before .before .before .args .ent .now) (c .before .before .before .before .before .before .before .before .before .args .h + (k - 1))) (c .before .same .ensures) (c .before .before .text-of .ensures .0) (c .before .before .before .place .ensures) in
+    (omega (arith, c .before .before .before .before .before .loop .inv .0), last-miss (c .before .before .before .before .before .before .before .before .before .args .s .now) (c .before .before .before .before .before .before .before .before .before .args .b .now) (c .before .before .before .before .before .before .before .before .before .args .ent .now) (c .before .before .before .before .before .before .before .before .before .args .h) (c .before .before .before .before .before .before .before .before .before .args .n) (rest (c .before .before .before .before .before .before .before .before .before .args .s .now) (c .before .before .before .before .before .before .before .before .before .args .b .now) (c .before .before .before .before .before .before .before .before .before .args .t)) _ k (c .before .before .before .before .loop-test .taken) (c .before .before .before .before .before .loop .inv .1) (c .before .same .result) f (c .if1 .left))
 
 returns-2 : tie.Need-returns-2 Inv-loop μ-loop
 returns-2 c = last-none (c .before .before .before .before .before .args .s .now) (c .before .before .before .before .before .args .b .now) (c .before .before .before .before .before .args .ent .now) (c .before .before .before .before .before .args .h) (c .before .before .before .before .before .args .n) (rest (c .before .before .before .before .before .args .s .now) (c .before .before .before .before .before .args .b .now) (c .before .before .before .before .before .args .t)) _ (c .before .loop .k) (λ z. omega (arith, c .loop-test .left)) (c .before .loop .inv .1)
@@ -66,7 +66,7 @@ last-key-spec =
     add-place
     place-requires
     text-of-requires
-    is-same-requires
+    same-requires
     add-t13
     returns
     loop-less
