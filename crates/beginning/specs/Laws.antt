@@ -1,7 +1,7 @@
 -- Laws of the beginning of a partial.
-use Prim.Native.Nat.{ℕ, suc, _+_, _-_, _≤_, _<_}
-use mathlib.Core.Bool.{Bool, true, false, _&&_, _||_}
-use mathlib.Core.List.{List, [], _++_}
+use Prim.Native.Nat.{ℕ, _+_, _-_, _≤_}
+use mathlib.Core.Bool.{Bool, true, false}
+use mathlib.Core.List.{_++_}
 use mathlib.Core.Option.{Option, none, some}
 use mathlib.Core.Path.{_≡_, refl, sym, ap, _∙_, subst}
 use native.Mathlib.Omega.{arith}
@@ -10,8 +10,7 @@ use lib.Seq.{length-take-le}
 use borrow.Author.Tests.{leb-true}
 use Rattle.rules.specs.Bytes.{Bytes, pick}
 use Rattle.rules.specs.Bits.{bits}
-use Rattle.rules.specs.Bundle.{string, body}
-use Rattle.rules.specs.Error.{got}
+use Rattle.rules.specs.Bundle.{body}
 use Rattle.rules.specs.State.{Draw, text-size}
 use Rattle.rules.specs.Registry.{Registry}
 use Rattle.rules.specs.BlockUtil as block-util
@@ -20,8 +19,6 @@ use Rattle.rules.specs.Partial.{Rendering}
 use Rattle.rules.specs.Render.{join-indent, indent-fits}
 use Rattle.rules.specs.Output.{write}
 use Rattle.parts.specs.declared.Maybe.{Maybe}
-use Rattle.parts.specs.declared.Maybe.the-variants.{At, Nothing}
-use Rattle.parts.specs.Holds.{Holds}
 use Rattle.parts.specs.Says.{MaybeHolds, indent-says}
 use Rattle.calls.specs.Calls.{call-at}
 use Rattle.decorators.specs.Indents.{own as own-indent}
@@ -31,23 +28,22 @@ use Rattle.expand.specs.declared.Expanded.{Expanded}
 use Rattle.expand.specs.Answers.{IsTemplate}
 use Rattle.output.specs.declared.Writer.{Writer}
 use Rattle.state.specs.Context.{RenderContext}
-use Rattle.state.specs.Setters.{failed, marked, settled, with-template, unless-bad, finished, finished-named}
-use Rattle.state.specs.World.{World, world, over, top, abs, Ready, Draws}
+use Rattle.state.specs.Setters.{failed, marked, settled, with-template, unless-bad, finished}
+use Rattle.state.specs.World.{World, over, top, abs, Ready, Draws}
 use Rattle.state.specs.Steps.{goes-marks, goes-template}
 use Rattle.texts.specs.Setters.{cleaned, concluded}
 use Rattle.drawing.specs.Parts.{before-partial}
-use Rattle.drawing.specs.Renders.{registry-of, Named, Renders, Worked, joined, PartialDrawn, IncludeDrawn}
+use Rattle.drawing.specs.Renders.{registry-of, Renders, Worked, joined, PartialDrawn}
 use Rattle.drawing.specs.Continues.{Continues, unless-refused, unless-both}
 use Rattle.drawing.specs.Enclosed.{own-says}
 use Rattle.drawing.specs.Expanding.{partial-stop, partial-too-long, partial-worked, partial-refused, partial-done}
-use Rattle.targets.specs.declared.Target.{Target}
 use Rattle.targets.specs.declared.Target.the-variants as to
 use Rattle.targets.specs.Target.{Leads}
 use Rattle.drawing.specs.Renders.{body-rule}
 use Rattle.beginning.specs.declared.Next.{Next}
 use Rattle.beginning.specs.declared.Next.the-variants.{Done, Fallback, Body, Text}
-use Rattle.beginning.specs.Opened.{partial-rule, TextBegun, PartialBegun}
-use Rattle.beginning.specs.Entering.{BodyEntered, TextEntered, EnteredNext}
+use Rattle.beginning.specs.Opened.{partial-rule, PartialBegun}
+use Rattle.beginning.specs.Entering.{BodyEntered, EnteredNext}
 
 -- Limit 21, by the code's test y
 

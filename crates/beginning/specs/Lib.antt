@@ -1,4 +1,5 @@
 pub mod Opened
+pub mod Tops
 pub mod Entering
 pub mod Laws
-pub mod Named
+pub mod Begins

@@ -1,7 +1,6 @@
 -- What the beginning of a partial leaves to be drawn: s is the plan, b the bundle.
 use Prim.Native.Nat.{ℕ, _+_, _-_, _≤_, _<_}
 use mathlib.Core.Bool.{Bool, _||_}
-use mathlib.Core.List.{List}
 use mathlib.Core.Path.{_≡_}
 use lib.ListN.{length}
 use lib.Seq.{sets, slice}
@@ -20,65 +19,58 @@ use Rattle.calls.specs.Calls.{call-at}
 use Rattle.template.specs.Views.{body-says}
 use Rattle.decorators.specs.Indents.{bytes-of}
 use Rattle.expand.specs.declared.Options.{Options}
-use Rattle.state.specs.Context.{RenderContext, whole}
+use Rattle.output.specs.declared.Writer.{Writer}
+use Rattle.scope.specs.declared.Scope.{Scope}
+use Rattle.state.specs.declared.RenderContext as code
+use Rattle.state.specs.Context.{RenderContext}
 use Rattle.state.specs.Setters.{with-template, finished-named}
 use Rattle.state.specs.World.{World, world, Ready}
-use Rattle.texts.specs.Setters.{text-closed, text-place, indented, concluded}
+use Rattle.texts.specs.Setters.{text-closed, indented, concluded}
 use Rattle.inlining.specs.Decorated.{is-at}
 use Rattle.drawing.specs.Renders.{Named, Renders}
 use Rattle.drawing.specs.Continues.{Continues}
 use Rattle.drawing.specs.Renders.{body-rule}
 use Rattle.beginning.specs.declared.Next.{Next}
 use Rattle.beginning.specs.declared.Next.the-variants.{Done, Fallback, Body, Text}
-use Rattle.beginning.specs.declared.Begun as code
+use Rattle.beginning.specs.declared.Begun.{Begun}
 
--- The code's answer together with its scopes, which lie in a lent buffer
-
-pub record Begun : Type 0 where
-  pub rc : RenderContext
-  pub next : Next
-
--- l is the buffer
-abbrev pub whole-begun : code.Begun → List ℕ → Begun
-whole-begun r l = record { rc = whole (r .rc) l; next = r .next }
-
-abbrev pub done : RenderContext → Begun
-done c = record { rc = c; next = Done }
+-- nothing is left to be drawn; x is the newest scope
+abbrev pub done : code.RenderContext → Scope → Begun
+done c x = record { rc = c; top = x; next = Done }
 
 -- The body: its own indent stands at `at`, n is one more than the place of its name
 
 abbrev pub body-context : Bits → Maybe → ℕ → RenderContext → RenderContext
 body-context b at n c = with-template (indented c (c .writer .«has_indent» || is-at at) (c .writer .indent + text-size (indent-says b at))) n
 
-abbrev pub body-buffer : Bits → Maybe → RenderContext → Bytes → Bytes
-body-buffer b at c i = sets i (c .writer .indent) (bytes-of (indent-says b at))
+-- w is the writer in front of it
+abbrev pub body-buffer : Bits → Maybe → Writer → Bytes → Bytes
+body-buffer b at w i = sets i (w .indent) (bytes-of (indent-says b at))
 
-pub record BodyFits (b : Bits) (at : Maybe) (c : RenderContext) (room : ℕ) : Type 0 where
+pub record BodyFits (b : Bits) (at : Maybe) (w : Writer) (room : ℕ) : Type 0 where
   pub held : MaybeHolds string b at
-  pub fits : c .writer .indent + text-size (indent-says b at) ≤ room
+  pub fits : w .indent + text-size (indent-says b at) ≤ room
 
 -- The block text: it was drawn from `begin` on; `block` says whether the output from before is a block text too
 
 abbrev pub text-context : Bits → Maybe → ℕ → ℕ → Bool → RenderContext → RenderContext
 text-context b at n begin block c = body-context b at n (text-closed c begin block)
 
-abbrev pub text-buffer : ℕ → RenderContext → Bytes → Bytes
-text-buffer begin c ts = sets ts (text-place c begin) (slice begin (c .writer .low) ts)
+-- w is the writer behind it
+abbrev pub text-buffer : ℕ → Writer → Bytes → Bytes
+text-buffer begin w ts = sets ts (w .high - (w .low - begin)) (slice begin (w .low) ts)
 
-pub record TextEnds (b : Bits) (at : Maybe) (begin : ℕ) (c : RenderContext) (texts indent : ℕ) : Type 0 where
-  pub one : 0 < c .used
-  pub most : c .used ≤ 32
-  pub sized : length (c .scopes) ≡ 32
-  pub from : begin ≤ c .writer .low
-  pub low : c .writer .low ≤ c .writer .high
-  pub high : c .writer .high ≤ texts
-  pub short : c .writer .low < begin + 65536
-  pub body : BodyFits b at c indent
+pub record TextEnds (b : Bits) (at : Maybe) (begin : ℕ) (w : Writer) (texts indent : ℕ) : Type 0 where
+  pub from : begin ≤ w .low
+  pub low : w .low ≤ w .high
+  pub high : w .high ≤ texts
+  pub short : w .low < begin + 65536
+  pub body : BodyFits b at w indent
 
 -- the world behind the two
 abbrev pub text-ended : Bytes → Maybe → ℕ → ℕ → Bool → World → World
 text-ended b at n begin block w =
-    world (text-context (bits b) at n begin block (w .rc)) (w .page) (text-buffer begin (w .rc) (w .texts)) (body-buffer (bits b) at (w .rc) (w .indent)) (w .ent)
+    world (text-context (bits b) at n begin block (w .rc)) (w .page) (text-buffer begin (w .rc .writer) (w .texts)) (body-buffer (bits b) at (w .rc .writer) (w .indent)) (w .ent)
 
 -- The element: its call at p, its own body and its own indent
 
@@ -94,7 +86,7 @@ pub record TextBegun (s b : Bytes) (o : Options) (w w₁ : World) (d : ℕ) (rul
   pub ready : Ready s b w₁
   pub deeper : 1 + w .rc .used ≤ w₁ .rc .used
   pub stop : (w₂ : World) → Renders s b o w₁ w₂ (body-rule b d t 0) → (w₂ .rc .bad ≡ 0 → ⊥) → Renders s b o w w₂ rule
-  pub ends : (w₂ : World) → Renders s b o w₁ w₂ (body-rule b d t 0) → w₂ .rc .bad ≡ 0 → TextEnds (bits b) at (w .rc .writer .low) (w₂ .rc) (length (w₂ .texts)) (length (w₂ .indent))
+  pub ends : (w₂ : World) → Renders s b o w₁ w₂ (body-rule b d t 0) → w₂ .rc .bad ≡ 0 → TextEnds (bits b) at (w .rc .writer .low) (w₂ .rc .writer) (length (w₂ .texts)) (length (w₂ .indent))
   pub goes : (w₂ : World) → Renders s b o w₁ w₂ (body-rule b d t 0) → w₂ .rc .bad ≡ 0
       → Continues s b o w (text-ended b at n (w .rc .writer .low) (w .rc .writer .«block_text») w₂) 1 (body-rule b e q n) rule (concluded (w .rc))
 

@@ -9,13 +9,9 @@ ghost use lib.ListN.{length};
 ghost use Rattle.rules.specs.Bundle.{block-names};
 ghost use Rattle.parts.specs.Holds.{Holds};
 ghost use Rattle.parts.specs.Views.{names-view};
-ghost use Rattle.state.specs.Context.{whole};
-ghost use Rattle.state.specs.Setters.{with-template, pushed};
-ghost use Rattle.state.specs.Setters as set;
-ghost use Rattle.blocks.specs.Opened.{NamesNear, named, with-scope, each-scope, newest, Opens};
+ghost use Rattle.blocks.specs.Opened.{NamesNear, named, with-scope, each-scope};
 use parts::BlockParam;
 use scope::Scope;
-use state::RenderContext;
 use value::Value;
 
 // With the block names of `each`: their kind, and the place of the first.
@@ -39,7 +35,7 @@ fn behind(around: Scope) -> u16
 }
 
 // The scope of `with`: a second name is not heeded. The local variables are those of the scope around.
-pub fn with_scope(v: Value, names: BlockParam, around: Scope) -> Scope
+fn with_scope(v: Value, names: BlockParam, around: Scope) -> Scope
     requires { ⌜ Fits v × NamesNear names × (around .inline + around .count ≤ 4096) ⌝ }
     ensures { λ r. ⌜ r ≡ with-scope v names around ⌝ }
 {
@@ -52,7 +48,7 @@ pub fn with_scope(v: Value, names: BlockParam, around: Scope) -> Scope
 }
 
 // The scope of `each` before its first turn.
-pub fn each_scope(v: Value, names: BlockParam, around: Scope) -> Scope
+fn each_scope(v: Value, names: BlockParam, around: Scope) -> Scope
     requires { ⌜ Fits v × NamesNear names × (around .inline + around .count ≤ 4096) ⌝ }
     ensures { λ r. ⌜ r ≡ each-scope v names around ⌝ }
 {
@@ -75,39 +71,20 @@ pub fn turn_scope(c: Scope, item: Value, key: Value, k: usize, object: bool, las
     )
 }
 
-// The scope of `with` is opened; its names stand at the place `at` of the bundle b.
-pub fn open_with(b: &[u8], sc: &mut [u64], at: usize, v: Value, rc: RenderContext) -> RenderContext
-    requires { ⌜ (length (now b) ≤ 65536) × Holds block-names (bits (now b)) at × Opens (whole rc (now sc)) v × (length (now sc) ≡ 96) ⌝ }
-    ensures { λ r. ⌜ whole r (now (sc .exit)) ≡ pushed (whole rc (now (sc .entry))) (with-scope v (names-view (bits (now (b .entry))) at) (newest (whole rc (now (sc .entry))))) ⌝ }
+// The scope of `with`; its names stand at the place `at` of the bundle b.
+pub fn open_with(b: &[u8], front: Scope, at: usize, v: Value) -> Scope
+    requires { ⌜ (length (now b) ≤ 65536) × Holds block-names (bits (now b)) at × Fits v × (front .inline + front .count ≤ 4096) ⌝ }
+    ensures { λ r. ⌜ r ≡ with-scope v (names-view (bits (now (b .entry))) at) front ⌝ }
 {
     let names = parts::block_names_at(b, at);
-    let c = with_scope(v, names, state::front(sc, rc));
-    state::push_block(sc, rc, c)
+    with_scope(v, names, front)
 }
 
-// The scope of `each` is opened.
-pub fn open_each(b: &[u8], sc: &mut [u64], at: usize, v: Value, rc: RenderContext) -> RenderContext
-    requires { ⌜ (length (now b) ≤ 65536) × Holds block-names (bits (now b)) at × Opens (whole rc (now sc)) v × (length (now sc) ≡ 96) ⌝ }
-    ensures { λ r. ⌜ whole r (now (sc .exit)) ≡ pushed (whole rc (now (sc .entry))) (each-scope v (names-view (bits (now (b .entry))) at) (newest (whole rc (now (sc .entry))))) ⌝ }
+// The scope of `each`.
+pub fn open_each(b: &[u8], front: Scope, at: usize, v: Value) -> Scope
+    requires { ⌜ (length (now b) ≤ 65536) × Holds block-names (bits (now b)) at × Fits v × (front .inline + front .count ≤ 4096) ⌝ }
+    ensures { λ r. ⌜ r ≡ each-scope v (names-view (bits (now (b .entry))) at) front ⌝ }
 {
     let names = parts::block_names_at(b, at);
-    let c = each_scope(v, names, state::front(sc, rc));
-    state::push_block(sc, rc, c)
-}
-
-// The scope of `each` at the start of a turn. Its body has no name.
-pub fn begin_turn(
-    sc: &mut [u64],
-    rc: RenderContext,
-    item: Value,
-    key: Value,
-    k: usize,
-    object: bool,
-    last: bool,
-) -> RenderContext
-    requires { ⌜ Fits item × Fits key × (k < 65536) × (0 < rc .used) × (rc .used ≤ 32) × (length (now sc) ≡ 96) ⌝ }
-    ensures { λ r. ⌜ whole r (now (sc .exit)) ≡ with-template (set.turned (whole rc (now (sc .entry))) (turned (newest (whole rc (now (sc .entry)))) (encoded item) (encoded key) k (eqb k 0) last object)) 0 ⌝ }
-{
-    let c = turn_scope(state::front(sc, rc), item, key, k, object, last);
-    state::set_current_template_name(state::set_block(sc, rc, c), 0)
+    each_scope(v, names, front)
 }

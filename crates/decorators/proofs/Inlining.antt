@@ -1,9 +1,9 @@
 -- `inline` of the rules against what the code finds.
-use Prim.Native.Nat.{ℕ, suc, _+_, _-_, _*_, _≤_, _<_}
+use Prim.Native.Nat.{ℕ, _+_, _≤_, _<_}
 use mathlib.Core.Bool.{Bool, true, false}
 use mathlib.Core.List.{List, [], _∷_}
 use mathlib.Core.Option.{Option, none, some}
-use mathlib.Core.Path.{_≡_, refl, sym, ap, ap₂, _∙_, subst}
+use mathlib.Core.Path.{_≡_, refl, sym, ap, ap₂, _∙_}
 use native.Mathlib.Omega.{arith}
 use lib.Dec.{leb}
 use lib.ListN.{length}
@@ -14,23 +14,21 @@ use Rattle.rules.specs.Order.{differ}
 use Rattle.rules.specs.Template.{Template}
 use Rattle.rules.specs.Error.{param-not-found-for-index, invalid-param-type, block-content-required, entries-limit}
 use Rattle.rules.specs.Value.{ScopedJson, as-json}
-use Rattle.rules.specs.Partials.{Partials, no-partials, define, find}
-use Rattle.rules.specs.State.{RenderContext, first-partials, set-block-partials, entries, Res, ok, fail, choose, either}
+use Rattle.rules.specs.Partials.{Partials, define, find}
+use Rattle.rules.specs.State.{RenderContext, set-block-partials, entries, Res, ok, fail, choose, either}
 use Rattle.rules.specs.Registry.{Registry}
 use Rattle.rules.specs.BlockUtil as block-util
 use Rattle.rules.specs.Inline.{one-more, set-local-partial, inline}
 use Rattle.meaning.specs.Meaning.{json-of, scoped-of}
 use Rattle.scope.specs.declared.Scope.{Scope}
-use Rattle.scope.specs.Scopes.{partials-of, blocks-of}
-use Rattle.scope.specs.Standing.{InlineStands, ScopeStands, ScopesStand}
+use Rattle.scope.specs.Standing.{ScopeStands}
 use Rattle.scope.specs.InlineLaws.{find-none, find-here}
 use Rattle.expand.specs.declared.Expanded.{Expanded}
 use Rattle.expand.specs.Answers.{name-of, Begins}
 use Rattle.expand.proofs.Calling.{as-json-of}
-use Rattle.decorators.specs.declared.Local.{Local}
 use Rattle.decorators.specs.declared.Inlined.{Inlined}
 use Rattle.decorators.specs.declared.Inlined.the-variants.{Bad, New, Again}
-use Rattle.decorators.specs.Inlined.{is-string, has-body, newest, Unnamed, Named, LocalIs, Defines, InlinedIs, Inlining}
+use Rattle.decorators.specs.Inlined.{is-string, has-body, Unnamed, Named, Defines, InlinedIs, Inlining}
 use Rattle.decorators.proofs.Naming.{string-name, string-none}
 
 -- the rule past the first parameter, by the string that it is
@@ -75,13 +73,13 @@ some-content : (T : Option Template) → has-body T ≡ true → (B : Template) 
 some-content none h = differ (sym h)
 some-content (some B) h = (B, refl)
 
-module _ (s b : Bytes) (ent : List ℕ) (l : List Scope) (used taken : ℕ) (w : Expanded) (has : Bool) (g : Registry) (st : RenderContext) (t : ℕ) (e : block-util.Expanded) (T : Option Template)
-    (I : Inlining s b ent l used taken w has g st t e T) where
+module _ (s b : Bytes) (ent : List ℕ) (c : Scope) (taken : ℕ) (w : Expanded) (has : Bool) (g : Registry) (st : RenderContext) (t : ℕ) (e : block-util.Expanded) (T : Option Template)
+    (I : Inlining s b ent c taken w has g st t e T) where
   abbrev rule : Res
   rule = inline g (e .params) T st
 
   abbrev Is : Inlined → Type 0
-  Is = InlinedIs s b ent t (newest l used) taken w st T rule
+  Is = InlinedIs s b ent t c taken w st T rule
 
   pub no-params : w .count ≡ 0 → Is (Bad 15)
   no-params z = record { reason = param-not-found-for-index; is = go (e .params) (I .expanded .params .count); by-number = refl }
@@ -125,60 +123,43 @@ module _ (s b : Bytes) (ent : List ℕ) (l : List Scope) (used taken : ℕ) (w :
             by-number = refl;
           }
 
-      module _ (pos : 0 < used) where
-        front-partials : st .seen .block-partials ≡ partials-of s b ent (newest l used .inline) (newest l used .count)
-        front-partials =
-            let p : used ≡ suc (used - 1) = omega arith in
-            ap (first-partials no-partials) (I .setting .open-scopes ∙ ap (blocks-of s b ent l) p)
+      with-body : (B : Template) → T ≡ some B → rule ≡ set-local-partial g name B st
+      with-body B h = named ∙ ap (λ (o : Option Template). given g st o (some name)) h ∙ given-body g st name B
 
-        with-body : (B : Template) → T ≡ some B → rule ≡ set-local-partial g name B st
-        with-body B h = named ∙ ap (λ (o : Option Template). given g st o (some name)) h ∙ given-body g st name B
+      fresh : Unnamed s b ent (c .inline) (c .count) name → one-more (find name (st .seen .block-partials)) ≡ 1
+      fresh u =
+          ap (λ (m : Partials). one-more (find name m)) (I .partials)
+          ∙ ap one-more (find-none s b ent name (c .inline) (c .count) u)
 
-        fresh : Unnamed s b ent (newest l used .inline) (newest l used .count) name → one-more (find name (st .seen .block-partials)) ≡ 1
-        fresh u =
-            ap (λ (m : Partials). one-more (find name m)) front-partials
-            ∙ ap one-more (find-none s b ent name (newest l used .inline) (newest l used .count) u)
+      there : (k : ℕ) → ScopeStands s b ent c → Named s b ent (c .inline) (c .count) name k → one-more (find name (st .seen .block-partials)) ≡ 0
+      there k S n =
+          ap (λ (m : Partials). one-more (find name m)) (I .partials)
+          ∙ ap one-more (find-here s b ent name (c .inline) (c .count) (n .turn) (S .distinct) (n .within) (n .is))
 
-        there : (k : ℕ) → Named s b ent (newest l used .inline) (newest l used .count) name k → one-more (find name (st .seen .block-partials)) ≡ 0
-        there k n =
-            ap (λ (m : Partials). one-more (find name m)) front-partials
-            ∙ ap one-more (find-here s b ent name (newest l used .inline) (newest l used .count) (n .turn) (I .setting .stand .each (used - 1) (omega arith) .distinct) (n .within) (n .is))
+      room : (x : ℕ) → one-more (find name (st .seen .block-partials)) ≡ x
+          → leb (entries st + one-more (find name (st .seen .block-partials))) (g .limits .entries) ≡ leb (taken + x) 4096
+      room x h = ap₂ leb (ap₂ (λ (y z : ℕ). y + z) (I .total) h) (I .limit)
 
-        room : (x : ℕ) → one-more (find name (st .seen .block-partials)) ≡ x
-            → leb (entries st + one-more (find name (st .seen .block-partials))) (g .limits .entries) ≡ leb (taken + x) 4096
-        room x h = ap₂ leb (ap₂ (λ (y z : ℕ). y + z) (I .total) h) (I .limit)
+      defines : leb (entries st + one-more (find name (st .seen .block-partials))) (g .limits .entries) ≡ true → Defines s b ent t w st T rule (w .first)
+      defines h =
+          record {
+            first = refl;
+            stands = I .expanded .params .first;
+            name = string-name (json-of s b ent (w .first)) q;
+            result = λ B p. with-body B p ∙ defined-is g st name B h;
+          }
 
-        defines : leb (entries st + one-more (find name (st .seen .block-partials))) (g .limits .entries) ≡ true → Defines s b ent t w st T rule (w .first)
-        defines h =
-            record {
-              first = refl;
-              stands = I .expanded .params .first;
-              name = string-name (json-of s b ent (w .first)) q;
-              result = λ B p. with-body B p ∙ defined-is g st name B h;
-            }
+      pub again : (k : ℕ) → ScopeStands s b ent c → Named s b ent (c .inline) (c .count) name k → Is (Again k (w .first))
+      again k S n = let f = I .few in (defines (room 0 (there k S n) ∙ le-leb (taken + 0) 4096 (omega arith)), n)
 
-        pub again : (k : ℕ) → Named s b ent (newest l used .inline) (newest l used .count) name k → Is (Again k (w .first))
-        again k n = let f = I .few in (defines (room 0 (there k n) ∙ le-leb (taken + 0) 4096 (omega arith)), n)
+      pub new : Unnamed s b ent (c .inline) (c .count) name → taken < 4096 → Is (New (w .first))
+      new u lt = (defines (room 1 (fresh u) ∙ le-leb (taken + 1) 4096 (omega arith)), u, lt)
 
-        pub new : Unnamed s b ent (newest l used .inline) (newest l used .count) name → taken < 4096 → Is (New (w .first))
-        new u lt = (defines (room 1 (fresh u) ∙ le-leb (taken + 1) 4096 (omega arith)), u, lt)
-
-        pub full : has ≡ true → Unnamed s b ent (newest l used .inline) (newest l used .count) name → 4096 ≤ taken → Is (Bad 22)
-        full h u le =
-            let B = some-content T (sym (I .content) ∙ h) in
-            record {
-              reason = entries-limit;
-              is = with-body (B .0) (B .1) ∙ refused-is g st name (B .0) (room 1 (fresh u) ∙ lt-leb (taken + 1) 4096 (omega arith));
-              by-number = refl;
-            }
-
--- The newest of the first i scopes, as the code has read it
-
-module _ (s b : Bytes) (ent : List ℕ) (l : List Scope) (used t : ℕ) (st : ScopesStand s b ent l used t) (i : ℕ) (pos : 0 < i) (le : i ≤ used) (d : Scope) (here : d ≡ newest l i) where
-  pub front-ready : (2 * (d .inline + d .count) ≤ length ent) × ((j : ℕ) → j < d .count → InlineStands s b ent (d .inline + j))
-  front-ready =
-      let f : d .inline + d .count ≤ t = subst (λ (c : Scope). c .inline + c .count ≤ t) (sym here) (st .within (i - 1) (omega arith)) in
-      (omega (arith, st .entries), subst (ScopeStands s b ent) (sym here) (st .each (i - 1) (omega arith)) .inlines)
-
-  pub front-found : (m : Bytes) (r q : Local) → r ≡ q → LocalIs s b ent (d .inline) (d .count) m r → LocalIs s b ent (newest l i .inline) (newest l i .count) m q
-  front-found m r q e h = subst (λ (c : Scope). LocalIs s b ent (c .inline) (c .count) m q) here (subst (LocalIs s b ent (d .inline) (d .count) m) e h)
+      pub full : has ≡ true → Unnamed s b ent (c .inline) (c .count) name → 4096 ≤ taken → Is (Bad 22)
+      full h u le =
+          let B = some-content T (sym (I .content) ∙ h) in
+          record {
+            reason = entries-limit;
+            is = with-body (B .0) (B .1) ∙ refused-is g st name (B .0) (room 1 (fresh u) ∙ lt-leb (taken + 1) 4096 (omega arith));
+            by-number = refl;
+          }

@@ -19,10 +19,9 @@ use Rattle.value.specs.declared.Value.{Value}
 use Rattle.meaning.specs.Meaning.{json-of}
 use Rattle.meaning.specs.Standing.{Stands}
 use Rattle.scope.specs.declared.Scope.{Scope}
-use Rattle.scope.specs.Scopes.{inline-name, blank}
-use Rattle.expand.specs.declared.Options.{Options}
+use Rattle.scope.specs.Scopes.{inline-name, partials-of, blank}
 use Rattle.expand.specs.declared.Expanded.{Expanded}
-use Rattle.expand.specs.Answers.{Setting, name-of, IsExpanded}
+use Rattle.expand.specs.Answers.{name-of, IsExpanded}
 use Rattle.decorators.specs.declared.Local.{Local}
 use Rattle.decorators.specs.declared.Local.the-variants.{At, Nothing}
 use Rattle.decorators.specs.declared.Inlined.{Inlined}
@@ -78,20 +77,19 @@ InlinedIs s b ent t c taken w st T x (Bad n) = Fails x n
 InlinedIs s b ent t c taken w st T x (New v) = Defines s b ent t w st T x v × Unnamed s b ent (c .inline) (c .count) (name-of s b ent v) × (taken < 4096)
 InlinedIs s b ent t c taken w st T x (Again k v) = Defines s b ent t w st T x v × Named s b ent (c .inline) (c .count) (name-of s b ent v) k
 
--- what the code is handed as places and numbers; T is the element's body
-pub record Inlining (s b : Bytes) (ent : List ℕ) (l : List Scope) (used taken : ℕ) (w : Expanded) (has : Bool) (g : Registry) (st : RenderContext) (t : ℕ) (e : block-util.Expanded) (T : Option Template) : Type 0 where
-  pub options : Options
-  pub setting : Setting s b ent l used options g st t
+-- what the code is handed as places and numbers: c says the inline partials of the state; T is the element's body
+pub record Inlining (s b : Bytes) (ent : List ℕ) (c : Scope) (taken : ℕ) (w : Expanded) (has : Bool) (g : Registry) (st : RenderContext) (t : ℕ) (e : block-util.Expanded) (T : Option Template) : Type 0 where
+  pub partials : st .seen .block-partials ≡ partials-of s b ent (c .inline) (c .count)
   pub expanded : IsExpanded s b ent t w e
   pub limit : g .limits .entries ≡ 4096
   pub total : entries st ≡ taken
   pub few : taken ≤ 4096
   pub content : has ≡ has-body T
 
-abbrev pub Inlines : Bytes → Bytes → List ℕ → List Scope → ℕ → ℕ → Expanded → Bool → Inlined → Type 0
-Inlines s b ent l used taken w has r =
-    (g : Registry) (st : RenderContext) (t : ℕ) (e : block-util.Expanded) (T : Option Template) → Inlining s b ent l used taken w has g st t e T
-    → InlinedIs s b ent t (newest l used) taken w st T (inline g (e .params) T st) r
+abbrev pub Inlines : Bytes → Bytes → List ℕ → Scope → ℕ → Expanded → Bool → Inlined → Type 0
+Inlines s b ent c taken w has r =
+    (g : Registry) (st : RenderContext) (t : ℕ) (e : block-util.Expanded) (T : Option Template) → Inlining s b ent c taken w has g st t e T
+    → InlinedIs s b ent t c taken w st T (inline g (e .params) T st) r
 
 -- a name is compared either way round
 pub same-swap : (a b : Bytes) → same a b ≡ same b a

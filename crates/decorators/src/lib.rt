@@ -21,15 +21,19 @@ ghost use Rattle.meaning.specs.Standing.{Stands};
 ghost use Rattle.meaning.specs.Forms.{Known};
 ghost use Rattle.meaning.specs.Means.{Means};
 ghost use Rattle.scope.specs.Scopes.{inline-name};
-ghost use Rattle.scope.specs.Words.{scopes-of};
-ghost use Rattle.scope.specs.Standing.{InlineStands, ScopesStand};
+ghost use Rattle.scope.specs.Standing.{InlineStands, ScopeStands};
 ghost use Rattle.entries.specs.Stored.{stored};
 ghost use Rattle.expand.specs.Answers.{name-of, ExpandedHeld};
 ghost use Rattle.decorators.specs.Indents.{own, OwnStands, bytes-of};
 ghost use Rattle.decorators.specs.Inlined.{is-string, LocalIs, Inlines};
+use error::BLOCK_CONTENT_REQUIRED;
+use error::ENTRIES_LIMIT;
+use error::INVALID_PARAM_TYPE;
+use error::PARAM_NOT_FOUND_FOR_INDEX;
 use expand::Expanded;
 use meaning::Form;
 use parts::Maybe;
+use scope::Scope;
 use text::Text;
 use value::Value;
 
@@ -50,7 +54,8 @@ fn own_length(b: &[u8], at: Maybe) -> usize
 // Limit 21: whether the indent in force, of so many bytes where there is one, and the element's own fit together.
 pub fn indent_fits(b: &[u8], has: bool, len: usize, at: Maybe) -> bool
     requires { ⌜ (length (now b) ≤ 65536) × OwnStands (bits (now b)) at ⌝ }
-    ensures { λ r. ⌜ ((g : Registry) (v : Bytes) → g .limits .indent ≡ 256 → length v ≡ len → r ≡ indent-fits g (join-indent (pick has (some v) none) (own (bits (now (b .entry))) at))) ⌝ }
+    ensures { λ r. ⌜ ((g : Registry) (v : Bytes) → g .limits .indent ≡ 256 → length v ≡ len
+        → r ≡ indent-fits g (join-indent (pick has (some v) none) (own (bits (now (b .entry))) at))) ⌝ }
 {
     let n = own_length(b, at);
     if !has {
@@ -64,8 +69,10 @@ pub fn indent_fits(b: &[u8], has: bool, len: usize, at: Maybe) -> bool
 
 // The element's own indent behind the first len bytes; gives their length together.
 pub fn append_indent(indent: &mut [u8], b: &[u8], len: usize, at: Maybe) -> usize
-    requires { ⌜ (length (now b) ≤ 65536) × OwnStands (bits (now b)) at × (len + text-size (own (bits (now b)) at) ≤ length (now indent)) ⌝ }
-    ensures { λ r. ⌜ (r ≡ len + text-size (own (bits (now (b .entry))) at)) × (now (indent .exit) ≡ sets (now (indent .entry)) len (bytes-of (own (bits (now (b .entry))) at))) ⌝ }
+    requires { ⌜ (length (now b) ≤ 65536) × OwnStands (bits (now b)) at
+        × (len + text-size (own (bits (now b)) at) ≤ length (now indent)) ⌝ }
+    ensures { λ r. ⌜ (r ≡ len + text-size (own (bits (now (b .entry))) at))
+        × (now (indent .exit) ≡ sets (now (indent .entry)) len (bytes-of (own (bits (now (b .entry))) at))) ⌝ }
 {
     let Maybe::At(p) = at else {
         return len;
@@ -119,8 +126,11 @@ fn is_string(s: &[u8], tab: &[u64], b: &[u8], v: Value) -> bool
 
 // The name of the inline partial that the entry e holds.
 fn inline_name(s: &[u8], tab: &[u64], b: &[u8], ent: &[u64], e: usize) -> Text
-    requires { ⌜ Accepted (now s) (now tab) × (length (now b) ≤ 65536) × (2 * e < length (now ent)) × InlineStands (now s) (now b) (now ent) e ⌝ }
-    ensures { λ r. ⌜ (rest (now (s .entry)) (now (b .entry)) r ≡ inline-name (now (s .entry)) (now (b .entry)) (now (ent .entry)) e) × text.Stands (now (s .entry)) (now (b .entry)) r ⌝ }
+    requires { ⌜ Accepted (now s) (now tab) × (length (now b) ≤ 65536) × (2 * e < length (now ent))
+        × InlineStands (now s) (now b) (now ent) e ⌝ }
+    ensures { λ r. ⌜ (rest (now (s .entry)) (now (b .entry)) r
+        ≡ inline-name (now (s .entry)) (now (b .entry)) (now (ent .entry)) e)
+        × text.Stands (now (s .entry)) (now (b .entry)) r ⌝ }
 {
     let f = meaning::form_of(s, tab, b, value::decode(entries::low(ent, e)));
     let Form::String(t) = f else {
@@ -132,8 +142,11 @@ fn inline_name(s: &[u8], tab: &[u64], b: &[u8], ent: &[u64], e: usize) -> Text
 // Whether the inline partial that the entry e holds has the name of the string at the bit q. Most names are literals, which are strings behind three
 // bits, or strings of the bundle: the number of the value tells them by its last four bits, so that they are compared where they stand.
 fn has_name(s: &[u8], tab: &[u64], b: &[u8], ent: &[u64], e: usize, q: usize) -> bool
-    requires { ⌜ Accepted (now s) (now tab) × (length (now b) ≤ 65536) × (2 * e < length (now ent)) × InlineStands (now s) (now b) (now ent) e × Holds string (bits (now b)) q ⌝ }
-    ensures { λ r. ⌜ r ≡ same (inline-name (now (s .entry)) (now (b .entry)) (now (ent .entry)) e) (text-at (bits (now (b .entry))) q) ⌝ }
+    requires { ⌜ Accepted (now s) (now tab) × (length (now b) ≤ 65536) × (2 * e < length (now ent))
+        × InlineStands (now s) (now b) (now ent) e × Holds string (bits (now b)) q ⌝ }
+    ensures { λ r. ⌜ r
+        ≡ same (inline-name (now (s .entry)) (now (b .entry)) (now (ent .entry)) e)
+        (text-at (bits (now (b .entry))) q) ⌝ }
 {
     let n = entries::low(ent, e);
     let p = (n / 16) as usize;
@@ -161,8 +174,10 @@ fn get_named_partial(
     n: usize,
     q: usize,
 ) -> Local
-    requires { ⌜ Accepted (now s) (now tab) × (length (now b) ≤ 65536) × Holds string (bits (now b)) q × (2 * (e + n) ≤ length (now ent)) × ((i : ℕ) → i < n → InlineStands (now s) (now b) (now ent) (e + i)) ⌝ }
-    ensures { λ r. ⌜ LocalIs (now (s .entry)) (now (b .entry)) (now (ent .entry)) e n (text-at (bits (now (b .entry))) q) r ⌝ }
+    requires { ⌜ Accepted (now s) (now tab) × (length (now b) ≤ 65536) × Holds string (bits (now b)) q
+        × (2 * (e + n) ≤ length (now ent)) × ((i : ℕ) → i < n → InlineStands (now s) (now b) (now ent) (e + i)) ⌝ }
+    ensures { λ r. ⌜ LocalIs (now (s .entry)) (now (b .entry)) (now (ent .entry)) e n
+        (text-at (bits (now (b .entry))) q) r ⌝ }
 {
     let mut i: usize = 0;
     while i < n {
@@ -184,8 +199,11 @@ fn get_printed_partial(
     n: usize,
     v: Value,
 ) -> Local
-    requires { ⌜ Accepted (now s) (now tab) × (length (now b) ≤ 65536) × Known (now s) (now b) v × (2 * (e + n) ≤ length (now ent)) × ((i : ℕ) → i < n → InlineStands (now s) (now b) (now ent) (e + i)) ⌝ }
-    ensures { λ r. ⌜ ((t : ℕ) → Stands (now (s .entry)) (now (b .entry)) (now (ent .entry)) t v → LocalIs (now (s .entry)) (now (b .entry)) (now (ent .entry)) e n (name-of (now (s .entry)) (now (b .entry)) (now (ent .entry)) v) r) ⌝ }
+    requires { ⌜ Accepted (now s) (now tab) × (length (now b) ≤ 65536) × Known (now s) (now b) v
+        × (2 * (e + n) ≤ length (now ent)) × ((i : ℕ) → i < n → InlineStands (now s) (now b) (now ent) (e + i)) ⌝ }
+    ensures { λ r. ⌜ ((t : ℕ) → Stands (now (s .entry)) (now (b .entry)) (now (ent .entry)) t v
+        → LocalIs (now (s .entry)) (now (b .entry)) (now (ent .entry)) e n
+        (name-of (now (s .entry)) (now (b .entry)) (now (ent .entry)) v) r) ⌝ }
 {
     let mut i: usize = 0;
     while i < n {
@@ -208,8 +226,11 @@ pub fn get_local_partial(
     n: usize,
     v: Value,
 ) -> Local
-    requires { ⌜ Accepted (now s) (now tab) × (length (now b) ≤ 65536) × Known (now s) (now b) v × (2 * (e + n) ≤ length (now ent)) × ((i : ℕ) → i < n → InlineStands (now s) (now b) (now ent) (e + i)) ⌝ }
-    ensures { λ r. ⌜ ((t : ℕ) → Stands (now (s .entry)) (now (b .entry)) (now (ent .entry)) t v → LocalIs (now (s .entry)) (now (b .entry)) (now (ent .entry)) e n (name-of (now (s .entry)) (now (b .entry)) (now (ent .entry)) v) r) ⌝ }
+    requires { ⌜ Accepted (now s) (now tab) × (length (now b) ≤ 65536) × Known (now s) (now b) v
+        × (2 * (e + n) ≤ length (now ent)) × ((i : ℕ) → i < n → InlineStands (now s) (now b) (now ent) (e + i)) ⌝ }
+    ensures { λ r. ⌜ ((t : ℕ) → Stands (now (s .entry)) (now (b .entry)) (now (ent .entry)) t v
+        → LocalIs (now (s .entry)) (now (b .entry)) (now (ent .entry)) e n
+        (name-of (now (s .entry)) (now (b .entry)) (now (ent .entry)) v) r) ⌝ }
 {
     if let Value::Text(q) = v {
         return get_named_partial(s, tab, b, ent, e, n, q);
@@ -217,32 +238,32 @@ pub fn get_local_partial(
     get_printed_partial(s, tab, b, ent, e, n, v)
 }
 
-// What `inline` does with a body, where there is one; so many entries are taken.
+// What `inline` does with a body, where there is one. c is the newest scope, and so many entries are taken.
 pub fn inline(
     s: &[u8],
     tab: &[u64],
     b: &[u8],
     ent: &[u64],
-    sc: &[u64],
-    used: usize,
+    c: Scope,
     total: usize,
     w: Expanded,
     has_body: bool,
 ) -> Inlined
-    requires { ⌜ Accepted (now s) (now tab) × (length (now b) ≤ 65536) × (0 < used) × (used ≤ 32) × ((t : ℕ) × ScopesStand (now s) (now b) (now ent) (scopes-of (now sc)) used t) × ExpandedHeld (now s) (now b) (now ent) w × (length (now sc) ≡ 96) ⌝ }
-    ensures { λ r. ⌜ Inlines (now (s .entry)) (now (b .entry)) (now (ent .entry)) (scopes-of (now (sc .entry))) used total w «has_body» r ⌝ }
+    requires { ⌜ Accepted (now s) (now tab) × (length (now b) ≤ 65536)
+        × ScopeStands (now s) (now b) (now ent) c × (2 * (c .inline + c .count) ≤ length (now ent))
+        × ExpandedHeld (now s) (now b) (now ent) w ⌝ }
+    ensures { λ r. ⌜ Inlines (now (s .entry)) (now (b .entry)) (now (ent .entry)) c total w «has_body» r ⌝ }
 {
     let v = w.first;
     if w.count == 0 {
-        return Inlined::Bad(15);
+        return Inlined::Bad(PARAM_NOT_FOUND_FOR_INDEX);
     }
     if !is_string(s, tab, b, v) {
-        return Inlined::Bad(18);
+        return Inlined::Bad(INVALID_PARAM_TYPE);
     }
     if !has_body {
-        return Inlined::Bad(19);
+        return Inlined::Bad(BLOCK_CONTENT_REQUIRED);
     }
-    let c = scope::scope_at(sc, used - 1);
     let found = get_local_partial(s, tab, b, ent, c.inline as usize, c.count as usize, v);
     if let Local::At(k) = found {
         return Inlined::Again(k, v);
@@ -250,7 +271,7 @@ pub fn inline(
     if total < 4096 {
         return Inlined::New(v);
     }
-    Inlined::Bad(22)
+    Inlined::Bad(ENTRIES_LIMIT)
 }
 
 // Keeps an inline partial in the entry k: its name as a number, the depths that its body has left, and the place of its body.

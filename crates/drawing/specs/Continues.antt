@@ -1,7 +1,7 @@
 -- The beginning of a block or a partial leaves a body to be drawn, and something to be done behind it: w is in front of the element, w₁ in front of the body.
 use Prim.Native.Nat.{ℕ, _+_, _≤_}
 use mathlib.Core.Bool.{Bool, true, false}
-use mathlib.Core.Path.{_≡_, refl, ap, _∙_}
+use mathlib.Core.Path.{_≡_, refl, ap, _∙_, subst}
 use lib.Dec.{eqb}
 use borrow.Author.Tests.{eqb-true, eqb-false, eq-eqb, ne-eqb}
 use Rattle.rules.specs.Bytes.{Bytes, pick}
@@ -41,3 +41,7 @@ unless-both f g same c = go (eqb (c .bad) 0) refl
     go : (y : Bool) → eqb (c .bad) 0 ≡ y → unless-bad f (pick y (g c) c) ≡ pick y (f (g c)) c
     go true e = unless-fine f (g c) (same c ∙ eqb-true (c .bad) 0 e)
     go false e = unless-not f c (eqb-false (c .bad) 0 e)
+
+-- a body that was refused leaves nothing to be done
+pub continues-refused : (s b : Bytes) (o : Options) (w w₁ w₂ : World) (k : ℕ) (inner rule : Registry → Rendering → Draw) (f : RenderContext → RenderContext) → Continues s b o w w₁ k inner rule (unless-bad f) → (w₂ .rc .bad ≡ 0 → ⊥) → Renders s b o w₁ w₂ inner → Renders s b o w w₂ rule
+continues-refused s b o w w₁ w₂ k inner rule f C n d = subst (λ (c : RenderContext). Renders s b o w (over c w₂) rule) (unless-not f (w₂ .rc) n) (C .done w₂ d)

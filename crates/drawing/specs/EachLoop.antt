@@ -43,6 +43,9 @@ use Rattle.scope.specs.declared.Scope.{Scope}
 use Rattle.scope.specs.Scopes.{blank, context-of}
 use Rattle.scope.specs.Standing.{ScopeStands}
 use Rattle.scope.specs.Made as made
+use Rattle.scope.specs.NameBits.{Covers}
+use Rattle.scope.specs.Names.{Readable}
+use Rattle.scope.specs.NamesLaws.{readable}
 use Rattle.scope.specs.MadeLaws.{child-is, child-stands, with-names-stands, names-anew, turn-object}
 use Rattle.turns.specs.Listed.{before-end}
 use Rattle.turns.specs.Turning.{is-map, TurnAt, TurnBefore}
@@ -51,12 +54,14 @@ use Rattle.turns.specs.declared.Turn.the-variants.{Item, End}
 use Rattle.turns.proofs.Laws.{base-first, base-next, turn-kept, turn-below}
 use Rattle.including.specs.ValuesLaws.{stands-fits}
 use Rattle.expand.specs.declared.Options.{Options}
+use Rattle.state.specs.Context.{RenderContext}
 use Rattle.state.specs.Setters as set
 use Rattle.state.specs.World.{World, over, front, top, abs, Ready, Sizes, Goes, Draws}
 use Rattle.state.specs.Steps.{Within, abs-open, within-open, goes-template}
 use Rattle.blocks.specs.Opened.{each-scope, Opens}
 use Rattle.drawing.specs.Renders.{registry-of, Renders, Openable}
 use Rattle.drawing.specs.Members.{body-drawn}
+use Rattle.drawing.specs.Continues.{Continues, unless-fine}
 use Rattle.drawing.specs.Turning.{Turning, turning-start, turning-end}
 use Rattle.drawing.specs.EachTurn.{EachScope, each-ready, each-stop, each-more, each-more-block}
 
@@ -136,12 +141,12 @@ module _ (s b : Bytes) (w : World) (v : Value) (r : Ready s b w) (q : Openable s
   each-bare (Single p) = record { starts = refl; none-yet = refl; no-block = refl; no-text = refl; sum = omega arith }
   each-bare (Pair p z) = record { starts = refl; none-yet = refl; no-block = refl; no-text = refl; sum = omega arith }
 
-  module _ (ns : BlockParam) (held : NamesHold (bits b) ns) (follow : Follow b ns) where
+  module _ (ns : BlockParam) (held : NamesHold (bits b) ns) (follow : Follow b ns) (m : ℕ) (covers : Covers m b (w .ent) (each-scope v ns (front w))) where
     abbrev first : Scope
     first = each-scope v ns (front w)
 
     abbrev w₁ : World
-    w₁ = over (set.pushed (w .rc) first) w
+    w₁ = over (set.pushed (w .rc) first m) w
 
     le : top w ≤ first .inline
     le = omega (arith, each-bare ns .starts)
@@ -150,10 +155,10 @@ module _ (s b : Bytes) (w : World) (v : Value) (r : Ready s b w) (q : Openable s
     ge = omega (arith, each-bare ns .starts, r .enough)
 
     within-each : Within s b [] w w₁
-    within-each = within-open s b w first (w .rc .total) r (q .room) (each-there ns held follow) le (each-bare ns .none-yet) (each-bare ns .no-block) (each-bare ns .no-text) (each-bare ns .sum) (r .few) ge
+    within-each = within-open s b w first (w .rc .total) r (q .room) (each-there ns held follow) le (each-bare ns .none-yet) (each-bare ns .no-block) (each-bare ns .no-text) (each-bare ns .sum) (r .few) ge m covers
 
     abs-each : abs s b w₁ ≡ push-block (context-of s b (w .ent) first) (abs s b w)
-    abs-each = abs-open s b w first (w .rc .total) r (q .room) (each-there ns held follow) le (each-bare ns .none-yet) (each-bare ns .no-block) (each-bare ns .no-text) (each-bare ns .sum) (r .few) ge
+    abs-each = abs-open s b w first (w .rc .total) r (q .room) (each-there ns held follow) le (each-bare ns .none-yet) (each-bare ns .no-block) (each-bare ns .no-text) (each-bare ns .sum) (r .few) ge m covers
 
     newest : front w₁ ≡ first
     newest = let e : w .rc .used + 1 - 1 ≡ w .rc .used = omega arith in ap (λ (i : ℕ). getD (w₁ .rc .scopes) i blank) e ∙ getD-set-same (w .rc .scopes) (w .rc .used) first blank (omega (arith, r .sized, q .room))
@@ -201,14 +206,22 @@ module _ (s b : Bytes) (o : Options) (w : World) (d at p : ℕ) (v : Value) (r :
   parts : NamesHold (bits b) ns
   parts = names-stand (bits b) at held .parts
 
-  pub each-begun : (turn : Told) → TurnAt s b (w .ent) (top w) v 0 turn → EachGoing (over (set.pushed (w .rc) (each-scope v ns (front w))) w) 0 turn
+  -- its names can be read
+  pub each-readable : Readable b (w .ent) (each-scope v ns (front w))
+  each-readable = readable s b (w .ent) (each-scope v ns (front w)) (each-there s b w v r q each-fits ns parts follow) (omega (arith, each-bare s b w v r q each-fits ns .starts, near, r .table))
+
+  pub each-empty : each-scope v ns (front w) .count ≡ 0
+  each-empty = each-bare s b w v r q each-fits ns .none-yet
+
+  -- its names are in the set m
+  pub each-begun : (m : ℕ) → Covers m b (w .ent) (each-scope v ns (front w)) → (turn : Told) → TurnAt s b (w .ent) (top w) v 0 turn → EachGoing (over (set.pushed (w .rc) (each-scope v ns (front w)) m) w) 0 turn
   unfolding turning-start
-  each-begun turn u =
-      let e = newest s b w v r q each-fits ns parts follow in
+  each-begun m covers turn u =
+      let e = newest s b w v r q each-fits ns parts follow m covers in
       let bare = each-bare s b w v r q each-fits ns in
       record {
-        going = turning-start s b o w r F (each-turns J) (create-block Z) T (over (set.pushed (w .rc) (each-scope v ns (front w))) w) (within-each s b w v r q each-fits ns parts follow)
-            (ap (λ (x : Scope). x .block) e ∙ bare .no-block) (ap (λ (x : Scope). x .text) e ∙ bare .no-text) (context-of s b (w .ent) (each-scope v ns (front w))) (abs-each s b w v r q each-fits ns parts follow);
+        going = turning-start s b o w r F (each-turns J) (create-block Z) T (over (set.pushed (w .rc) (each-scope v ns (front w)) m) w) (within-each s b w v r q each-fits ns parts follow m covers)
+            (ap (λ (x : Scope). x .block) e ∙ bare .no-block) (ap (λ (x : Scope). x .text) e ∙ bare .no-text) (context-of s b (w .ent) (each-scope v ns (front w))) (abs-each s b w v r q each-fits ns parts follow m covers);
         anew = λ t. each-anew s b w v r q each-fits ns follow t ∙ ap (λ (x : Scope). F t (context-of s b (w .ent) x)) (sym e);
         scope = subst (EachScope s b v ns J 0) (sym e) (each-first s b w v r q each-fits ns follow);
         next = u;
@@ -228,10 +241,20 @@ module _ (s b : Bytes) (o : Options) (w : World) (d at p : ℕ) (v : Value) (r :
     means-same : (turn : Told) → EachGoing l k turn → J ≡ json-of s b (l .ent) v
     means-same turn E = kept s b (w .ent) (l .ent) (top w) v (E .going .within .agree) (q .stands) .means
 
-    pub each-ended : EachGoing l k End → Renders s b o w (over (set.closed (l .rc) (w .rc .total)) l) (each-rule s b w d at p v)
+    pub each-ended : EachGoing l k End → Renders s b o w (over (set.closed (w .rc) (l .rc)) l) (each-rule s b w d at p v)
     each-ended E =
-        renders-named (over (set.closed (l .rc) (w .rc .total)) l)
+        renders-named (over (set.closed (w .rc) (l .rc)) l)
         (turning-end s b o w r F (each-turns J) (create-block Z) T l k (E .going) (subst (λ (j : Json). length (each-turns j) ≤ k) (sym (means-same End E)) (E .next)))
+
+    -- behind it the marks are settled: w₀ is in front of the element, and has the same open scopes as w
+    pub each-finished : (w₀ : World) (rule : Registry → Rendering → Draw) → Continues s b o w₀ w 0 (each-rule s b w d at p v) rule (set.finished (w₀ .rc .writer))
+        → ((c : RenderContext) → set.closed (w .rc) c ≡ set.closed (w₀ .rc) c) → EachGoing l k End → Renders s b o w₀ (over (set.finished-within (w₀ .rc) (l .rc)) l) rule
+    each-finished w₀ rule C same E =
+        let e : l .rc .bad ≡ 0 = E .going .within .ready .fine in
+        let m = w₀ .rc .writer in
+        let f : set.finished m (set.closed (w .rc) (l .rc)) ≡ set.finished-within (w₀ .rc) (l .rc) =
+        unless-fine (λ c. set.settled c m) (set.closed (w .rc) (l .rc)) e ∙ ap (λ (c : RenderContext). set.settled c m) (same (l .rc)) ∙ sym (unless-fine (λ c. set.settled (set.closed (w₀ .rc) c) m) (l .rc) e) in
+        subst (λ (c : RenderContext). Renders s b o w₀ (over c l) rule) f (C .done (over (set.closed (w .rc) (l .rc)) l) (each-ended E))
 
     pub each-used : (turn : Told) → EachGoing l k turn → l .rc .used ≡ suc (w .rc .used)
     each-used turn E = E .going .within .used

@@ -33,7 +33,7 @@ use Rattle.members.specs.Turns.{each-turns}
 use Rattle.scope.specs.declared.Scope.{Scope}
 use Rattle.scope.specs.Scopes.{blank, base-of, over-object, context-of}
 use Rattle.scope.specs.Standing.{ScopeStands}
-use Rattle.scope.specs.Made.{with-count}
+use Rattle.scope.specs.NameBits.{Covers, covers-turn}
 use Rattle.scope.specs.MadeLaws.{turned-stands, turn-object}
 use Rattle.turns.specs.declared.Turn.{Turn as Told}
 use Rattle.turns.specs.Turning.{is-map, TurnIs}
@@ -124,20 +124,23 @@ module _ (s b : Bytes) (o : Options) (w : World) (r : Ready s b w) (v : Value) (
     merged : context-of s b (l .ent) c .merged-entries ≡ context-of s b (l .ent) (front l) .merged-entries
     merged = unmerged s b (l .ent) c (E .few) ∙ sym (unmerged s b (l .ent) (front l) (E .few))
 
+    covers : Covers (l .rc .names) b (l .ent) c
+    covers = covers-turn (l .rc .names) b (l .ent) (front l) c refl refl (E .few) (G .within .ready .covered (l .rc .used - 1) (omega (arith, G .within .ready .one)))
+
     abbrev l₁ : World
     l₁ = over (set.turned (l .rc) c) l
 
     pub each-ready : Ready s b l₁
-    each-ready = turning-within s b o w r F (each-turns J) (create-block Z) T l k G (I .turn) here c there refl refl refl refl merged is .ready
+    each-ready = turning-within s b o w r F (each-turns J) (create-block Z) T l k G (I .turn) here c there refl refl refl refl merged covers is .ready
 
     module _ (l₂ : World) (d : Renders s b o l₁ l₂ (λ g R. render-or-nothing (render-body g R T))) where
       pub each-stop : (l₂ .rc .bad ≡ 0 → ⊥) → (f : ℕ) → 32 ≤ f + w .rc .used
           → Draws s b w l₂ (pop-block after turns F (render-or-nothing (render-body (registry-of s b o (length (w .page))) (render-template (registry-of s b o (length (w .page))) f) T)) (each-turns J) (push-block (create-block Z) (abs s b w)))
-      each-stop n f le = turning-stop s b o w r F (each-turns J) (create-block Z) T l k G (I .turn) here c there refl refl refl refl merged is l₂ d n f le
+      each-stop n f le = turning-stop s b o w r F (each-turns J) (create-block Z) T l k G (I .turn) here c there refl refl refl refl merged covers is l₂ d n f le
 
       pub each-more : l₂ .rc .bad ≡ 0 → Going l₂ (suc k)
-      each-more e = turning-more s b o w r F (each-turns J) (create-block Z) T l k G (I .turn) here c there refl refl refl refl merged is l₂ d e
+      each-more e = turning-more s b o w r F (each-turns J) (create-block Z) T l k G (I .turn) here c there refl refl refl refl merged covers is l₂ d e
 
       pub each-more-block : (e : l₂ .rc .bad ≡ 0) → each-more e .block ≡ context-of s b (l₂ .ent) (front l₂)
       unfolding each-more
-      each-more-block e = more-block s b o w r F (each-turns J) (create-block Z) T l k G (I .turn) here c there refl refl refl refl merged is l₂ d e
+      each-more-block e = more-block s b o w r F (each-turns J) (create-block Z) T l k G (I .turn) here c there refl refl refl refl merged covers is l₂ d e

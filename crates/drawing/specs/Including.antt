@@ -31,6 +31,9 @@ use Rattle.scope.specs.declared.Scope.{Scope}
 use Rattle.scope.specs.Scopes.{blank, context-of}
 use Rattle.scope.specs.Standing.{ScopeStands}
 use Rattle.scope.specs.Made.{child, with-names, with-locals}
+use Rattle.scope.specs.NameBits.{Covers}
+use Rattle.scope.specs.Names.{Readable}
+use Rattle.scope.specs.NamesLaws.{readable}
 use Rattle.expand.specs.declared.Options.{Options}
 use Rattle.including.specs.Included.{included}
 use Rattle.including.specs.Pairs.{with-pairs}
@@ -93,9 +96,14 @@ module _ (s b : Bytes) (o : Options) (w : World) (r : Ready s b w) (base : Value
         subst (Draws s b w (over (failed (w .rc) 23) w₀)) (sym (within-entries-limit le ∙ ap (λ (y : Bool). choose y (λ _. inside) (λ _. fail scopes-limit)) e))
         (draws-fail s b w (over (failed (w .rc) 23) w₀) scopes-limit refl (r .nowhere) (r .nameless))
 
-    module _ (le : w .rc .total + m ≤ 4096) (lt : w .rc .used < 32) where
+    -- the names of its scope can be read
+    pub include-readable : w .rc .total + m ≤ 4096 → Readable b ent c
+    include-readable le = readable s b ent c (I .stands (omega (arith, le))) (omega (arith, I .behind, I .long, taken, r .enough, r .table))
+
+    -- its names are in the set k
+    module _ (le : w .rc .total + m ≤ 4096) (lt : w .rc .used < 32) (k : ℕ) (covers : Covers k b ent c) where
       abbrev w₁ : World
-      w₁ = over (pushed (counted (w .rc) (w .rc .total + m)) c) w₀
+      w₁ = over (pushed (counted (w .rc) (w .rc .total + m)) c k) w₀
 
       ready₀ : Ready s b w₀
       ready₀ = ready-entries s b w ent r (I .agree) (I .long)
@@ -118,7 +126,7 @@ module _ (s b : Bytes) (o : Options) (w : World) (r : Ready s b w) (base : Value
       enough = omega (arith, I .behind, taken, r .enough)
 
       pub include-within : Within s b [] w w₁
-      include-within = within-entries s b w ent r (I .agree) (I .long) [] w₁ (within-open s b w₀ c (w .rc .total + m) ready₀ lt (I .stands (omega (arith, le))) starts (I .empty) (no-block .0) (no-block .1) sum le enough)
+      include-within = within-entries s b w ent r (I .agree) (I .long) [] w₁ (within-open s b w₀ c (w .rc .total + m) ready₀ lt (I .stands (omega (arith, le))) starts (I .empty) (no-block .0) (no-block .1) sum le enough k covers)
 
       newest : front w₁ ≡ c
       newest = let e : w .rc .used + 1 - 1 ≡ w .rc .used = omega arith in ap (λ (i : ℕ). getD (w₁ .rc .scopes) i blank) e ∙ getD-set-same (w .rc .scopes) (w .rc .used) c blank (omega (arith, r .sized))
@@ -142,7 +150,7 @@ module _ (s b : Bytes) (o : Options) (w : World) (r : Ready s b w) (base : Value
 
       pub include-abs : abs s b w₁ ≡ push-block (include-block (abs s b w) h (merge-json j h)) (abs s b w)
       include-abs =
-          abs-open s b w₀ c (w .rc .total + m) ready₀ lt (I .stands (omega (arith, le))) starts (I .empty) (no-block .0) (no-block .1) sum le enough
+          abs-open s b w₀ c (w .rc .total + m) ready₀ lt (I .stands (omega (arith, le))) starts (I .empty) (no-block .0) (no-block .1) sum le enough k covers
           ∙ ap₂ push-block (I .scope ∙ locals-same) (sym (abs-entries s b w ent r (I .agree) (I .long)))
 
       pub include-drawn : drawn ≡ block-text-of F O (render-partial (abs s b w .seen .current-template) (abs s b w .kept .indent-string) ind D) (abs s b w₁)

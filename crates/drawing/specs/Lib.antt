@@ -1,5 +1,6 @@
 pub mod Parts
 pub mod Renders
+pub mod Arrays
 pub mod Loop
 pub mod Members
 pub mod Continues
@@ -9,6 +10,7 @@ pub mod Withs
 pub mod Turning
 pub mod EachTurn
 pub mod EachLoop
+pub mod EachArray
 pub mod Including
 pub mod Expanding
 pub mod Enclosed

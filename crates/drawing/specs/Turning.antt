@@ -19,6 +19,7 @@ use Rattle.rules.specs.Render.{render-body, render-template}
 use Rattle.scope.specs.declared.Scope.{Scope}
 use Rattle.scope.specs.Scopes.{blank, context-of}
 use Rattle.scope.specs.Standing.{ScopeStands}
+use Rattle.scope.specs.NameBits.{Covers}
 use Rattle.expand.specs.declared.Options.{Options}
 use Rattle.state.specs.Setters.{turned, closed}
 use Rattle.state.specs.World.{World, over, front, abs, error-of, Ready, Goes, Draws}
@@ -71,14 +72,14 @@ module _ (s b : Bytes) (o : Options) (w : World) (r : Ready s b w) (F : Turn →
   }
 
   module _ (l : World) (k : ℕ) (t : Turning l k) where
-    pub turning-end : length ts ≤ k → (f : ℕ) → 32 ≤ f + w .rc .used → Draws s b w (over (closed (l .rc) (w .rc .total)) l) (pop-block after turns F (D f) ts (push-block B (abs s b w)))
+    pub turning-end : length ts ≤ k → (f : ℕ) → 32 ≤ f + w .rc .used → Draws s b w (over (closed (w .rc) (l .rc)) l) (pop-block after turns F (D f) ts (push-block B (abs s b w)))
     unfolding turns prefixed _after_
     turning-end ge f le =
         let deep : 2 ≤ depth (abs s b l) = omega (arith, depth-abs s b l (t .within .ready .one), t .within .used, r .one) in
         let none-left : drop k ts ≡ [] = drop-of-length-le ts ge in
         let e : turns F (D f) ts (push-block B (abs s b w)) ≡ ok (set-block (t .block) (abs s b l)) (t .text) =
         t .rest f le ∙ ap (λ (x : List Turn). prefixed (t .text) (turns F (D f) x (set-block (t .block) (abs s b l)))) none-left ∙ ap (ok (set-block (t .block) (abs s b l))) (append-nil (t .text)) in
-        let is : (pop-block after turns F (D f) ts (push-block B (abs s b w))) ≡ ok (abs s b (over (closed (l .rc) (w .rc .total)) l)) (t .text) =
+        let is : (pop-block after turns F (D f) ts (push-block B (abs s b w))) ≡ ok (abs s b (over (closed (w .rc) (l .rc)) l)) (t .text) =
         ap (λ (x : Res). pop-block after x) e ∙ ap (λ (c : rules.RenderContext). ok c (t .text)) (pop-set (t .block) (abs s b l) deep ∙ abs-close s b (t .text) w l (r .one) r (t .within) (t .no-block) (t .no-text)) in
         let goes = goes-close s b (t .text) w l (r .one) r (t .within) (t .no-block) (t .no-text) in
         record { fine = λ z. record { text = t .text; is = is; goes = goes }; refused = λ z. absurd (z (goes .ready .fine)) }
@@ -86,15 +87,15 @@ module _ (s b : Bytes) (o : Options) (w : World) (r : Ready s b w) (F : Turn →
     -- one more, in the scope c
     module _ (u : Turn) (here : drop k ts ≡ u ∷ drop (suc k) ts) (c : Scope) (st : ScopeStands s b (l .ent) c) (inline : c .inline ≡ front l .inline) (count : c .count ≡ front l .count)
         (block : c .block ≡ front l .block) (text : c .text ≡ front l .text) (merged : context-of s b (l .ent) c .merged-entries ≡ context-of s b (l .ent) (front l) .merged-entries)
-        (is : context-of s b (l .ent) c ≡ F u (t .block)) where
+        (covers : Covers (l .rc .names) b (l .ent) c) (is : context-of s b (l .ent) c ≡ F u (t .block)) where
       abbrev l₁ : World
       l₁ = over (turned (l .rc) c) l
 
       pub turning-within : Within s b (t .text) w l₁
-      turning-within = within-change s b (t .text) w l c (t .within) st inline count block text merged
+      turning-within = within-change s b (t .text) w l c (t .within) st inline count block text merged covers
 
       turned-is : abs s b l₁ ≡ set-block (F u (t .block)) (set-block (t .block) (abs s b l))
-      turned-is = abs-change s b (t .text) w l c (t .within) st inline count block text merged ∙ ap (λ (x : BlockContext). set-block x (abs s b l)) is
+      turned-is = abs-change s b (t .text) w l c (t .within) st inline count block text merged covers ∙ ap (λ (x : BlockContext). set-block x (abs s b l)) is
 
       module _ (l₂ : World) (d : Renders s b o l₁ l₂ (λ g R. render-or-nothing (render-body g R T))) where
         one : (f : ℕ) → 32 ≤ f + w .rc .used → Draws s b l₁ l₂ (D f (abs s b l₁))

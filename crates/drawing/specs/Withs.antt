@@ -5,7 +5,7 @@ use mathlib.Core.List.{List, []}
 use mathlib.Core.Option.{Option, none, some}
 use mathlib.Core.Path.{_≡_, refl, sym, ap, _∙_, subst}
 use native.Mathlib.Omega.{arith}
-use lib.ListN.{length, getD}
+use lib.ListN.{length, getD, set}
 use lib.Seq.{getD-set-same}
 use Rattle.rules.specs.Bytes.{Bytes}
 use Rattle.rules.specs.Bits.{bits}
@@ -24,6 +24,9 @@ use Rattle.value.specs.Numbers.{Fits}
 use Rattle.meaning.specs.Meaning.{scoped-of}
 use Rattle.scope.specs.declared.Scope.{Scope}
 use Rattle.scope.specs.Scopes.{blank}
+use Rattle.scope.specs.Names.{Readable}
+use Rattle.scope.specs.NamesLaws.{readable}
+use Rattle.scope.specs.NameBits.{Covers, covers-full}
 use Rattle.expand.specs.declared.Options.{Options}
 use Rattle.state.specs.Setters.{pushed, closed}
 use Rattle.state.specs.World.{World, over, front, abs, Ready, Draws}
@@ -34,15 +37,28 @@ use Rattle.blocks.specs.Opened.{with-scope}
 use Rattle.blocks.specs.Laws.{within-with, abs-with}
 use Rattle.drawing.specs.Renders.{registry-of, Renders, Openable}
 
-module _ (s b : Bytes) (o : Options) (w : World) (v : Value) (ns : BlockParam) (T : template.Body) (r : Ready s b w) (q : Openable s b w v) (fits : Fits v) (held : NamesHold (bits b) ns) where
+-- the names of its scope can be read
+pub with-readable : (s b : Bytes) (w : World) (v : Value) (ns : BlockParam) → Ready s b w → Openable s b w v → Fits v → NamesHold (bits b) ns → Readable b (w .ent) (with-scope v ns (front w))
+with-readable s b w v ns r q fits held =
+    let c = with-scope v ns (front w) in
+    let n = w .rc .used in
+    let k : List Scope = set (w .rc .scopes) n c in
+    let h = within-with s b w v r (q .room) (q .stands) (q .present) fits ns held 18446744073709551615 (covers-full b (w .ent) c) in
+    let e : getD k n blank ≡ c = getD-set-same (w .rc .scopes) n c blank (omega (arith, r .sized, q .room)) in
+    subst (Readable b (w .ent)) e
+    (readable s b (w .ent) (getD k n blank) (h .ready .scopes .each n (omega arith)) (omega (arith, h .ready .scopes .within n (omega arith), h .ready .enough, r .few, r .table)))
+
+-- its names are in the set m
+module _ (s b : Bytes) (o : Options) (w : World) (v : Value) (ns : BlockParam) (T : template.Body) (r : Ready s b w) (q : Openable s b w v) (fits : Fits v) (held : NamesHold (bits b) ns)
+    (m : ℕ) (covers : Covers m b (w .ent) (with-scope v ns (front w))) where
   abbrev c : Scope
   c = with-scope v ns (front w)
 
   abbrev w₁ : World
-  w₁ = over (pushed (w .rc) c) w
+  w₁ = over (pushed (w .rc) c m) w
 
   opened : Within s b [] w w₁
-  opened = within-with s b w v r (q .room) (q .stands) (q .present) fits ns held
+  opened = within-with s b w v r (q .room) (q .stands) (q .present) fits ns held m covers
 
   newest : front w₁ ≡ c
   newest = let e : w .rc .used + 1 - 1 ≡ w .rc .used = omega arith in ap (λ (i : ℕ). getD (w₁ .rc .scopes) i blank) e ∙ getD-set-same (w .rc .scopes) (w .rc .used) c blank (omega (arith, r .sized, q .room))
@@ -64,9 +80,9 @@ module _ (s b : Bytes) (o : Options) (w : World) (v : Value) (ns : BlockParam) (
     inside : (f : ℕ) → 32 ≤ f + w .rc .used → Draws s b w₁ w₂ (render-or-nothing (render-body (registry-of s b o (length (w .page))) (render-template (registry-of s b o (length (w .page))) f) T) (push-block (with-block (abs s b w) (names-says (bits b) ns) (scoped-of s b (w .ent) v)) (abs s b w)))
     inside f le =
         subst (λ (x : rules.RenderContext). Draws s b w₁ w₂ (render-or-nothing (render-body (registry-of s b o (length (w .page))) (render-template (registry-of s b o (length (w .page))) f) T) x))
-        (abs-with s b w v r (q .room) (q .stands) (q .present) fits ns held) (D .at f (omega arith))
+        (abs-with s b w v r (q .room) (q .stands) (q .present) fits ns held m covers) (D .at f (omega arith))
 
-    pub with-done : w₂ .rc .bad ≡ 0 → Renders s b o w (over (closed (w₂ .rc) (w .rc .total)) w₂) rule
+    pub with-done : w₂ .rc .bad ≡ 0 → Renders s b o w (over (closed (w .rc) (w₂ .rc)) w₂) rule
     with-done e = record {
       at = λ f le. draws-close s b w w₁ w₂ _ r opened (ap (λ (x : Scope). x .block) newest ∙ no-block ns) (ap (λ (x : Scope). x .text) newest ∙ no-text ns) (inside f le) e;
     }

@@ -35,7 +35,10 @@ use Rattle.meaning.specs.Meaning.{json-of, scoped-of, context-place}
 use Rattle.meaning.specs.MeaningLaws.{plain-is}
 use Rattle.meaning.specs.Standing.{Stands, plain}
 use Rattle.lookup.specs.Answers.{IsFound}
-use Rattle.context.specs.Evaluated.{present}
+use Rattle.context.proofs.Evaluated.{the-type as evaluated-type}
+use Rattle.context.specs.declared.Evaluated.{Evaluated}
+use Rattle.context.specs.declared.Evaluated.the-variants as evaluated
+use Rattle.context.specs.Evaluated.{Evaluates, evaluates-led, present}
 use Rattle.expand.specs.declared.Options.{Options}
 use Rattle.expand.specs.declared.Got.{Got}
 use Rattle.expand.specs.declared.Got.the-variants.{Is, Bad}
@@ -121,6 +124,13 @@ present-stands s b ent t (Text p) h = h
 present-stands s b ent t (SaidChar o n) h = h
 present-stands s b ent t (PackedChar p n) h = h
 present-stands s b ent t (Merged k n) h = h
+
+-- a path that leads nowhere gives the missing value
+pub nothing-given : (s b : Bytes) (ent : List ℕ) (t : ℕ) (x : rule.Got ScopedJson) (e : Evaluated) → OneOf (0 ∷ 1 ∷ []) (tagOf evaluated-type e) → OneOf (1 ∷ 2 ∷ []) (tagOf evaluated-type e)
+    → Evaluates s b ent t x e → Expands s b ent t x (Is Missing)
+nothing-given s b ent t x (evaluated.Is v) k l h = absurd (miss (1 ∷ 2 ∷ []) 0 tt l)
+nothing-given s b ent t x evaluated.Nothing k l h = evaluates-led s b ent t x evaluated.Nothing h refl
+nothing-given s b ent t x evaluated.BadIndex k l h = absurd (miss (0 ∷ 1 ∷ []) 2 tt k)
 
 -- What the rules give
 

@@ -22,6 +22,7 @@ use Rattle.rules.specs.Registry.{get-helper}
 use Rattle.bits.specs.Fields.{field-none, field-append}
 use Rattle.bits.specs.Packed.{bytes-at, bytes-length}
 use Rattle.layout.specs.Text.{text-at}
+use Rattle.names.specs.Head.{head-of, count-of}
 use Rattle.value.specs.declared.Value.{Value}
 use Rattle.meaning.proofs.Form.{the-type as form-type}
 use Rattle.meaning.specs.declared.Form.{Form}
@@ -76,16 +77,6 @@ module _ (n l : Bytes) (c : ℕ) (e : n ≡ c ∷ l) where
   pub get-none : (c ≡ 101 → ⊥) → (c ≡ 119 → ⊥) → (c ≡ 105 → ⊥) → (c ≡ 117 → ⊥) → (c ≡ 108 → ⊥) → Unknown ≡ helper-of (get-helper n)
   get-none f g h i j = rw (e, ne-eqb c 101 f, ne-eqb c 119 g, ne-eqb c 105 h, ne-eqb c 117 i, ne-eqb c 108 j)
 
--- A string of the bundle: its count and its first byte are 24 bits
-
-module _ (b : Bits) (p : ℕ) where
-  pub text-first : Binary b → (k c : ℕ) → c < 256 → field b 24 p ≡ suc k * 256 + c → text-at b p ≡ c ∷ bytes-at b (p + 16 + 8) k
-  unfolding bytes-at
-  text-first bin k c lt e =
-      let n : field b 16 p ≡ suc k = omega (arith, field-append b 16 8 p, field-lt b bin 8 (p + 16)) in
-      let f : field b 8 (p + 16) ≡ c = omega (arith, field-append b 16 8 p, field-lt b bin 8 (p + 16)) in
-      rw (n, f)
-
 -- Bytes compared as one number
 
 abbrev Small : Bytes → Type 0
@@ -139,11 +130,9 @@ module _ (b : Bits) (bin : Binary b) where
           clash (sym (same-refl (bytes-at b q (length t))) ∙ ap (same (bytes-at b q (length t))) z ∙ e))
 
 -- the string at p, whose count and first byte are known
-pub text-packed : (b : Bits) → Binary b → (p : ℕ) (c : ℕ) (l : Bytes) → c < 256 → field b 24 p ≡ suc (length l) * 256 + c → Small (c ∷ l)
+pub text-packed : (b : Bits) → Binary b → (p : ℕ) (c : ℕ) (l : Bytes) → c < 256 → field b 24 p ≡ head-of (c ∷ l) → Small (c ∷ l)
     → eqb (field b (8 * suc (length l)) (p + 16)) (packed (c ∷ l)) ≡ same (text-at b p) (c ∷ l)
-text-packed b bin p c l lt e st =
-    let n : field b 16 p ≡ suc (length l) = omega (arith, field-append b 16 8 p, field-lt b bin 8 (p + 16), e) in
-    packed-same b bin (p + 16) (c ∷ l) st ∙ ap (λ (m : ℕ). same (bytes-at b (p + 16) m) (c ∷ l)) (sym n)
+text-packed b bin p c l lt e st = packed-same b bin (p + 16) (c ∷ l) st ∙ ap (λ (m : ℕ). same (bytes-at b (p + 16) m) (c ∷ l)) (sym (count-of b p bin c l lt e))
 
 -- the number of a name is x, and what is read is told apart from it
 pub by-bits : (h : HelperDef) (f x y : ℕ) {u : Bool} (r : HelperDef) → r ≡ pick (eqb f x) h Unknown → x ≡ y → eqb f y ≡ u → r ≡ pick u h Unknown

@@ -12,7 +12,7 @@ use Rattle.rules.specs.Json.{Json}
 use Rattle.rules.specs.Bits.{Bits, bits}
 use Rattle.rules.specs.Layout.{Layout, field, _then_}
 use Rattle.rules.specs.LayoutLaws.{Binary, field-lt}
-use Rattle.rules.specs.Bundle.{string, param}
+use Rattle.rules.specs.Bundle.{string, param, call-of}
 use Rattle.rules.specs.Template as template
 use Rattle.rules.specs.Error as rule
 use Rattle.rules.specs.Error.{RenderErrorReason, number, got, bad, wth}
@@ -26,7 +26,7 @@ use Rattle.layout.specs.Text.{text-at}
 use Rattle.parts.specs.Holds.{Holds, end, row}
 use Rattle.parts.specs.HoldsLaws.{moved, more-holds}
 use Rattle.parts.specs.Says.{path-at}
-use Rattle.calls.specs.Calls.{param-at, params-at, hash-at, name-end, params-end, call-view, no-params, params-more, no-hash, hash-more}
+use Rattle.calls.specs.Calls.{param-at, params-at, hash-at, call-at, call-read, name-end, params-end, call-view, no-params, params-more, no-hash, hash-more}
 use Rattle.calls.specs.declared.Call.{Call}
 use Rattle.places.specs.Places.{json-at}
 use Rattle.value.specs.declared.Value.{Value}
@@ -39,6 +39,7 @@ use Rattle.meaning.specs.Truth.{bool-of}
 use Rattle.scope.specs.declared.Scope.{Scope}
 use Rattle.scope.specs.Scopes.{blank, context-of, partials-of, blocks-of}
 use Rattle.scope.specs.Standing.{ScopesStand}
+use Rattle.context.specs.Near.{NearScopes}
 use Rattle.expand.specs.declared.Options.{Options}
 use Rattle.expand.specs.declared.Got.{Got}
 use Rattle.expand.specs.declared.Got.the-variants.{Is, Bad}
@@ -47,6 +48,7 @@ use Rattle.expand.specs.declared.Hash.{Hash}
 use Rattle.expand.specs.declared.Expanded.{Expanded}
 use Rattle.expand.specs.Answers.{Setting, Refuses, Expands, Names, name-of, Works, Begins, ExpandsAll, ExpandsHash, IsExpanded, IsTemplate, ExpandedHeld}
 use Rattle.expand.specs.Answers.{Calls, Finishes, joined, first-of, gathered, bare, with-one, GotKnown, zero-or, Paired}
+use Rattle.expand.specs.WithoutHash.{without-hash}
 use Rattle.expand.proofs.Calling.{as-json-of}
 
 number-some : (r : RenderErrorReason) → number r ≡ 0 → ⊥
@@ -214,23 +216,23 @@ pub record SomeSetting (s b : Bytes) (ent : List ℕ) (l : List Scope) (used : �
   pub t : ℕ
   pub setting : Setting s b ent l used o g st t
 
-pub some-setting : (s b : Bytes) (ent : List ℕ) (l : List Scope) (used : ℕ) (o : Options) → 0 < used → (t : ℕ) × ScopesStand s b ent l used t → SomeSetting s b ent l used o
+pub some-setting : (s b : Bytes) (ent : List ℕ) (l : List Scope) (used : ℕ) (o : Options) → 0 < used → NearScopes s b ent l used → SomeSetting s b ent l used o
 some-setting s b ent l zero o lt h = absurd (omega arith)
 some-setting s b ent l (suc n) o lt h = record {
   g = some-registry s o;
   st = some-state s b ent l n;
-  t = h .0;
+  t = h .top;
   setting = record {
     alike = record { strict = refl; scopes = refl; deep = ap suc (blocks-length s b ent l n) };
     plan = refl;
     recursive = refl;
     open-scopes = refl;
-    stand = h .1;
+    stand = h .stand;
   };
 }
 
-pub some-used : (s b : Bytes) (ent : List ℕ) (l : List Scope) (used : ℕ) (o : Options) (lt : 0 < used) (h : (t : ℕ) × ScopesStand s b ent l used t)
-    → some-setting s b ent l used o lt h .t ≡ h .0
+pub some-used : (s b : Bytes) (ent : List ℕ) (l : List Scope) (used : ℕ) (o : Options) (lt : 0 < used) (h : NearScopes s b ent l used)
+    → some-setting s b ent l used o lt h .t ≡ h .top
 unfolding some-setting
 some-used s b ent l zero o lt h = absurd (omega arith)
 some-used s b ent l (suc n) o lt h = refl
@@ -297,3 +299,27 @@ few-params d b p v bin e = let f : v .params ≡ field b 4 (name-end d b p) = ap
 
 pub few-pairs : (d : ℕ) (b : Bits) (p : ℕ) (v : Call) → Binary b → v ≡ call-view d b p → v .pairs < 16
 few-pairs d b p v bin e = let f : v .pairs ≡ field b 4 (params-end d b p) = ap (λ (x : Call). x .pairs) e in omega (arith, f, field-lt b bin 4 (params-end d b p))
+
+-- A call without its hash, whose parts v says
+
+pub gathered-zero : (r : Got) (n : ℕ) (ps : Params) → gathered r n ps (record { zero = false; bad = 0 }) .zero ≡ false
+gathered-zero (Is v) n ps = refl
+gathered-zero (Bad x) n ps = refl
+
+pub one-zero : (q : ℕ) (r : Got) → with-one q r .zero ≡ false
+one-zero q (Is v) = refl
+one-zero q (Bad x) = refl
+
+module _ (s b : Bytes) (ent : List ℕ) (t d p : ℕ) (H : Holds (call-of (param d)) (bits b) p) (v : Call) (view : v ≡ call-view d (bits b) p) (g : Registry) (st : RenderContext) where
+  pub head-given : (r : Got) (ps : Params) → Names s b ent t (rules.expand-as-name g st (param-at d (bits b) p)) r → ExpandsAll s b ent t (v .params) (rules.expand-all g st (params-at d (v .params) (bits b) (v .param))) ps
+      → IsTemplate s b ent t (rules.try-from-template g st (without-hash (call-at d (bits b) p))) (gathered r (v .params) ps (record { zero = false; bad = 0 }))
+  head-given r ps h k =
+      subst (λ (c : template.Call). IsTemplate s b ent t (rules.try-from-template g st (without-hash c)) (gathered r (v .params) ps (record { zero = false; bad = 0 }))) (sym (call-read d (bits b) p H v view .is))
+      (gathered-given s b ent t _ _ _ r (v .params) ps _ h k (no-hash-given s b ent t))
+
+  -- its name is the string at q, and it has no parameters
+  pub head-bare : (q : ℕ) → Holds string (bits b) q → param-at d (bits b) p ≡ template.name (text-at (bits b) q) → v .params ≡ 0
+      → IsTemplate s b ent t (rules.try-from-template g st (without-hash (call-at d (bits b) p))) (bare q)
+  head-bare q Q e z =
+      subst (λ (n : ℕ). IsTemplate s b ent t (rules.try-from-template g st (without-hash (call-at d (bits b) p))) (gathered (Is (Text q)) n (record { first = Missing; second = Missing; bad = 0 }) (record { zero = false; bad = 0 }))) z
+      (head-given (Is (Text q)) (record { first = Missing; second = Missing; bad = 0 }) (string-given s b ent t q Q g st _ e) (all-none s b ent t d (v .params) (v .param) g st z))

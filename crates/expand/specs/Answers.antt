@@ -10,7 +10,7 @@ use Rattle.rules.specs.Bytes.{Bytes, pick, same, ascii}
 use Rattle.rules.specs.Json.{Json}
 use Rattle.rules.specs.Bits.{bits}
 use Rattle.rules.specs.Error as rule
-use Rattle.rules.specs.Error.{RenderErrorReason, number, got, bad, wth}
+use Rattle.rules.specs.Error.{RenderErrorReason, number, missing-variable, param-not-found-for-index, scopes-limit, got, bad, wth}
 use Rattle.rules.specs.Value.{ScopedJson, render}
 use Rattle.rules.specs.State.{RenderContext, blocks, depth}
 use Rattle.rules.specs.Registry as registry
@@ -19,6 +19,7 @@ use Rattle.rules.specs.BlockUtil as block-util
 use Rattle.rules.specs.HelperIf.{include-zero}
 use Rattle.rules.specs.Expand as rules
 use Rattle.layout.specs.Text.{text-at}
+use Rattle.names.specs.Head.{head-of}
 use Rattle.places.specs.Places.{json-at}
 use Rattle.value.specs.declared.Value.{Value}
 use Rattle.value.specs.declared.Value.the-variants.{Missing, Empty, Text}
@@ -129,7 +130,12 @@ helper-of (some registry.HelperDef.lookup) = Lookup
 
 -- whether x, a string's count and first byte as one number, is that of a helper's name
 abbrev pub may-name : ℕ → Bool
-may-name x = eqb x 1125 || eqb x 1143 || eqb x 617 || eqb x 1653 || eqb x 1644
+may-name x =
+    eqb x (head-of (ascii "each"))
+    || eqb x (head-of (ascii "with"))
+    || eqb x (head-of (ascii "if"))
+    || eqb x (head-of (ascii "unless"))
+    || eqb x (head-of (ascii "lookup"))
 
 -- bytes as one number, the first the most significant
 abbrev pub packed-onto : ℕ → Bytes → ℕ
@@ -141,13 +147,13 @@ packed l = packed-onto 0 l
 
 -- what a helper with no bodies writes is nothing
 abbrev pub written : ℕ → Got
-written n = pick (eqb n 0) (Bad 15) (Is Empty)
+written n = pick (eqb n 0) (Bad (number param-not-found-for-index)) (Is Empty)
 
 abbrev pub in-scope : ℕ → Got
-in-scope used = pick (ltb used 32) (Is Empty) (Bad 23)
+in-scope used = pick (ltb used 32) (Is Empty) (Bad (number scopes-limit))
 
 abbrev pub unless-strict : Bool → Value → Got
-unless-strict strict v = pick strict (Bad 11) (Is v)
+unless-strict strict v = pick strict (Bad (number missing-variable)) (Is v)
 
 -- what the helper gives
 abbrev pub Calls : Bytes → Bytes → List ℕ → ℕ → Options → Expanded → (Registry → RenderContext → block-util.Expanded → rule.Got ScopedJson) → Got → Type 0

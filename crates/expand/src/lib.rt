@@ -22,15 +22,21 @@ ghost use Rattle.places.specs.Accepted.{Accepted};
 ghost use Rattle.text.specs.Rest.{rest, Stands};
 ghost use Rattle.meaning.specs.Forms.{Known};
 ghost use Rattle.meaning.specs.Means.{Means};
-ghost use Rattle.scope.specs.Words.{scopes-of};
-ghost use Rattle.scope.specs.Standing.{ScopesStand};
 ghost use Rattle.context.specs.Evaluated.{present};
 ghost use Rattle.expand.specs.Answers.{Setting, Expands, Names, ExpandsAll, ExpandsHash, IsTemplate, ExpandedHeld, helper-of, may-name, written, in-scope, unless-strict, Calls, Finishes, joined, first-of, gathered, bare, with-one, zero-or, GotKnown, Paired, packed};
+ghost use Rattle.expand.specs.WithoutHash.{without-hash};
+ghost use Rattle.context.specs.Near.{NearScopes};
 use calls::Parameter;
 use calls::Short;
 use context::Evaluated;
+use error::HELPER_NOT_FOUND;
+use error::INVALID_JSON_INDEX;
+use error::MISSING_VARIABLE;
+use error::PARAM_NOT_FOUND_FOR_INDEX;
+use error::SCOPES_LIMIT;
 use lookup::Found;
 use meaning::Form;
+use scope::Scope;
 use text::Step;
 use text::Text;
 use value::Value;
@@ -87,7 +93,8 @@ pub enum HelperDef {
 // A helper, where a text is its name.
 fn if_named(s: &[u8], b: &[u8], t: Text, name: &[u8], helper: HelperDef) -> HelperDef
     requires { ⌜ (length (now s) ≤ 65536) × Stands (now s) (now b) t ⌝ }
-    ensures { λ r. ⌜ r ≡ pick (same (rest (now (s .entry)) (now (b .entry)) t) (now (name .entry))) helper HelperDef.Unknown ⌝ }
+    ensures { λ r. ⌜ r ≡ pick (same (rest (now (s .entry)) (now (b .entry)) t) (now (name .entry))) helper
+        HelperDef.Unknown ⌝ }
 {
     if text::is(s, b, t, name) {
         return helper;
@@ -103,19 +110,19 @@ fn named_helper(s: &[u8], b: &[u8], t: Text) -> HelperDef
     let Step::Byte(c, u) = text::next(s, b, t) else {
         return HelperDef::Unknown;
     };
-    if c == 101 {
+    if c == b'e' {
         return if_named(s, b, t, b"each", HelperDef::Each);
     }
-    if c == 119 {
+    if c == b'w' {
         return if_named(s, b, t, b"with", HelperDef::With);
     }
-    if c == 105 {
+    if c == b'i' {
         return if_named(s, b, t, b"if", HelperDef::If);
     }
-    if c == 117 {
+    if c == b'u' {
         return if_named(s, b, t, b"unless", HelperDef::Unless);
     }
-    if c == 108 {
+    if c == b'l' {
         return if_named(s, b, t, b"lookup", HelperDef::Lookup);
     }
     HelperDef::Unknown
@@ -146,26 +153,25 @@ fn if_bits(b: &[u8], p: usize, w: usize, x: u64, helper: HelperDef) -> HelperDef
     HelperDef::Unknown
 }
 
-// The helper whose name the string at p is. Its first 24 bits are its count and first byte, and few strings have those of a name:
-// 1125 is 4 * 256 + 101, the count and first byte of each.
+// The helper whose name the string at p is. Its first 24 bits are its count and first byte, and few strings have those of a name.
 pub fn helper_at(b: &[u8], p: usize) -> HelperDef
     requires { ⌜ p ≤ 524288 ⌝ }
     ensures { λ r. ⌜ r ≡ helper-of (get-helper (text-at (bits (now (b .entry))) p)) ⌝ }
 {
     let x = bits::field(b, p, 24);
-    if x == 1125 {
+    if x == names::head(b"each") {
         return if_bits(b, p, 32, packed(b"each"), HelperDef::Each);
     }
-    if x == 1143 {
+    if x == names::head(b"with") {
         return if_bits(b, p, 32, packed(b"with"), HelperDef::With);
     }
-    if x == 617 {
+    if x == names::head(b"if") {
         return if_bits(b, p, 16, packed(b"if"), HelperDef::If);
     }
-    if x == 1653 {
+    if x == names::head(b"unless") {
         return if_bits(b, p, 48, packed(b"unless"), HelperDef::Unless);
     }
-    if x == 1644 {
+    if x == names::head(b"lookup") {
         return if_bits(b, p, 48, packed(b"lookup"), HelperDef::Lookup);
     }
     HelperDef::Unknown
@@ -177,7 +183,11 @@ pub fn may_name(b: &[u8], p: usize) -> bool
     ensures { λ r. ⌜ r ≡ may-name (field (bits (now (b .entry))) 24 p) ⌝ }
 {
     let x = bits::field(b, p, 24);
-    (x == 1125) | (x == 1143) | (x == 617) | (x == 1653) | (x == 1644)
+    (x == names::head(b"each"))
+        | (x == names::head(b"with"))
+        | (x == names::head(b"if"))
+        | (x == names::head(b"unless"))
+        | (x == names::head(b"lookup"))
 }
 
 // The helper whose name a value prints. Only a string prints one.
@@ -199,7 +209,7 @@ fn written(count: usize) -> Got
     ensures { λ r. ⌜ r ≡ written count ⌝ }
 {
     if count == 0 {
-        return Got::Bad(15);
+        return Got::Bad(PARAM_NOT_FOUND_FOR_INDEX);
     }
     Got::Is(Value::Empty)
 }
@@ -208,7 +218,7 @@ fn unless_strict(strict: bool, v: Value) -> Got
     ensures { λ r. ⌜ r ≡ unless-strict strict v ⌝ }
 {
     if strict {
-        return Got::Bad(11);
+        return Got::Bad(MISSING_VARIABLE);
     }
     Got::Is(v)
 }
@@ -230,15 +240,16 @@ fn in_scope(used: usize) -> Got
     if used < 32 {
         return Got::Is(Value::Empty);
     }
-    Got::Bad(23)
+    Got::Bad(SCOPES_LIMIT)
 }
 
 fn with_value(s: &[u8], tab: &[u64], b: &[u8], used: usize, options: Options, w: Expanded) -> Got
     requires { ⌜ Accepted (now s) (now tab) × (length (now b) ≤ 65536) × Known (now s) (now b) (w .first) ⌝ }
-    ensures { λ r. ⌜ ((ent : List ℕ) → Calls (now (s .entry)) (now (b .entry)) ent used options w (λ g st e. rules.call-helper-for-value g st with e) r) ⌝ }
+    ensures { λ r. ⌜ ((ent : List ℕ) → Calls (now (s .entry)) (now (b .entry)) ent used options w
+        (λ g st e. rules.call-helper-for-value g st with e) r) ⌝ }
 {
     if w.count == 0 {
-        return Got::Bad(15);
+        return Got::Bad(PARAM_NOT_FOUND_FOR_INDEX);
     }
     let v = w.first;
     if meaning::is_truthy(s, tab, b, v, false) {
@@ -257,10 +268,11 @@ fn lookup_value(
     w: Expanded,
 ) -> Got
     requires { ⌜ Accepted (now s) (now tab) × (length (now b) ≤ 65536) × ExpandedHeld (now s) (now b) (now ent) w ⌝ }
-    ensures { λ r. ⌜ Calls (now (s .entry)) (now (b .entry)) (now (ent .entry)) used options w (λ g st e. rules.call-helper-for-value g st lookup e) r ⌝ }
+    ensures { λ r. ⌜ Calls (now (s .entry)) (now (b .entry)) (now (ent .entry)) used options w
+        (λ g st e. rules.call-helper-for-value g st lookup e) r ⌝ }
 {
     if w.count < 2 {
-        return Got::Bad(15);
+        return Got::Bad(PARAM_NOT_FOUND_FOR_INDEX);
     }
     let v = w.first;
     let i = w.second;
@@ -282,7 +294,8 @@ pub fn called(
     w: Expanded,
 ) -> Got
     requires { ⌜ Accepted (now s) (now tab) × (length (now b) ≤ 65536) × ExpandedHeld (now s) (now b) (now ent) w ⌝ }
-    ensures { λ r. ⌜ Calls (now (s .entry)) (now (b .entry)) (now (ent .entry)) used options w (λ g st e. rules.called g st e) r ⌝ }
+    ensures { λ r. ⌜ Calls (now (s .entry)) (now (b .entry)) (now (ent .entry)) used options w
+        (λ g st e. rules.called g st e) r ⌝ }
 {
     let n = w.name;
     let h = get_helper(s, tab, b, n);
@@ -292,7 +305,7 @@ pub fn called(
         HelperDef::If => written(w.count),
         HelperDef::Unless => written(w.count),
         HelperDef::Lookup => lookup_value(s, tab, b, ent, used, options, w),
-        HelperDef::Unknown => Got::Bad(14),
+        HelperDef::Unknown => Got::Bad(HELPER_NOT_FOUND),
     }
 }
 
@@ -306,7 +319,8 @@ fn finished(
     options: Options,
     w: Expanded,
 ) -> Got
-    requires { ⌜ Accepted (now s) (now tab) × (length (now b) ≤ 65536) × (w .bad ≡ 0 → ExpandedHeld (now s) (now b) (now ent) w) ⌝ }
+    requires { ⌜ Accepted (now s) (now tab) × (length (now b) ≤ 65536)
+        × (w .bad ≡ 0 → ExpandedHeld (now s) (now b) (now ent) w) ⌝ }
     ensures { λ r. ⌜ Finishes (now (s .entry)) (now (b .entry)) (now (ent .entry)) used options w r ⌝ }
 {
     if w.bad == 0 {
@@ -317,24 +331,32 @@ fn finished(
 
 // Parts of a call
 
-fn path_value(
+pub fn path_value(
     s: &[u8],
     tab: &[u64],
     b: &[u8],
     ent: &[u64],
-    sc: &[u64],
+    scopes: [Scope; 32],
     used: usize,
     options: Options,
     p: usize,
 ) -> Got
-    requires { ⌜ Accepted (now s) (now tab) × (length (now b) ≤ 65536) × (0 < used) × (used ≤ 32) × ((t : ℕ) × ScopesStand (now s) (now b) (now ent) (scopes-of (now sc)) used t) × Holds path (bits (now b)) p × (length (now sc) ≡ 96) ⌝ }
-    ensures { λ r. ⌜ ((g : Registry) (st : RenderContext) (t : ℕ) → Setting (now (s .entry)) (now (b .entry)) (now (ent .entry)) (scopes-of (now (sc .entry))) used options g st t → Expands (now (s .entry)) (now (b .entry)) (now (ent .entry)) t (rules.evaluate2 g st (path-at (bits (now (b .entry))) p)) r) ⌝ }
+    requires { ⌜ Accepted (now s) (now tab) × (length (now b) ≤ 65536) × (0 < used) × (used ≤ 32)
+        × NearScopes (now s) (now b) (now ent) scopes used × Holds path (bits (now b)) p ⌝ }
+    ensures { λ r. ⌜ ((g : Registry) (st : RenderContext) (t : ℕ)
+        → Setting (now (s .entry)) (now (b .entry)) (now (ent .entry)) scopes used options g st t
+        → Expands (now (s .entry)) (now (b .entry)) (now (ent .entry)) t
+        (rules.evaluate2 g st (path-at (bits (now (b .entry))) p)) r) ⌝ }
 {
-    let found = context::evaluate2(s, tab, b, ent, sc, used, options.recursive_lookup, p);
-    match found {
-        Evaluated::Is(v) => Got::Is(v),
-        Evaluated::BadIndex => Got::Bad(20),
+    let found = context::evaluate2(s, tab, b, ent, scopes, used, options.recursive_lookup, p);
+    if let Evaluated::BadIndex = found {
+        return Got::Bad(INVALID_JSON_INDEX);
     }
+    // a path that leads nowhere
+    let Evaluated::Is(v) = found else {
+        return Got::Is(Value::Missing);
+    };
+    Got::Is(v)
 }
 
 // A parameter's value in front of those behind it.
@@ -361,7 +383,8 @@ fn joined(r: Got, rest: Params) -> Params
 // Whether includeZero is true: by the pair whose key stands at p and whose value is v, or else by the pairs behind it.
 fn zero_or(s: &[u8], tab: &[u64], b: &[u8], p: usize, v: Value, later: bool) -> bool
     requires { ⌜ Accepted (now s) (now tab) × (length (now b) ≤ 65536) × (p ≤ 524288) × Known (now s) (now b) v ⌝ }
-    ensures { λ r. ⌜ Means (now (s .entry)) (now (b .entry)) v (λ j. r ≡ zero-or (text-at (bits (now (b .entry))) p) later j) ⌝ }
+    ensures { λ r. ⌜ Means (now (s .entry)) (now (b .entry)) v
+        (λ j. r ≡ zero-or (text-at (bits (now (b .entry))) p) later j) ⌝ }
 {
     if parts::text_is(b, p, b"includeZero") {
         return meaning::as_bool(s, tab, b, v);
@@ -468,15 +491,19 @@ fn expand_all(
     tab: &[u64],
     b: &[u8],
     ent: &[u64],
-    sc: &[u64],
+    scopes: [Scope; 32],
     used: usize,
     options: Options,
     p: usize,
     n: u64,
     d: usize,
 ) -> Params
-    requires { ⌜ Accepted (now s) (now tab) × (length (now b) ≤ 65536) × (0 < used) × (used ≤ 32) × ((t : ℕ) × ScopesStand (now s) (now b) (now ent) (scopes-of (now sc)) used t) × (n < 16) × Holds (row (param d) n) (bits (now b)) p × (length (now sc) ≡ 96) ⌝ }
-    ensures { λ r. ⌜ ((g : Registry) (st : RenderContext) (t : ℕ) → Setting (now (s .entry)) (now (b .entry)) (now (ent .entry)) (scopes-of (now (sc .entry))) used options g st t → ExpandsAll (now (s .entry)) (now (b .entry)) (now (ent .entry)) t n (rules.expand-all g st (params-at d n (bits (now (b .entry))) p)) r) ⌝ }
+    requires { ⌜ Accepted (now s) (now tab) × (length (now b) ≤ 65536) × (0 < used) × (used ≤ 32)
+        × NearScopes (now s) (now b) (now ent) scopes used × (n < 16) × Holds (row (param d) n) (bits (now b)) p ⌝ }
+    ensures { λ r. ⌜ ((g : Registry) (st : RenderContext) (t : ℕ)
+        → Setting (now (s .entry)) (now (b .entry)) (now (ent .entry)) scopes used options g st t
+        → ExpandsAll (now (s .entry)) (now (b .entry)) (now (ent .entry)) t n
+        (rules.expand-all g st (params-at d n (bits (now (b .entry))) p)) r) ⌝ }
 {
     let none = Params {
         first: Value::Missing,
@@ -486,13 +513,13 @@ fn expand_all(
     if n == 0 {
         return none;
     }
-    let r = expand(s, tab, b, ent, sc, used, options, p, d);
+    let r = expand(s, tab, b, ent, scopes, used, options, p, d);
     // behind the last there are none: its end is not looked for
     if n == 1 {
         return joined(r, none);
     }
     let next = calls::skip_param(b, p, d);
-    let rest = expand_all(s, tab, b, ent, sc, used, options, next, n - 1, d);
+    let rest = expand_all(s, tab, b, ent, scopes, used, options, next, n - 1, d);
     joined(r, rest)
 }
 
@@ -501,15 +528,19 @@ fn expand_hash(
     tab: &[u64],
     b: &[u8],
     ent: &[u64],
-    sc: &[u64],
+    scopes: [Scope; 32],
     used: usize,
     options: Options,
     p: usize,
     n: u64,
     d: usize,
 ) -> Hash
-    requires { ⌜ Accepted (now s) (now tab) × (length (now b) ≤ 65536) × (0 < used) × (used ≤ 32) × ((t : ℕ) × ScopesStand (now s) (now b) (now ent) (scopes-of (now sc)) used t) × (n < 16) × Holds (row (string then param d) n) (bits (now b)) p × (length (now sc) ≡ 96) ⌝ }
-    ensures { λ r. ⌜ ((g : Registry) (st : RenderContext) (t : ℕ) → Setting (now (s .entry)) (now (b .entry)) (now (ent .entry)) (scopes-of (now (sc .entry))) used options g st t → ExpandsHash (rules.expand-hash g st (hash-at d n (bits (now (b .entry))) p)) r) ⌝ }
+    requires { ⌜ Accepted (now s) (now tab) × (length (now b) ≤ 65536) × (0 < used) × (used ≤ 32)
+        × NearScopes (now s) (now b) (now ent) scopes used × (n < 16)
+        × Holds (row (string then param d) n) (bits (now b)) p ⌝ }
+    ensures { λ r. ⌜ ((g : Registry) (st : RenderContext) (t : ℕ)
+        → Setting (now (s .entry)) (now (b .entry)) (now (ent .entry)) scopes used options g st t
+        → ExpandsHash (rules.expand-hash g st (hash-at d n (bits (now (b .entry))) p)) r) ⌝ }
 {
     let none = Hash {
         zero: false,
@@ -519,12 +550,12 @@ fn expand_hash(
         return none;
     }
     let q = parts::skip_string(b, p);
-    let r = expand(s, tab, b, ent, sc, used, options, q, d);
+    let r = expand(s, tab, b, ent, scopes, used, options, q, d);
     if n == 1 {
         return paired(s, tab, b, p, r, none);
     }
     let next = calls::skip_param(b, q, d);
-    let rest = expand_hash(s, tab, b, ent, sc, used, options, next, n - 1, d);
+    let rest = expand_hash(s, tab, b, ent, scopes, used, options, next, n - 1, d);
     paired(s, tab, b, p, r, rest)
 }
 
@@ -534,19 +565,23 @@ fn from_template(
     tab: &[u64],
     b: &[u8],
     ent: &[u64],
-    sc: &[u64],
+    scopes: [Scope; 32],
     used: usize,
     options: Options,
     p: usize,
     d: usize,
 ) -> Expanded
-    requires { ⌜ Accepted (now s) (now tab) × (length (now b) ≤ 65536) × (0 < used) × (used ≤ 32) × ((t : ℕ) × ScopesStand (now s) (now b) (now ent) (scopes-of (now sc)) used t) × Holds (call-of (param d)) (bits (now b)) p × (length (now sc) ≡ 96) ⌝ }
-    ensures { λ r. ⌜ ((g : Registry) (st : RenderContext) (t : ℕ) → Setting (now (s .entry)) (now (b .entry)) (now (ent .entry)) (scopes-of (now (sc .entry))) used options g st t → IsTemplate (now (s .entry)) (now (b .entry)) (now (ent .entry)) t (rules.try-from-template g st (call-at d (bits (now (b .entry))) p)) r) ⌝ }
+    requires { ⌜ Accepted (now s) (now tab) × (length (now b) ≤ 65536) × (0 < used) × (used ≤ 32)
+        × NearScopes (now s) (now b) (now ent) scopes used × Holds (call-of (param d)) (bits (now b)) p ⌝ }
+    ensures { λ r. ⌜ ((g : Registry) (st : RenderContext) (t : ℕ)
+        → Setting (now (s .entry)) (now (b .entry)) (now (ent .entry)) scopes used options g st t
+        → IsTemplate (now (s .entry)) (now (b .entry)) (now (ent .entry)) t
+        (rules.try-from-template g st (call-at d (bits (now (b .entry))) p)) r) ⌝ }
 {
     let c = calls::call_at(b, p, d);
-    let name = expand_as_name(s, tab, b, ent, sc, used, options, p, d);
-    let ps = expand_all(s, tab, b, ent, sc, used, options, c.param, c.params, d);
-    let hs = expand_hash(s, tab, b, ent, sc, used, options, c.pair, c.pairs, d);
+    let name = expand_as_name(s, tab, b, ent, scopes, used, options, p, d);
+    let ps = expand_all(s, tab, b, ent, scopes, used, options, c.param, c.params, d);
+    let hs = expand_hash(s, tab, b, ent, scopes, used, options, c.pair, c.pairs, d);
     gathered(name, c.params, ps, hs)
 }
 
@@ -556,22 +591,26 @@ pub fn expand(
     tab: &[u64],
     b: &[u8],
     ent: &[u64],
-    sc: &[u64],
+    scopes: [Scope; 32],
     used: usize,
     options: Options,
     p: usize,
     d: usize,
 ) -> Got
-    requires { ⌜ Accepted (now s) (now tab) × (length (now b) ≤ 65536) × (0 < used) × (used ≤ 32) × ((t : ℕ) × ScopesStand (now s) (now b) (now ent) (scopes-of (now sc)) used t) × Holds (param d) (bits (now b)) p × (length (now sc) ≡ 96) ⌝ }
-    ensures { λ r. ⌜ ((g : Registry) (st : RenderContext) (t : ℕ) → Setting (now (s .entry)) (now (b .entry)) (now (ent .entry)) (scopes-of (now (sc .entry))) used options g st t → Expands (now (s .entry)) (now (b .entry)) (now (ent .entry)) t (rules.expand g st (param-at d (bits (now (b .entry))) p)) r) ⌝ }
+    requires { ⌜ Accepted (now s) (now tab) × (length (now b) ≤ 65536) × (0 < used) × (used ≤ 32)
+        × NearScopes (now s) (now b) (now ent) scopes used × Holds (param d) (bits (now b)) p ⌝ }
+    ensures { λ r. ⌜ ((g : Registry) (st : RenderContext) (t : ℕ)
+        → Setting (now (s .entry)) (now (b .entry)) (now (ent .entry)) scopes used options g st t
+        → Expands (now (s .entry)) (now (b .entry)) (now (ent .entry)) t
+        (rules.expand g st (param-at d (bits (now (b .entry))) p)) r) ⌝ }
 {
     let x = calls::param_at(b, p);
     match x {
         Parameter::Name(_) => Got::Is(Value::Missing),
-        Parameter::Path(q) => path_value(s, tab, b, ent, sc, used, options, q),
+        Parameter::Path(q) => path_value(s, tab, b, ent, scopes, used, options, q),
         Parameter::Literal(q) => Got::Is(Value::Literal(q)),
         Parameter::Subexpression(q) => {
-            let w = from_template(s, tab, b, ent, sc, used, options, q, d - 1);
+            let w = from_template(s, tab, b, ent, scopes, used, options, q, d - 1);
             finished(s, tab, b, ent, used, options, w)
         }
     }
@@ -583,14 +622,18 @@ pub fn expand_as_name(
     tab: &[u64],
     b: &[u8],
     ent: &[u64],
-    sc: &[u64],
+    scopes: [Scope; 32],
     used: usize,
     options: Options,
     p: usize,
     d: usize,
 ) -> Got
-    requires { ⌜ Accepted (now s) (now tab) × (length (now b) ≤ 65536) × (0 < used) × (used ≤ 32) × ((t : ℕ) × ScopesStand (now s) (now b) (now ent) (scopes-of (now sc)) used t) × Holds (param d) (bits (now b)) p × (length (now sc) ≡ 96) ⌝ }
-    ensures { λ r. ⌜ ((g : Registry) (st : RenderContext) (t : ℕ) → Setting (now (s .entry)) (now (b .entry)) (now (ent .entry)) (scopes-of (now (sc .entry))) used options g st t → Names (now (s .entry)) (now (b .entry)) (now (ent .entry)) t (rules.expand-as-name g st (param-at d (bits (now (b .entry))) p)) r) ⌝ }
+    requires { ⌜ Accepted (now s) (now tab) × (length (now b) ≤ 65536) × (0 < used) × (used ≤ 32)
+        × NearScopes (now s) (now b) (now ent) scopes used × Holds (param d) (bits (now b)) p ⌝ }
+    ensures { λ r. ⌜ ((g : Registry) (st : RenderContext) (t : ℕ)
+        → Setting (now (s .entry)) (now (b .entry)) (now (ent .entry)) scopes used options g st t
+        → Names (now (s .entry)) (now (b .entry)) (now (ent .entry)) t
+        (rules.expand-as-name g st (param-at d (bits (now (b .entry))) p)) r) ⌝ }
 {
     let x = calls::param_at(b, p);
     match x {
@@ -598,7 +641,7 @@ pub fn expand_as_name(
         Parameter::Path(q) => Got::Is(Value::Text(q)),
         Parameter::Literal(q) => Got::Is(Value::Literal(q)),
         Parameter::Subexpression(q) => {
-            let w = from_template(s, tab, b, ent, sc, used, options, q, d - 1);
+            let w = from_template(s, tab, b, ent, scopes, used, options, q, d - 1);
             finished(s, tab, b, ent, used, options, w)
         }
     }
@@ -610,24 +653,74 @@ pub fn try_from_template(
     tab: &[u64],
     b: &[u8],
     ent: &[u64],
-    sc: &[u64],
+    scopes: [Scope; 32],
     used: usize,
     options: Options,
     p: usize,
     d: usize,
 ) -> Expanded
-    requires { ⌜ Accepted (now s) (now tab) × (length (now b) ≤ 65536) × (0 < used) × (used ≤ 32) × ((t : ℕ) × ScopesStand (now s) (now b) (now ent) (scopes-of (now sc)) used t) × Holds (call-of (param d)) (bits (now b)) p × (length (now sc) ≡ 96) ⌝ }
-    ensures { λ r. ⌜ ((g : Registry) (st : RenderContext) (t : ℕ) → Setting (now (s .entry)) (now (b .entry)) (now (ent .entry)) (scopes-of (now (sc .entry))) used options g st t → IsTemplate (now (s .entry)) (now (b .entry)) (now (ent .entry)) t (rules.try-from-template g st (call-at d (bits (now (b .entry))) p)) r) ⌝ }
+    requires { ⌜ Accepted (now s) (now tab) × (length (now b) ≤ 65536) × (0 < used) × (used ≤ 32)
+        × NearScopes (now s) (now b) (now ent) scopes used × Holds (call-of (param d)) (bits (now b)) p ⌝ }
+    ensures { λ r. ⌜ ((g : Registry) (st : RenderContext) (t : ℕ)
+        → Setting (now (s .entry)) (now (b .entry)) (now (ent .entry)) scopes used options g st t
+        → IsTemplate (now (s .entry)) (now (b .entry)) (now (ent .entry)) t
+        (rules.try-from-template g st (call-at d (bits (now (b .entry))) p)) r) ⌝ }
 {
     let x = calls::short_at(b, p, d);
     match x {
         Short::Bare(q) => bare(q),
-        Short::One(q, v) => with_one(q, path_value(s, tab, b, ent, sc, used, options, v)),
+        Short::One(q, v) => with_one(q, path_value(s, tab, b, ent, scopes, used, options, v)),
         Short::Named(q, c) => {
-            let ps = expand_all(s, tab, b, ent, sc, used, options, c.param, c.params, d);
-            let hs = expand_hash(s, tab, b, ent, sc, used, options, c.pair, c.pairs, d);
+            let ps = expand_all(s, tab, b, ent, scopes, used, options, c.param, c.params, d);
+            let hs = expand_hash(s, tab, b, ent, scopes, used, options, c.pair, c.pairs, d);
             gathered(Got::Is(Value::Text(q)), c.params, ps, hs)
         }
-        Short::Other => from_template(s, tab, b, ent, sc, used, options, p, d),
+        Short::Other => from_template(s, tab, b, ent, scopes, used, options, p, d),
+    }
+}
+
+// The name and the parameters of the call at p, without its hash, which partials work out on their own.
+// bad is the refusal of the name, or of the first parameter that is refused.
+pub fn name_and_params(
+    s: &[u8],
+    tab: &[u64],
+    b: &[u8],
+    ent: &[u64],
+    scopes: [Scope; 32],
+    used: usize,
+    options: Options,
+    p: usize,
+    d: usize,
+) -> Expanded
+    requires { ⌜ Accepted (now s) (now tab) × (length (now b) ≤ 65536) × (0 < used) × (used ≤ 32)
+        × NearScopes (now s) (now b) (now ent) scopes used × Holds (call-of (param d)) (bits (now b)) p ⌝ }
+    ensures { λ r. ⌜ ((g : Registry) (st : RenderContext) (t : ℕ)
+        → Setting (now (s .entry)) (now (b .entry)) (now (ent .entry)) scopes used options g st t
+        → IsTemplate (now (s .entry)) (now (b .entry)) (now (ent .entry)) t
+        (rules.try-from-template g st (without-hash (call-at d (bits (now (b .entry))) p))) r) ⌝ }
+    ensures { λ r. ⌜ r .zero ≡ false ⌝ }
+{
+    let none = Hash {
+        zero: false,
+        bad: 0,
+    };
+    let x = calls::short_at(b, p, d);
+    match x {
+        Short::Bare(q) => bare(q),
+        Short::One(q, v) => with_one(q, path_value(s, tab, b, ent, scopes, used, options, v)),
+        Short::Named(q, c) => {
+            // most have a hash only
+            if c.params == 0 {
+                return bare(q);
+            }
+            let ps = expand_all(s, tab, b, ent, scopes, used, options, c.param, c.params, d);
+            gathered(Got::Is(Value::Text(q)), c.params, ps, none)
+        }
+        Short::Other => {
+            let c = calls::call_at(b, p, d);
+            let name = expand_as_name(s, tab, b, ent, scopes, used, options, p, d);
+            let ps = expand_all(s, tab, b, ent, scopes, used, options, c.param, c.params, d);
+            gathered(name, c.params, ps, none)
+        }
     }
 }

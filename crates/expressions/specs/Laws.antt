@@ -9,9 +9,9 @@ use lib.ListN.{length}
 use types.Run.{OneOf, miss}
 use denote.Enum.Declared.{tagOf}
 use Rattle.rules.specs.Bytes.{Bytes}
+use Rattle.rules.specs.Bits.{bits}
 use Rattle.rules.specs.Template as template
 use Rattle.rules.specs.Template.{no-names, no-body}
-use Rattle.rules.specs.State as rules
 use Rattle.rules.specs.State.{Draw, _after_}
 use Rattle.rules.specs.Output.{do-escape, indent-aware-write}
 use Rattle.rules.specs.Value.{render}
@@ -19,18 +19,20 @@ use Rattle.rules.specs.Registry.{Registry}
 use Rattle.rules.specs.Partial.{Rendering}
 use Rattle.rules.specs.Render.{render-helper, render-body, render-expression, render-html-expression}
 use Rattle.parts.specs.declared.Maybe.the-variants as maybe
+use Rattle.calls.specs.Calls.{call-at}
 use Rattle.value.specs.declared.Value.{Value}
 use Rattle.meaning.specs.Meaning.{json-of}
 use Rattle.meaning.specs.Forms.{Known}
 use Rattle.meaning.specs.Means.{stands-known}
 use Rattle.meaning.specs.Standing.{Stands}
+use Rattle.scope.specs.declared.Scope.{Scope}
 use Rattle.expand.specs.declared.Options.{Options}
 use Rattle.expand.specs.Answers.{Setting}
 use Rattle.helpers.specs.declared.Does.{Does}
 use Rattle.helpers.specs.declared.Does.the-variants as does
 use Rattle.helpers.specs.declared.Shows.{Shows}
 use Rattle.helpers.specs.declared.Shows.the-variants as shows
-use Rattle.helpers.specs.Does.{Expresses}
+use Rattle.helpers.specs.Does.{Expresses, ExpressingCall}
 use Rattle.helpers.proofs.Does.{the-type as does-type}
 use Rattle.writing.specs.Writes.{Writes}
 use Rattle.state.specs.Context.{RenderContext}
@@ -105,18 +107,24 @@ module _ (s b : Bytes) (o : Options) (w : World) (r : Ready s b w) (d p : ℕ) (
       let z = can .done (world u page texts (w .indent) (w .ent)) (y .at o (w .ent) (goes-marks s b w r false (before-helper (w .rc .writer) before) .ready) (can .possible)) in
       subst (λ (k : RenderContext). Renders s b o w (world k page texts (w .indent) (w .ent)) (bare-rule b d p before)) (sym q) (record { at = z .at })
 
--- Expressions: c is the call
+-- Expressions: the call at p; l are the open scopes as they were read
 
-module _ (s b : Bytes) (o : Options) (w : World) (r : Ready s b w) (c : template.Call) (before : Bool) (a : Shows)
-    (E : (g : Registry) (st : rules.RenderContext) (t : ℕ) (ibw : Bool) → Setting s b (w .ent) (w .rc .scopes) (w .rc .used) o g st t → Expresses s b (w .ent) t g c ibw st (render-expression g c ibw st) a) where
+module _ (s b : Bytes) (o : Options) (w : World) (r : Ready s b w) (d p : ℕ) (before : Bool) (a : Shows) (l : List Scope) (same : w .rc .scopes ≡ l)
+    (E : ExpressingCall s b (w .ent) l (w .rc .used) o d p a) where
+  abbrev c : template.Call
+  c = call-at d (bits b) p
+
   abbrev rule : Registry → Rendering → Draw
   rule g R = render-expression g c before
 
   abbrev g : Registry
   g = registry-of s b o (length (w .page))
 
+  here : Setting s b (w .ent) l (w .rc .used) o g (abs s b w) (top w)
+  here = subst (λ (k : List Scope). Setting s b (w .ent) k (w .rc .used) o g (abs s b w) (top w)) same (setting s b o w r (length (w .page)))
+
   expressed : (k : Shows) → a ≡ k → Expresses s b (w .ent) (top w) g c before (abs s b w) (render-expression g c before (abs s b w)) k
-  expressed k e = subst (Expresses s b (w .ent) (top w) g c before (abs s b w) (render-expression g c before (abs s b w))) e (E g (abs s b w) (top w) before (setting s b o w r (length (w .page))))
+  expressed k e = subst (Expresses s b (w .ent) (top w) g c before (abs s b w) (render-expression g c before (abs s b w))) e (E g (abs s b w) (top w) before here)
 
   pub expression-refused : (n : ℕ) → a ≡ shows.Bad n → (x : RenderContext) → x ≡ failed (w .rc) n → Renders s b o w (over x w) rule
   expression-refused n e x q = subst (λ (k : RenderContext). Renders s b o w (over k w) rule) (sym q) (record { at = λ f le. draws-failed s b o w r (render-expression g c before (abs s b w)) n (expressed (shows.Bad n) e) })

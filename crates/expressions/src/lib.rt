@@ -13,12 +13,14 @@ ghost use Rattle.calls.specs.Calls.{call-at};
 ghost use Rattle.places.specs.Accepted.{Accepted};
 ghost use Rattle.state.specs.World.{world, Ready};
 ghost use Rattle.drawing.specs.Renders.{Renders};
-ghost use Rattle.state.specs.Context.{whole};
+ghost use Rattle.scope.specs.declared.Scope.{Scope};
+ghost use Rattle.state.specs.Context.{whole, Current};
 ghost use Rattle.expressions.specs.Bare.{bare-rule, Printable, BareDrawn};
 use expand::Options;
 use helpers::Does;
 use helpers::Shows;
 use parts::Maybe;
+use scope::Scope;
 use state::RenderContext;
 
 // What a helper without bodies was found to do.
@@ -33,7 +35,9 @@ fn draw_bare(
     rc: RenderContext,
 ) -> RenderContext
     requires { ⌜ Accepted (now s) (now tab) × (length (now b) ≤ 65536) × Printable (now s) (now b) does ⌝ }
-    ensures { λ r. ⌜ ((l : List ℕ) → BareDrawn (now (s .entry)) (now (b .entry)) (whole rc l) (whole r l) (now (page .entry)) (now (texts .entry)) (now (indent .entry)) (now (page .exit)) (now (texts .exit)) does) ⌝ }
+    ensures { λ r. ⌜ ((l : List Scope)
+        → BareDrawn (now (s .entry)) (now (b .entry)) (whole rc l) (whole r l) (now (page .entry)) (now (texts .entry))
+        (now (indent .entry)) (now (page .exit)) (now (texts .exit)) does) ⌝ }
 {
     match does {
         Does::Bad(n) => state::failed(rc, n),
@@ -51,18 +55,26 @@ fn render_bare(
     page: &mut [u8],
     texts: &mut [u8],
     indent: &[u8],
-    sc: &[u64],
+    scopes: [Scope; 32],
     options: Options,
     p: usize,
     before: bool,
     d: usize,
     rc: RenderContext,
 ) -> RenderContext
-    requires { ⌜ Accepted (now s) (now tab) × (length (now b) ≤ 65536) × Ready (now s) (now b) (world (whole rc (now sc)) (now page) (now texts) (now indent) (now ent)) × Holds (call-of (param d)) (bits (now b)) p × (length (now sc) ≡ 96) ⌝ }
-    ensures { λ r. ⌜ Renders (now (s .entry)) (now (b .entry)) options (world (whole rc (now (sc .entry))) (now (page .entry)) (now (texts .entry)) (now (indent .entry)) (now (ent .entry))) (world (whole r (now (sc .entry))) (now (page .exit)) (now (texts .exit)) (now (indent .entry)) (now (ent .entry))) (bare-rule (now (b .entry)) d p before) ⌝ }
+    requires { ⌜ Accepted (now s) (now tab)
+        × (length (now b) ≤ 65536)
+        × Ready (now s) (now b) (world (whole rc scopes) (now page) (now texts) (now indent) (now ent))
+        × Holds (call-of (param d)) (bits (now b)) p
+        × Current scopes rc ⌝ }
+    ensures { λ r. ⌜ Renders (now (s .entry)) (now (b .entry)) options
+        (world (whole rc scopes) (now (page .entry)) (now (texts .entry)) (now (indent .entry)) (now (ent .entry)))
+        (world (whole r scopes) (now (page .exit)) (now (texts .exit)) (now (indent .entry)) (now (ent .entry)))
+        (bare-rule (now (b .entry)) d p before) ⌝ }
 {
     let none = Maybe::Nothing;
-    let does = helping::decide(s, tab, b, ent, sc, options, p, none, none, d, rc);
+    let w = expand::try_from_template(s, tab, b, ent, scopes, rc.used, options, p, d);
+    let does = helping::decide(s, tab, b, ent, rc.used, options, w, none, none);
     let q = helping::begin_helper(rc, before);
     let marks = rc.writer;
     let u = draw_bare(s, tab, b, page, texts, indent, does, q);
@@ -78,17 +90,24 @@ pub fn render_expression(
     page: &mut [u8],
     texts: &mut [u8],
     indent: &[u8],
-    sc: &[u64],
+    scopes: [Scope; 32],
     options: Options,
     p: usize,
     before: bool,
     d: usize,
     rc: RenderContext,
 ) -> RenderContext
-    requires { ⌜ Accepted (now s) (now tab) × (length (now b) ≤ 65536) × Ready (now s) (now b) (world (whole rc (now sc)) (now page) (now texts) (now indent) (now ent)) × Holds (call-of (param d)) (bits (now b)) p × (length (now sc) ≡ 96) ⌝ }
-    ensures { λ r. ⌜ Renders (now (s .entry)) (now (b .entry)) options (world (whole rc (now (sc .entry))) (now (page .entry)) (now (texts .entry)) (now (indent .entry)) (now (ent .entry))) (world (whole r (now (sc .entry))) (now (page .exit)) (now (texts .exit)) (now (indent .entry)) (now (ent .entry))) (λ g R. render-expression g (call-at d (bits (now (b .entry))) p) before) ⌝ }
+    requires { ⌜ Accepted (now s) (now tab)
+        × (length (now b) ≤ 65536)
+        × Ready (now s) (now b) (world (whole rc scopes) (now page) (now texts) (now indent) (now ent))
+        × Holds (call-of (param d)) (bits (now b)) p
+        × Current scopes rc ⌝ }
+    ensures { λ r. ⌜ Renders (now (s .entry)) (now (b .entry)) options
+        (world (whole rc scopes) (now (page .entry)) (now (texts .entry)) (now (indent .entry)) (now (ent .entry)))
+        (world (whole r scopes) (now (page .exit)) (now (texts .exit)) (now (indent .entry)) (now (ent .entry)))
+        (λ g R. render-expression g (call-at d (bits (now (b .entry))) p) before) ⌝ }
 {
-    let shows = helpers::expression(s, tab, b, ent, sc, rc.used, options, p, d);
+    let shows = helpers::expression(s, tab, b, ent, scopes, rc.used, options, p, d);
     match shows {
         Shows::Bad(n) => state::failed(rc, n),
         Shows::Helper => render_bare(
@@ -99,7 +118,7 @@ pub fn render_expression(
             page,
             texts,
             indent,
-            sc,
+            scopes,
             options,
             p,
             before,
@@ -120,15 +139,22 @@ pub fn render_html_expression(
     page: &mut [u8],
     texts: &mut [u8],
     indent: &[u8],
-    sc: &[u64],
+    scopes: [Scope; 32],
     options: Options,
     p: usize,
     before: bool,
     d: usize,
     rc: RenderContext,
 ) -> RenderContext
-    requires { ⌜ Accepted (now s) (now tab) × (length (now b) ≤ 65536) × Ready (now s) (now b) (world (whole rc (now sc)) (now page) (now texts) (now indent) (now ent)) × Holds (call-of (param d)) (bits (now b)) p × (length (now sc) ≡ 96) ⌝ }
-    ensures { λ r. ⌜ Renders (now (s .entry)) (now (b .entry)) options (world (whole rc (now (sc .entry))) (now (page .entry)) (now (texts .entry)) (now (indent .entry)) (now (ent .entry))) (world (whole r (now (sc .entry))) (now (page .exit)) (now (texts .exit)) (now (indent .entry)) (now (ent .entry))) (λ g R. render-html-expression g (call-at d (bits (now (b .entry))) p) before) ⌝ }
+    requires { ⌜ Accepted (now s) (now tab)
+        × (length (now b) ≤ 65536)
+        × Ready (now s) (now b) (world (whole rc scopes) (now page) (now texts) (now indent) (now ent))
+        × Holds (call-of (param d)) (bits (now b)) p
+        × Current scopes rc ⌝ }
+    ensures { λ r. ⌜ Renders (now (s .entry)) (now (b .entry)) options
+        (world (whole rc scopes) (now (page .entry)) (now (texts .entry)) (now (indent .entry)) (now (ent .entry)))
+        (world (whole r scopes) (now (page .exit)) (now (texts .exit)) (now (indent .entry)) (now (ent .entry)))
+        (λ g R. render-html-expression g (call-at d (bits (now (b .entry))) p) before) ⌝ }
 {
     let q = state::set_disable_escape(rc, true);
     let u = render_expression(
@@ -139,7 +165,7 @@ pub fn render_html_expression(
         page,
         texts,
         indent,
-        sc,
+        scopes,
         options,
         p,
         before,

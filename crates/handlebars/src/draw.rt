@@ -12,6 +12,7 @@ ghost use Rattle.layout.specs.Text.{text-at};
 ghost use Rattle.parts.specs.Holds.{Holds};
 ghost use Rattle.places.specs.Accepted.{Accepted};
 ghost use Rattle.template.specs.Views.{template-at};
+ghost use Rattle.scope.specs.declared.Scope.{Scope};
 ghost use Rattle.state.specs.Context.{whole};
 ghost use Rattle.state.specs.World.{reason-of};
 ghost use Rattle.drawing.specs.Renders.{registry-of};
@@ -40,7 +41,7 @@ fn number_of(bad: u8) -> u32
 
 // The answer that a context stands for. (A context holds a position only where one was met.)
 fn answered(rc: RenderContext) -> Answer
-    ensures { λ r. ⌜ ((l : List ℕ) → r ≡ answer-of (whole rc l)) ⌝ }
+    ensures { λ r. ⌜ ((l : List Scope) → r ≡ answer-of (whole rc l)) ⌝ }
 {
     if rc.bad == 0 {
         let w = rc.writer;
@@ -88,7 +89,6 @@ pub fn draw(
     requires { ⌜ Standing (now b) × Tabled (now b) (now index) × Accepted (now s) (now tab) × (8192 ≤ length (now entries)) × (16384 ≤ length (now texts)) × (256 ≤ length (now indent)) × Holds string (bits (now b)) name × Holds (body 16 16) (bits (now b)) p ⌝ }
     ensures { λ r. ⌜ Shown (now (b .entry)) r (now (page .exit)) (render-call (registry-of (now (s .entry)) (now (b .entry)) options (length (now (page .entry)))) (text-at (bits (now (b .entry))) name) (template-at 16 16 (bits (now (b .entry))) p)) ⌝ }
 {
-    let mut sc: [u64; 96] = [0; 96];
     let rc = render_template(
         s,
         tab,
@@ -98,7 +98,6 @@ pub fn draw(
         page,
         texts,
         indent,
-        &mut sc,
         options,
         name,
         p,

@@ -38,7 +38,7 @@ use Rattle.meaning.specs.Meaning.{context-place, is-missing, json-of, scoped-of
 use Rattle.meaning.specs.Standing.{Stands}
 use Rattle.scope.specs.declared.Scope.{Scope}
 use Rattle.scope.specs.Scopes.{blank, context-of, partials-of, blocks-of}
-use Rattle.scope.specs.Standing.{ScopesStand}
+use Rattle.context.specs.Near.{NearScopes}
 use Rattle.expand.specs.declared.Options.{Options}
 use Rattle.expand.specs.declared.Got.{Got}
 use Rattle.expand.specs.declared.Got.the-variants.{Is, Bad}
@@ -201,7 +201,7 @@ pub record SomeSetting (s b : Bytes) (ent : List ℕ) (l : List Scope) (used : �
   pub t : ℕ
   pub setting : Setting s b ent l used o g st t
 
-pub some-setting : (s b : Bytes) (ent : List ℕ) (l : List Scope) (used : ℕ) (o : Options) → 0 < used → (t : ℕ) × ScopesStand s b ent l used t → SomeSetting s b ent l used o
+pub some-setting : (s b : Bytes) (ent : List ℕ) (l : List Scope) (used : ℕ) (o : Options) → 0 < used → NearScopes s b ent l used → SomeSetting s b ent l used o
 some-setting s b ent l zero o lt h = absurd (omega arith)
 some-setting s b ent l (suc n) o lt h = record {
   g = record {
@@ -219,12 +219,12 @@ some-setting s b ent l (suc n) o lt h = record {
       room = record { page-room = 0; texts-room = 0 };
     };
   };
-  t = h .0;
+  t = h .top;
   setting = record {
     alike = record { strict = refl; scopes = refl; deep = ap suc (blocks-length s b ent l n) };
     plan = refl;
     recursive = refl;
     open-scopes = refl;
-    stand = h .1;
+    stand = h .stand;
   };
 }

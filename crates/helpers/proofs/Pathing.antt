@@ -44,6 +44,17 @@ module _ (d : ℕ) (b : Bits) (p q : ℕ) (H : Holds (call-of (param d)) b p) (W
       go (suc (suc zero)) e v = cc
       go (suc (suc (suc k))) e v = cc
 
+-- Whether the front does not tell: by the number x of what the path leads to, and the number n of what is done; h: whether it is a helper's name
+
+pub far-not : (n x : ℕ) (h all : Bool) → (n ≡ 4294967552 → ⊥) → h ≡ false → eqb x 4294967297 ≡ all → (x ≡ 4294967297 → ⊥) → eqb n 4294967552 ≡ pick h false all
+far-not n x h all other unnamed told near = ne-eqb n 4294967552 other ∙ sym (ap (λ (y : Bool). pick y false all) unnamed ∙ sym told ∙ ne-eqb x 4294967297 near)
+
+pub far-helper : (n : ℕ) (h all : Bool) → (n ≡ 4294967552 → ⊥) → h ≡ true → eqb n 4294967552 ≡ pick h false all
+far-helper n h all other named = ne-eqb n 4294967552 other ∙ sym (ap (λ (y : Bool). pick y false all) named)
+
+pub far-so : (x : ℕ) (h all : Bool) → h ≡ false → eqb x 4294967297 ≡ all → x ≡ 4294967297 → true ≡ pick h false all
+far-so x h all unnamed told far = sym (ap (λ (y : Bool). pick y false all) unnamed ∙ sym told ∙ eq-eqb x 4294967297 far)
+
 -- r is the place behind the path, x the 8 bits there
 module _ (s b : Bytes) (ent : List ℕ) (t : ℕ) (g : Registry) (st : RenderContext) (ibw : Bool) (d p q : ℕ) (H : Holds (call-of (param d)) (bits b) p) (W : param-view (bits b) p ≡ Path q)
     (r x : ℕ) (R : r ≡ end path (bits b) q) (X : x ≡ field (bits b) 8 r) where

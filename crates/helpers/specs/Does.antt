@@ -8,6 +8,9 @@ use native.Mathlib.Omega.{arith}
 use lib.Dec.{eqb, ltb}
 use borrow.Author.Tests.{lt-ltb, le-ltb, ne-eqb}
 use Rattle.rules.specs.Bytes.{Bytes, pick}
+use Rattle.rules.specs.Bits.{bits}
+use Rattle.rules.specs.Layout.{field}
+use Rattle.rules.specs.Bundle.{path, param, call-of}
 use Rattle.rules.specs.Json.{Json, jnull, jbool, jpos, jneg, jstr, jarr, jobj}
 use Rattle.rules.specs.Template as template
 use Rattle.rules.specs.Template.{BlockParam, no-names}
@@ -22,12 +25,16 @@ use Rattle.rules.specs.BlockUtil.{Drawable, render-or-nothing, create-block}
 use Rattle.rules.specs.HelperEach.{turn-block, turns}
 use Rattle.rules.specs.HelperWith.{with-block}
 use Rattle.rules.specs.Helpers.{call-helper}
-use Rattle.rules.specs.Render.{render-helper}
+use Rattle.rules.specs.Render.{render-helper, render-expression}
+use Rattle.parts.specs.Holds.{Holds, end}
+use Rattle.calls.specs.declared.Parameter.the-variants.{Path}
+use Rattle.calls.specs.Calls.{param-view, call-at}
 use Rattle.value.specs.declared.Value.{Value}
 use Rattle.value.specs.Numbers.{decoded}
 use Rattle.meaning.specs.Meaning.{is-missing, json-of, scoped-of}
 use Rattle.meaning.specs.Standing.{Stands}
 use Rattle.members.specs.Turns.{each-turns}
+use Rattle.scope.specs.declared.Scope.{Scope}
 use Rattle.expand.specs.declared.Options.{Options}
 use Rattle.expand.specs.declared.Expanded.{Expanded}
 use Rattle.expand.specs.declared.Got.{Got}
@@ -35,7 +42,7 @@ use Rattle.expand.specs.declared.Got.the-variants as got
 use Rattle.expand.specs.declared.HelperDef.{HelperDef}
 use Rattle.expand.specs.declared.HelperDef.the-variants as helper
 use Rattle.expand.specs.declared.HelperDef.the-variants.{Unknown}
-use Rattle.expand.specs.Answers.{Alike, IsExpanded, helper-of}
+use Rattle.expand.specs.Answers.{Alike, Setting, IsExpanded, helper-of}
 use Rattle.helpers.specs.declared.Does.{Does}
 use Rattle.helpers.specs.declared.Does.the-variants.{Bad, Nothing, Template, Inverse, Within, Turns, Write}
 use Rattle.helpers.specs.declared.Shows.{Shows}
@@ -126,6 +133,25 @@ Expresses s b ent t g c ibw st x (shows.Bad n) = Fails x n
 Expresses s b ent t g c ibw st x shows.Helper = x ≡ render-helper g c ibw no-names none none st
 Expresses s b ent t g c ibw st x (shows.Value v) = Writes s b ent t st x v
 Expresses s b ent t g c ibw st x shows.Nothing = x ≡ ok st []
+
+-- of the call at p, in the open scopes l, whatever the registry and the state are else
+abbrev pub ExpressingCall : Bytes → Bytes → List ℕ → List Scope → ℕ → Options → ℕ → ℕ → Shows → Type 0
+ExpressingCall s b ent l used o d p u =
+    (g : Registry) (st : RenderContext) (t : ℕ) (ibw : Bool) → Setting s b ent l used o g st t
+    → Expresses s b ent t g (call-at d (bits b) p) ibw st (render-expression g (call-at d (bits b) p) ibw st) u
+
+-- of any call whose name is the path at q
+abbrev pub ExpressingPath : Bytes → Bytes → List ℕ → List Scope → ℕ → Options → ℕ → Shows → Type 0
+ExpressingPath s b ent l used o q u =
+    (g : Registry) (st : RenderContext) (t d p : ℕ) (ibw : Bool) → Setting s b ent l used o g st t → Holds (call-of (param d)) (bits b) p → param-view (bits b) p ≡ Path q
+    → Expresses s b ent t g (call-at d (bits b) p) ibw st (render-expression g (call-at d (bits b) p) ibw st) u
+
+-- of any call that is the path at q and nothing else
+abbrev pub ExpressingBare : Bytes → Bytes → List ℕ → List Scope → ℕ → Options → ℕ → Shows → Type 0
+ExpressingBare s b ent l used o q u =
+    (g : Registry) (st : RenderContext) (t d p : ℕ) (ibw : Bool) → Setting s b ent l used o g st t → Holds (call-of (param d)) (bits b) p → param-view (bits b) p ≡ Path q
+    → field (bits b) 8 (end path (bits b) q) ≡ 0
+    → Expresses s b ent t g (call-at d (bits b) p) ibw st (render-expression g (call-at d (bits b) p) ibw st) u
 
 -- Parts
 

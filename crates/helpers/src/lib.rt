@@ -1,42 +1,50 @@
 // helpers/*.rs, and render.rs for an expression: what is about to be drawn, worked out before anything is.
 // s is the plan, b the bundle, ent holds the entries of open partials, and used scopes are open.
-ghost use mathlib.Core.Bool.{Bool};
+ghost use mathlib.Core.Bool.{false};
 ghost use mathlib.Core.Option.{none, some};
 ghost use mathlib.Core.Path.{_≡_};
 ghost use mathlib.Core.List.{List};
 ghost use Prim.Native.Nat.{ℕ, _≤_, _<_};
+ghost use lib.Dec.{eqb};
 ghost use lib.ListN.{length};
 ghost use Rattle.rules.specs.Bytes.{pick};
 ghost use Rattle.rules.specs.Bits.{bits};
 ghost use Rattle.rules.specs.Bundle.{path, param, call-of};
 ghost use Rattle.rules.specs.Template.{name-only};
 ghost use Rattle.rules.specs.Value.{render};
-ghost use Rattle.rules.specs.State.{RenderContext};
-ghost use Rattle.rules.specs.Registry.{Registry, get-helper};
+ghost use Rattle.rules.specs.Registry.{get-helper};
 ghost use Rattle.rules.specs.HelperEach.{each-helper};
 ghost use Rattle.rules.specs.HelperWith.{with-helper};
 ghost use Rattle.rules.specs.HelperIf.{if-helper};
 ghost use Rattle.rules.specs.Helpers.{lookup-helper};
-ghost use Rattle.rules.specs.Render.{render-expression};
-ghost use Rattle.rules.specs.Layout.{field};
-ghost use Rattle.parts.specs.Holds.{Holds, end};
-ghost use Rattle.calls.specs.Calls.{param-view, param-at, call-at};
+ghost use Rattle.layout.specs.Text.{text-at};
+ghost use Rattle.parts.specs.Holds.{Holds};
+ghost use Rattle.parts.specs.Says.{path-at};
+ghost use Rattle.calls.specs.Calls.{param-at, call-at};
 ghost use Rattle.places.specs.Accepted.{Accepted};
 ghost use Rattle.meaning.specs.Forms.{Known};
 ghost use Rattle.meaning.specs.Means.{Means};
 ghost use Rattle.lookup.specs.Answers.{Held};
-ghost use Rattle.scope.specs.Words.{scopes-of};
-ghost use Rattle.scope.specs.Standing.{ScopesStand};
-ghost use Rattle.expand.specs.Answers.{Setting, ExpandedHeld};
-ghost use Rattle.helpers.specs.Does.{has, is-known, HelpingFirst, HelpingTruth, HelpingBoth, Decides, DecidesOne, DecidesTwo, Expresses, unless-strict, inverse, in-scope, branch, truth, is-collection, shown, rendered, shows-of};
+ghost use Rattle.expand.specs.Answers.{ExpandedHeld};
+ghost use Rattle.context.specs.Near.{NearScopes};
+ghost use Rattle.context.specs.Start.{Newest, NearFront, needs-all};
+ghost use Rattle.helpers.specs.Does.{has, is-known, HelpingFirst, HelpingTruth, HelpingBoth, Decides};
+ghost use Rattle.helpers.specs.Does.{DecidesOne, DecidesTwo, unless-strict, inverse, in-scope, branch, truth};
+ghost use Rattle.helpers.specs.Does.{is-collection, shown, rendered, shows-of};
+ghost use Rattle.helpers.specs.Does.{ExpressingCall, ExpressingPath, ExpressingBare};
 use calls::Parameter;
-use context::Evaluated;
+use error::HELPER_NOT_FOUND;
+use error::INVALID_JSON_INDEX;
+use error::MISSING_VARIABLE;
+use error::PARAM_NOT_FOUND_FOR_INDEX;
+use error::SCOPES_LIMIT;
 use expand::Expanded;
 use expand::Got;
 use expand::HelperDef;
 use expand::Options;
 use lookup::Found;
 use meaning::Form;
+use scope::Scope;
 use value::Value;
 
 // What a helper does.
@@ -61,7 +69,7 @@ fn unless_strict(strict: bool, d: Does) -> Does
     ensures { λ r. ⌜ r ≡ unless-strict strict d ⌝ }
 {
     if strict {
-        return Does::Bad(11);
+        return Does::Bad(MISSING_VARIABLE);
     }
     d
 }
@@ -83,7 +91,7 @@ fn in_scope(used: usize, d: Does) -> Does
     if used < 32 {
         return d;
     }
-    Does::Bad(23)
+    Does::Bad(SCOPES_LIMIT)
 }
 
 fn branch(template: bool) -> Does
@@ -143,10 +151,11 @@ fn each_helper(
     has_inverse: bool,
 ) -> Does
     requires { ⌜ Accepted (now s) (now tab) × (length (now b) ≤ 65536) × Known (now s) (now b) v ⌝ }
-    ensures { λ r. ⌜ HelpingFirst (now (s .entry)) (now (b .entry)) used options count v «has_template» «has_inverse» (λ g e ns T I st. each-helper g (e .params) ns T I st) r ⌝ }
+    ensures { λ r. ⌜ HelpingFirst (now (s .entry)) (now (b .entry)) used options count v «has_template» «has_inverse»
+        (λ g e ns T I st. each-helper g (e .params) ns T I st) r ⌝ }
 {
     if count == 0 {
-        return Does::Bad(15);
+        return Does::Bad(PARAM_NOT_FOUND_FOR_INDEX);
     }
     if !has_template {
         return Does::Nothing;
@@ -177,10 +186,11 @@ fn with_helper(
     has_inverse: bool,
 ) -> Does
     requires { ⌜ Accepted (now s) (now tab) × (length (now b) ≤ 65536) × Known (now s) (now b) v ⌝ }
-    ensures { λ r. ⌜ HelpingFirst (now (s .entry)) (now (b .entry)) used options count v «has_template» «has_inverse» (λ g e ns T I st. with-helper g (e .params) ns T I st) r ⌝ }
+    ensures { λ r. ⌜ HelpingFirst (now (s .entry)) (now (b .entry)) used options count v «has_template» «has_inverse»
+        (λ g e ns T I st. with-helper g (e .params) ns T I st) r ⌝ }
 {
     if count == 0 {
-        return Does::Bad(15);
+        return Does::Bad(PARAM_NOT_FOUND_FOR_INDEX);
     }
     if meaning::is_truthy(s, tab, b, v, false) {
         return in_scope(used, Does::Within(v));
@@ -200,10 +210,11 @@ fn if_helper(
     positive: bool,
 ) -> Does
     requires { ⌜ Accepted (now s) (now tab) × (length (now b) ≤ 65536) × Known (now s) (now b) v ⌝ }
-    ensures { λ r. ⌜ HelpingTruth (now (s .entry)) (now (b .entry)) options count v zero (λ g e ns T I st. if-helper g positive (e .params) (e .hash) T I st) r ⌝ }
+    ensures { λ r. ⌜ HelpingTruth (now (s .entry)) (now (b .entry)) options count v zero
+        (λ g e ns T I st. if-helper g positive (e .params) (e .hash) T I st) r ⌝ }
 {
     if count == 0 {
-        return Does::Bad(15);
+        return Does::Bad(PARAM_NOT_FOUND_FOR_INDEX);
     }
     if truth(s, tab, b, v, options.guide_truth, zero) {
         return branch(positive);
@@ -221,11 +232,15 @@ fn lookup_helper(
     v: Value,
     i: Value,
 ) -> Does
-    requires { ⌜ Accepted (now s) (now tab) × (length (now b) ≤ 65536) × Held (now s) (now b) (now ent) v × Held (now s) (now b) (now ent) i ⌝ }
-    ensures { λ r. ⌜ HelpingBoth (now (s .entry)) (now (b .entry)) (now (ent .entry)) options count v i (λ g e ns T I st. lookup-helper g (e .params) st) r ⌝ }
+    requires { ⌜ Accepted (now s) (now tab)
+        × (length (now b) ≤ 65536)
+        × Held (now s) (now b) (now ent) v
+        × Held (now s) (now b) (now ent) i ⌝ }
+    ensures { λ r. ⌜ HelpingBoth (now (s .entry)) (now (b .entry)) (now (ent .entry)) options count v i
+        (λ g e ns T I st. lookup-helper g (e .params) st) r ⌝ }
 {
     if count < 2 {
-        return Does::Bad(15);
+        return Does::Bad(PARAM_NOT_FOUND_FOR_INDEX);
     }
     let Found::Is(x) = lookup::looked_up(s, tab, b, ent, v, i) else {
         return unless_strict(options.strict, Does::Write(Value::Null));
@@ -246,8 +261,11 @@ pub fn call_helper(
     has_template: bool,
     has_inverse: bool,
 ) -> Does
-    requires { ⌜ Accepted (now s) (now tab) × (length (now b) ≤ 65536) × ExpandedHeld (now s) (now b) (now ent) w ⌝ }
-    ensures { λ r. ⌜ Decides (now (s .entry)) (now (b .entry)) (now (ent .entry)) used options h w «has_template» «has_inverse» r ⌝ }
+    requires { ⌜ Accepted (now s) (now tab)
+        × (length (now b) ≤ 65536)
+        × ExpandedHeld (now s) (now b) (now ent) w ⌝ }
+    ensures { λ r. ⌜ Decides (now (s .entry)) (now (b .entry)) (now (ent .entry)) used options h w
+        «has_template» «has_inverse» r ⌝ }
 {
     let v = w.first;
     let i = w.second;
@@ -281,7 +299,7 @@ pub fn call_helper(
         HelperDef::If => if_helper(s, tab, b, options, w.count, v, w.zero, true),
         HelperDef::Unless => if_helper(s, tab, b, options, w.count, v, w.zero, false),
         HelperDef::Lookup => lookup_helper(s, tab, b, ent, options, w.count, v, i),
-        HelperDef::Unknown => Does::Bad(14),
+        HelperDef::Unknown => Does::Bad(HELPER_NOT_FOUND),
     }
 }
 
@@ -298,7 +316,8 @@ pub fn call_one(
     has_inverse: bool,
 ) -> Does
     requires { ⌜ Accepted (now s) (now tab) × (length (now b) ≤ 65536) × Known (now s) (now b) v ⌝ }
-    ensures { λ r. ⌜ DecidesOne (now (s .entry)) (now (b .entry)) used options h v «has_template» «has_inverse» r ⌝ }
+    ensures { λ r. ⌜ DecidesOne (now (s .entry)) (now (b .entry)) used options h v
+        «has_template» «has_inverse» r ⌝ }
 {
     match h {
         HelperDef::Each => each_helper(s, tab, b, used, options, 1, v, has_template, has_inverse),
@@ -306,8 +325,8 @@ pub fn call_one(
         HelperDef::If => if_helper(s, tab, b, options, 1, v, false, true),
         HelperDef::Unless => if_helper(s, tab, b, options, 1, v, false, false),
         // it wants two
-        HelperDef::Lookup => Does::Bad(15),
-        HelperDef::Unknown => Does::Bad(14),
+        HelperDef::Lookup => Does::Bad(PARAM_NOT_FOUND_FOR_INDEX),
+        HelperDef::Unknown => Does::Bad(HELPER_NOT_FOUND),
     }
 }
 
@@ -325,8 +344,12 @@ pub fn call_two(
     has_template: bool,
     has_inverse: bool,
 ) -> Does
-    requires { ⌜ Accepted (now s) (now tab) × (length (now b) ≤ 65536) × Held (now s) (now b) (now ent) v × Held (now s) (now b) (now ent) i ⌝ }
-    ensures { λ r. ⌜ DecidesTwo (now (s .entry)) (now (b .entry)) (now (ent .entry)) used options h v i «has_template» «has_inverse» r ⌝ }
+    requires { ⌜ Accepted (now s) (now tab)
+        × (length (now b) ≤ 65536)
+        × Held (now s) (now b) (now ent) v
+        × Held (now s) (now b) (now ent) i ⌝ }
+    ensures { λ r. ⌜ DecidesTwo (now (s .entry)) (now (b .entry)) (now (ent .entry)) used options h v i
+        «has_template» «has_inverse» r ⌝ }
 {
     match h {
         HelperDef::Each => each_helper(s, tab, b, used, options, 2, v, has_template, has_inverse),
@@ -334,7 +357,7 @@ pub fn call_two(
         HelperDef::If => if_helper(s, tab, b, options, 2, v, false, true),
         HelperDef::Unless => if_helper(s, tab, b, options, 2, v, false, false),
         HelperDef::Lookup => lookup_helper(s, tab, b, ent, options, 2, v, i),
-        HelperDef::Unknown => Does::Bad(14),
+        HelperDef::Unknown => Does::Bad(HELPER_NOT_FOUND),
     }
 }
 
@@ -354,7 +377,8 @@ pub enum Shows {
 // Whether the call at p is its name alone. Behind the name are the counts of parameters and of pairs, 4 bits each.
 fn name_only(b: &[u8], p: usize, d: usize) -> bool
     requires { ⌜ (length (now b) ≤ 65536) × Holds (call-of (param d)) (bits (now b)) p ⌝ }
-    ensures { λ r. ⌜ name-only (call-at d (bits (now (b .entry))) p) ≡ pick r (some (param-at d (bits (now (b .entry))) p)) none ⌝ }
+    ensures { λ r. ⌜ name-only (call-at d (bits (now (b .entry))) p)
+        ≡ pick r (some (param-at d (bits (now (b .entry))) p)) none ⌝ }
 {
     // the name's kind, and the count of the string that most are
     let x = bits::field(b, p, 18);
@@ -395,7 +419,7 @@ fn shown(strict: bool, v: Value) -> Shows
     match v {
         Value::Missing => {
             if strict {
-                return Shows::Bad(11);
+                return Shows::Bad(MISSING_VARIABLE);
             }
             Shows::Nothing
         }
@@ -412,64 +436,90 @@ fn rendered(strict: bool, x: Got) -> Shows
     }
 }
 
+// What `bare_number` tells is one number, for an enum would go through memory.
+pub const HELPER: u64 = 0;
+
+// Below it are the refusals, by their own numbers.
+pub const NOTHING: u64 = 255;
+
+// A value is told by so much more than its own number.
+pub const VALUE: u64 = 256;
+
+// The front does not tell.
+pub const FAR: u64 = 4294967552;
+
 // What an expression does that is the path at q and nothing else. Most are such: the name is the path's raw string, which is read where it lies.
-// As one number, for an enum would go through memory: 0 where it is a helper's, below 255 a refusal, 255 for nothing, else 256 more than the value's.
 pub fn bare_number(
     s: &[u8],
     tab: &[u64],
     b: &[u8],
     ent: &[u64],
-    sc: &[u64],
-    used: usize,
+    front: Scope,
+    names: u64,
     options: Options,
     q: usize,
 ) -> u64
-    requires { ⌜ Accepted (now s) (now tab) × (length (now b) ≤ 65536) × (0 < used) × (used ≤ 32) × ((t : ℕ) × ScopesStand (now s) (now b) (now ent) (scopes-of (now sc)) used t) × Holds path (bits (now b)) q × (length (now sc) ≡ 96) ⌝ }
-    ensures { λ r. ⌜ (r < 4294967552) × ((g : Registry) (st : RenderContext) (t d p : ℕ) (ibw : Bool) → Setting (now (s .entry)) (now (b .entry)) (now (ent .entry)) (scopes-of (now (sc .entry))) used options g st t → Holds (call-of (param d)) (bits (now (b .entry))) p → param-view (bits (now (b .entry))) p ≡ Parameter.Path q → field (bits (now (b .entry))) 8 (end path (bits (now (b .entry))) q) ≡ 0 → Expresses (now (s .entry)) (now (b .entry)) (now (ent .entry)) t g (call-at d (bits (now (b .entry))) p) ibw st (render-expression g (call-at d (bits (now (b .entry))) p) ibw st) (shows-of r)) ⌝ }
+    requires { ⌜ Accepted (now s) (now tab)
+        × (length (now b) ≤ 65536)
+        × NearFront (now s) (now b) (now ent) front names
+        × Holds path (bits (now b)) q ⌝ }
+    ensures { λ r. ⌜ (r ≤ 4294967552)
+        × ((r ≡ 4294967552 → ⊥) → (l : List Scope) (used : ℕ)
+        → Newest (now (b .entry)) (now (ent .entry)) front names l used
+        → ExpressingBare (now (s .entry)) (now (b .entry)) (now (ent .entry)) l used options q (shows-of r))
+        × (eqb r 4294967552 ≡ pick (has (get-helper (text-at (bits (now (b .entry))) q))) false
+        (needs-all (now (b .entry)) (now (ent .entry)) front names (path-at (bits (now (b .entry))) q))) ⌝ }
 {
     // few paths name a helper, and one number tells that of most
     if expand::may_name(b, q) {
         if known(expand::helper_at(b, q)) {
-            return 0;
+            return HELPER;
         }
     }
-    let found = context::evaluate_number(s, tab, b, ent, sc, used, options.recursive_lookup, q);
-    if found == 0 {
-        return 20;
+    let found = context::evaluate_near(s, tab, b, ent, front, names, options.recursive_lookup, q);
+    if found == context::FAR {
+        return FAR;
     }
-    // one more than the number of what is missing
+    // a wrong index
+    if found == 0 {
+        return INVALID_JSON_INDEX as u64;
+    }
+    // nothing: one more than the number of what is missing
     if found % 16 == 1 {
         if options.strict {
-            return 11;
+            return MISSING_VARIABLE as u64;
         }
-        return 255;
+        return NOTHING;
     }
-    255 + found
+    VALUE + (found - 1)
 }
 
-// The same as an enum, for the long way. (It works by itself, so that `bare_number` is called from one place only: then the compiler makes that a part of the loop over
-// a body.)
+// The same as an enum and by all scopes, for the long way.
 fn bare_path(
     s: &[u8],
     tab: &[u64],
     b: &[u8],
     ent: &[u64],
-    sc: &[u64],
+    scopes: [Scope; 32],
     used: usize,
     options: Options,
     q: usize,
 ) -> Shows
-    requires { ⌜ Accepted (now s) (now tab) × (length (now b) ≤ 65536) × (0 < used) × (used ≤ 32) × ((t : ℕ) × ScopesStand (now s) (now b) (now ent) (scopes-of (now sc)) used t) × Holds path (bits (now b)) q × (length (now sc) ≡ 96) ⌝ }
-    ensures { λ r. ⌜ ((g : Registry) (st : RenderContext) (t d p : ℕ) (ibw : Bool) → Setting (now (s .entry)) (now (b .entry)) (now (ent .entry)) (scopes-of (now (sc .entry))) used options g st t → Holds (call-of (param d)) (bits (now (b .entry))) p → param-view (bits (now (b .entry))) p ≡ Parameter.Path q → field (bits (now (b .entry))) 8 (end path (bits (now (b .entry))) q) ≡ 0 → Expresses (now (s .entry)) (now (b .entry)) (now (ent .entry)) t g (call-at d (bits (now (b .entry))) p) ibw st (render-expression g (call-at d (bits (now (b .entry))) p) ibw st) r) ⌝ }
+    requires { ⌜ Accepted (now s) (now tab)
+        × (length (now b) ≤ 65536)
+        × (0 < used)
+        × (used ≤ 32)
+        × NearScopes (now s) (now b) (now ent) scopes used
+        × Holds path (bits (now b)) q ⌝ }
+    ensures { λ r. ⌜ ExpressingBare (now (s .entry)) (now (b .entry)) (now (ent .entry)) scopes used options q r ⌝ }
 {
     if known(expand::helper_at(b, q)) {
         return Shows::Helper;
     }
-    let found = context::evaluate2(s, tab, b, ent, sc, used, options.recursive_lookup, q);
-    match found {
-        Evaluated::Is(v) => shown(options.strict, v),
-        Evaluated::BadIndex => Shows::Bad(20),
-    }
+    rendered(
+        options.strict,
+        expand::path_value(s, tab, b, ent, scopes, used, options, q),
+    )
 }
 
 // What an expression does whose name is the path at q: with parameters or a hash it is a helper's.
@@ -478,19 +528,24 @@ fn path_expression(
     tab: &[u64],
     b: &[u8],
     ent: &[u64],
-    sc: &[u64],
+    scopes: [Scope; 32],
     used: usize,
     options: Options,
     q: usize,
 ) -> Shows
-    requires { ⌜ Accepted (now s) (now tab) × (length (now b) ≤ 65536) × (0 < used) × (used ≤ 32) × ((t : ℕ) × ScopesStand (now s) (now b) (now ent) (scopes-of (now sc)) used t) × Holds path (bits (now b)) q × (length (now sc) ≡ 96) ⌝ }
-    ensures { λ r. ⌜ ((g : Registry) (st : RenderContext) (t d p : ℕ) (ibw : Bool) → Setting (now (s .entry)) (now (b .entry)) (now (ent .entry)) (scopes-of (now (sc .entry))) used options g st t → Holds (call-of (param d)) (bits (now (b .entry))) p → param-view (bits (now (b .entry))) p ≡ Parameter.Path q → Expresses (now (s .entry)) (now (b .entry)) (now (ent .entry)) t g (call-at d (bits (now (b .entry))) p) ibw st (render-expression g (call-at d (bits (now (b .entry))) p) ibw st) r) ⌝ }
+    requires { ⌜ Accepted (now s) (now tab)
+        × (length (now b) ≤ 65536)
+        × (0 < used)
+        × (used ≤ 32)
+        × NearScopes (now s) (now b) (now ent) scopes used
+        × Holds path (bits (now b)) q ⌝ }
+    ensures { λ r. ⌜ ExpressingPath (now (s .entry)) (now (b .entry)) (now (ent .entry)) scopes used options q r ⌝ }
 {
     let next = parts::skip_path(b, q);
     if bits::field(b, next, 8) != 0 {
         return Shows::Helper;
     }
-    bare_path(s, tab, b, ent, sc, used, options, q)
+    bare_path(s, tab, b, ent, scopes, used, options, q)
 }
 
 // What the expression with the call at p does.
@@ -499,23 +554,28 @@ pub fn expression(
     tab: &[u64],
     b: &[u8],
     ent: &[u64],
-    sc: &[u64],
+    scopes: [Scope; 32],
     used: usize,
     options: Options,
     p: usize,
     d: usize,
 ) -> Shows
-    requires { ⌜ Accepted (now s) (now tab) × (length (now b) ≤ 65536) × (0 < used) × (used ≤ 32) × ((t : ℕ) × ScopesStand (now s) (now b) (now ent) (scopes-of (now sc)) used t) × Holds (call-of (param d)) (bits (now b)) p × (length (now sc) ≡ 96) ⌝ }
-    ensures { λ r. ⌜ ((g : Registry) (st : RenderContext) (t : ℕ) (ibw : Bool) → Setting (now (s .entry)) (now (b .entry)) (now (ent .entry)) (scopes-of (now (sc .entry))) used options g st t → Expresses (now (s .entry)) (now (b .entry)) (now (ent .entry)) t g (call-at d (bits (now (b .entry))) p) ibw st (render-expression g (call-at d (bits (now (b .entry))) p) ibw st) r) ⌝ }
+    requires { ⌜ Accepted (now s) (now tab)
+        × (length (now b) ≤ 65536)
+        × (0 < used)
+        × (used ≤ 32)
+        × NearScopes (now s) (now b) (now ent) scopes used
+        × Holds (call-of (param d)) (bits (now b)) p ⌝ }
+    ensures { λ r. ⌜ ExpressingCall (now (s .entry)) (now (b .entry)) (now (ent .entry)) scopes used options d p r ⌝ }
 {
     let x = calls::param_at(b, p);
     if let Parameter::Path(q) = x {
-        return path_expression(s, tab, b, ent, sc, used, options, q);
+        return path_expression(s, tab, b, ent, scopes, used, options, q);
     }
     if !name_only(b, p, d) {
         return Shows::Helper;
     }
-    let name = expand::expand_as_name(s, tab, b, ent, sc, used, options, p, d);
+    let name = expand::expand_as_name(s, tab, b, ent, scopes, used, options, p, d);
     match name {
         Got::Bad(n) => Shows::Bad(n),
         Got::Is(v) => {
@@ -524,7 +584,7 @@ pub fn expression(
             }
             rendered(
                 options.strict,
-                expand::expand(s, tab, b, ent, sc, used, options, p, d),
+                expand::expand(s, tab, b, ent, scopes, used, options, p, d),
             )
         }
     }

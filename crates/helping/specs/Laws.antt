@@ -1,18 +1,18 @@
 -- Laws of the beginning of a helper.
-use Prim.Native.Nat.{ℕ, suc, _+_, _-_, _*_, _≤_, _<_}
+use Prim.Native.Nat.{ℕ, _-_, _*_, _≤_}
 use mathlib.Core.Bool.{Bool, true, false}
 use mathlib.Core.List.{List, []}
-use mathlib.Core.Option.{Option, none, some}
+use mathlib.Core.Option.{none}
 use mathlib.Core.Path.{_≡_, refl, sym, ap, _∙_, subst}
 use native.Mathlib.Omega.{arith}
-use lib.ListN.{length, getD}
-use Rattle.rules.specs.Bytes.{Bytes, pick}
+use lib.ListN.{length}
+use Rattle.rules.specs.Bytes.{Bytes}
 use Rattle.rules.specs.Bits.{bits}
-use Rattle.rules.specs.Error.{got, bad}
+use Rattle.rules.specs.Error.{bad}
 use Rattle.rules.specs.Template as template
 use Rattle.rules.specs.Bundle.{body, block-names}
 use Rattle.rules.specs.State as rules
-use Rattle.rules.specs.State.{Res, ok, err, Draw, fail, or-fail, push-block, pop-block, _after_}
+use Rattle.rules.specs.State.{Res, ok, Draw, fail, or-fail, push-block, pop-block, _after_}
 use Rattle.rules.specs.Output.{do-escape, indent-aware-write}
 use Rattle.rules.specs.Value.{render}
 use Rattle.rules.specs.Registry.{Registry, get-helper}
@@ -35,36 +35,34 @@ use Rattle.output.specs.declared.Writer.{Writer}
 use Rattle.value.specs.declared.Value.{Value}
 use Rattle.value.specs.Numbers.{Fits}
 use Rattle.meaning.specs.Meaning.{json-of, scoped-of}
-use Rattle.meaning.specs.Standing.{Stands}
-use Rattle.scope.specs.Scopes.{blank}
-use Rattle.scope.specs.NamesLaws.{string-near}
-use Rattle.blocks.specs.Opened.{with-scope, newest, Opens}
+use Rattle.scope.specs.declared.Scope.{Scope}
+use Rattle.scope.specs.NameBits.{Covers}
+use Rattle.blocks.specs.Opened.{with-scope}
 use Rattle.blocks.specs.Laws.{within-with}
 use Rattle.expand.specs.declared.Options.{Options}
 use Rattle.expand.specs.declared.Expanded.{Expanded}
 use Rattle.expand.specs.declared.HelperDef.{HelperDef}
-use Rattle.expand.specs.Answers.{Setting, Refuses, IsExpanded, IsTemplate, ExpandedHeld, helper-of}
+use Rattle.expand.specs.Answers.{Setting, IsExpanded, IsTemplate, ExpandedHeld, helper-of}
 use Rattle.helpers.specs.declared.Does.{Does}
 use Rattle.helpers.specs.declared.Does.the-variants as does
 use Rattle.helpers.specs.Does.{Fails, Decides, has}
-use Rattle.writing.specs.Writes.{Writes}
-use Rattle.state.specs.Context.{RenderContext}
-use Rattle.state.specs.Setters.{failed, marked, settled, with-template, pushed, closed, finished, finished-within}
+use Rattle.state.specs.declared.RenderContext as code
+use Rattle.state.specs.Context.{RenderContext, whole, Current, Front}
+use Rattle.state.specs.Setters.{failed, settled, pushed, closed, finished}
 use Rattle.state.specs.World.{World, world, over, front, top, abs, Ready, Draws}
 use Rattle.state.specs.Laws.{draws-nothing, draws-refused}
 use Rattle.state.specs.Steps.{goes-marks, goes-template}
 use Rattle.inlining.specs.Decorated.{is-at, SomeReady}
 use Rattle.drawing.specs.Parts.{before-helper}
 use Rattle.drawing.specs.Renders.{registry-of, Renders, Openable, Possible, Helped}
+use Rattle.drawing.specs.Arrays.{array-scopes}
 use Rattle.drawing.specs.Members.{setting, draws-failed, body-nothing, body-drawn}
 use Rattle.drawing.specs.Helping.{helper-possible, helper-refused, helper-done}
 use Rattle.drawing.specs.Withs.{with-done, with-stop}
-use Rattle.drawing.specs.Continues.{Continues, unless-refused, unless-fine, unless-not}
-use Rattle.helping.specs.declared.Next.{Next}
+use Rattle.drawing.specs.Continues.{unless-refused, unless-fine, unless-not}
 use Rattle.helping.specs.declared.Next.the-variants as next
-use Rattle.helping.specs.Decided.{helper-rule, marks-set, Drawable, Decided}
+use Rattle.helping.specs.Decided.{helper-rule, marks-set, Drawable, Decided, DecidedBy, CallWorked, Doable}
 use Rattle.helping.specs.Begun.{done, body-next, within-next, turns-next, HelperBegun}
-use Rattle.drawing.specs.Renders.{body-rule}
 use Rattle.drawing.specs.EachLoop.{each-rule}
 
 -- `decide`
@@ -121,6 +119,39 @@ module _ (s b : Bytes) (ent : List ℕ) (o : Options) (c : RenderContext) (d p :
       let e = given (h .page) (h .texts) (h .indent) (h .ready) .fine z .2 in
       let room : 2 * top w₀ ≤ length ent = omega (arith, h .ready .enough, h .ready .few, h .ready .table) in
       record { used = top w₀; room = room; name = e .name-stands; first = e .params .first; second = e .params .second }
+
+-- what can be done behind the marks can be done in front of them
+possible-marks : (s b : Bytes) (w : World) (before : Bool) (a : Does) → Possible s b (marks-set w before) a → Possible s b w a
+possible-marks s b w before (does.Bad n) h = h
+possible-marks s b w before does.Nothing h = tt
+possible-marks s b w before does.Template h = tt
+possible-marks s b w before does.Inverse h = tt
+possible-marks s b w before (does.Within v) h = record { stands = h .stands; present = h .present; room = h .room }
+possible-marks s b w before (does.Turns v) h = record { stands = h .stands; present = h .present; room = h .room }
+possible-marks s b w before (does.Write v) h = h
+
+-- The array l stands beside the context rc
+
+module _ (s b : Bytes) (ent : List ℕ) (rc : code.RenderContext) (l : List Scope) (page texts indent : Bytes) (r : Ready s b (world (whole rc l) page texts indent ent)) where
+  -- what was decided by the scopes of an array that knows of all inline partials
+  pub decided-whole : (o : Options) (d p : ℕ) (tm im : Maybe) (a : Does) → Current l rc → DecidedBy s b ent l (rc .used) o d p (is-at tm) (is-at im) a → Decided s b ent o (whole rc l) d p tm im a
+  decided-whole o d p tm im a e h = h (whole rc l) tm im (array-scopes s b rc l page texts indent ent r e) refl refl refl
+
+  -- the values that a call was worked out to stand
+  pub call-held : (o : Options) (d p : ℕ) (x : Expanded) → Current l rc → CallWorked s b ent l (rc .used) o d p x → x .bad ≡ 0 → ExpandedHeld s b ent x
+  call-held o d p x e worked z =
+      some-held s b ent o (whole rc l) d p Nothing Nothing x
+      (λ g st t S. worked g st t (subst (λ (k : List Scope). Setting s b ent k (rc .used) o g st t) (array-scopes s b rc l page texts indent ent r e) S)) z
+      (record { page = page; texts = texts; indent = indent; ready = r })
+
+  -- what was decided can be done
+  pub doable : (front : Scope) (o : Options) (d p : ℕ) (tm im : Maybe) (a : Does) → Front l rc front → Decided s b ent o (whole rc l) d p tm im a → Doable s b ent front rc a
+  doable front o d p tm im a f h = record {
+    stack = l;
+    newest = f;
+    ready = record { page = page; texts = texts; indent = indent; ready = r };
+    possible = possible-marks s b (world (whole rc l) page texts indent ent) false a (h .at page texts indent false template.no-names r .possible);
+  }
 
 -- `begin`
 
@@ -197,9 +228,6 @@ module _ (s b : Bytes) (o : Options) (w : World) (d p n : ℕ) (before : Bool) (
     names-held : NamesHold (bits b) ns
     names-held = names-stand (bits b) n held .parts
 
-    pub opens : Openable s b w₁ v → Opens (w₁ .rc) v
-    opens q = record { fits = fits; sized = r .sized; one = r .one; room = q .room; near = omega (arith, r .enough, r .few) }
-
     -- drawn in a scope of its own
     within-drawn : Openable s b w₁ v → (u : World) → Renders s b o w₁ u (λ g R st. pop-block after render-or-nothing (render-body g R (body-says 16 d (bits b) tm)) (push-block (with-block st (names-says (bits b) ns) (scoped-of s b (w .ent) v)) st)) → Drawn u (does.Within v)
     within-drawn q u R = record {
@@ -207,41 +235,43 @@ module _ (s b : Bytes) (o : Options) (w : World) (d p n : ℕ) (before : Bool) (
           subst (Draws s b w₁ u) (sym (h .is ∙ ap (λ (k : template.BlockParam). pop-block after render-or-nothing (render-body (registry-of s b o (length (w .page))) (render-template (registry-of s b o (length (w .page))) f) (body-says 16 d (bits b) tm)) (push-block (with-block (abs s b w₁) k (scoped-of s b (w .ent) v)) (abs s b w₁))) named)) (R .at f le);
     }
 
-    abbrev w₂ : World
-    w₂ = over (pushed (w₁ .rc) (with-scope v ns (front w₁))) w₁
-
     -- without a template the scope is opened and closed again
     without : tm ≡ Nothing → (f : ℕ) → (pop-block after render-or-nothing (render-body (registry-of s b o (length (w .page))) (render-template (registry-of s b o (length (w .page))) f) (body-says 16 d (bits b) tm)) (push-block (with-block (abs s b w₁) (names-at (bits b) n) (scoped-of s b (w .ent) v)) (abs s b w₁))) ≡ ok (abs s b w₁) []
     unfolding _after_ render-body
     without e f = ap (λ (k : Maybe). pop-block after render-or-nothing (render-body (registry-of s b o (length (w .page))) (render-template (registry-of s b o (length (w .page))) f) (body-says 16 d (bits b) k)) (push-block (with-block (abs s b w₁) (names-at (bits b) n) (scoped-of s b (w .ent) v)) (abs s b w₁))) e
 
-    pub begun-within : Can (does.Within v) → MaybeHolds (body 16 d) (bits b) tm → HelperBegun s b o w (over (within-next (bits b) n tm v (w₁ .rc) m .rc) w₁) d p n tm im before (within-next (bits b) n tm v (w₁ .rc) m .next)
-    begun-within D h = go tm refl h
-      where
-        q : Openable s b w₁ v
-        q = D .possible
+    -- its block names are in the set k
+    module _ (k : ℕ) (covers : Covers k b (w .ent) (with-scope v ns (front w₁))) where
+      abbrev w₂ : World
+      w₂ = over (pushed (w₁ .rc) (with-scope v ns (front w₁)) k) w₁
 
-        opened : Ready s b w₂
-        opened = within-with s b w₁ v ready₁ (q .room) (q .stands) (q .present) fits ns names-held .ready
+      pub begun-within : Can (does.Within v) → MaybeHolds (body 16 d) (bits b) tm → HelperBegun s b o w (over (within-next (bits b) n tm v (w₁ .rc) m k .rc) w₁) d p n tm im before (within-next (bits b) n tm v (w₁ .rc) m k .next)
+      begun-within D h = go tm refl h
+        where
+          q : Openable s b w₁ v
+          q = D .possible
 
-        nothing : tm ≡ Nothing → Drawn w₁ (does.Within v)
-        nothing e = record { at = λ f le x h. subst (Draws s b w₁ w₁) (sym (h .is ∙ without e f)) (draws-nothing s b w₁ ready₁) }
+          opened : Ready s b w₂
+          opened = within-with s b w₁ v ready₁ (q .room) (q .stands) (q .present) fits ns names-held k covers .ready
 
-        go : (k : Maybe) → tm ≡ k → MaybeHolds (body 16 d) (bits b) k → HelperBegun s b o w (over (within-next (bits b) n k v (w₁ .rc) m .rc) w₁) d p n tm im before (within-next (bits b) n k v (w₁ .rc) m .next)
-        go (At z) e hz = (
-          hz,
-          record {
-            ready = goes-template s b w₂ opened 0 (λ x. absurd (x refl)) .ready;
-            deeper = omega arith;
-            done = λ u R.
-                let B : Renders s b o w₂ u (λ g R. render-or-nothing (render-body g R (body-says 16 d (bits b) tm))) =
-                subst (λ (k : Maybe). Renders s b o w₂ u (λ g R. render-or-nothing (render-body g R (body-says 16 d (bits b) k)))) (sym e) (body-drawn s b o w₂ u (template-at 16 d (bits b) z) opened R) in
-                unless-refused (λ x. Renders s b o w x rule) (λ c. settled (closed c (w .rc .total)) m) u
-                (λ y. subst (λ (c : RenderContext). Renders s b o w (over c u) rule) (unless-fine (λ q. settled q m) (closed (u .rc) (w .rc .total)) y) (D .done (over (closed (u .rc) (w .rc .total)) u) (within-drawn q (over (closed (u .rc) (w .rc .total)) u) (with-done s b o w₁ v ns (body-says 16 d (bits b) tm) ready₁ q fits names-held u B y))))
-                (λ y. subst (λ (c : RenderContext). Renders s b o w (over c u) rule) (unless-not (λ q. settled q m) (u .rc) y) (D .done u (within-drawn q u (with-stop s b o w₁ v ns (body-says 16 d (bits b) tm) ready₁ q fits names-held u B y))));
-          },
-        )
-        go Nothing e hz = settles (does.Within v) D (nothing e)
+          nothing : tm ≡ Nothing → Drawn w₁ (does.Within v)
+          nothing e = record { at = λ f le x h. subst (Draws s b w₁ w₁) (sym (h .is ∙ without e f)) (draws-nothing s b w₁ ready₁) }
+
+          go : (y : Maybe) → tm ≡ y → MaybeHolds (body 16 d) (bits b) y → HelperBegun s b o w (over (within-next (bits b) n y v (w₁ .rc) m k .rc) w₁) d p n tm im before (within-next (bits b) n y v (w₁ .rc) m k .next)
+          go (At z) e hz = (
+            hz,
+            record {
+              ready = goes-template s b w₂ opened 0 (λ x. absurd (x refl)) .ready;
+              deeper = omega arith;
+              done = λ u R.
+                  let B : Renders s b o w₂ u (λ g R. render-or-nothing (render-body g R (body-says 16 d (bits b) tm))) =
+                  subst (λ (k : Maybe). Renders s b o w₂ u (λ g R. render-or-nothing (render-body g R (body-says 16 d (bits b) k)))) (sym e) (body-drawn s b o w₂ u (template-at 16 d (bits b) z) opened R) in
+                  unless-refused (λ x. Renders s b o w x rule) (λ c. settled (closed (w .rc) c) m) u
+                  (λ y. subst (λ (c : RenderContext). Renders s b o w (over c u) rule) (unless-fine (λ q. settled q m) (closed (w .rc) (u .rc)) y) (D .done (over (closed (w .rc) (u .rc)) u) (within-drawn q (over (closed (w .rc) (u .rc)) u) (with-done s b o w₁ v ns (body-says 16 d (bits b) tm) ready₁ q fits names-held k covers u B y))))
+                  (λ y. subst (λ (c : RenderContext). Renders s b o w (over c u) rule) (unless-not (λ q. settled q m) (u .rc) y) (D .done u (within-drawn q u (with-stop s b o w₁ v ns (body-says 16 d (bits b) tm) ready₁ q fits names-held k covers u B y))));
+            },
+          )
+          go Nothing e hz = settles (does.Within v) D (nothing e)
 
   -- `each`
 

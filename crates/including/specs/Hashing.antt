@@ -1,103 +1,27 @@
--- A call whose name is a string, and that has no parameters: what its hash works out to. s is the plan, b the bundle, ent the entries of open partials.
-use Prim.Native.Nat.{ℕ, zero, suc, _+_, _-_, _*_, _/_, _%_, _≤_, _<_}
+-- What the hash of a call works out to, pair by pair: b is the bundle.
+use Prim.Native.Nat.{ℕ, zero, suc, _+_, _-_, _≤_, _<_}
 use mathlib.Core.Bool.{Bool, true, false}
 use mathlib.Core.List.{List, [], _∷_}
-use mathlib.Core.Path.{_≡_, refl, sym, ap, ap₂, _∙_, subst}
+use mathlib.Core.Path.{_≡_, refl, sym, ap, _∙_}
 use native.Mathlib.Omega.{arith}
-use lib.Dec.{eqb, ltb}
-use lib.ListN.{getD}
-use borrow.Author.Tests.{eqb-true, eqb-false, ne-eqb, ltb-false, lt-ltb, le-ltb}
+use lib.Dec.{eqb}
+use borrow.Author.Tests.{eqb-true, eqb-false, ne-eqb}
 use Rattle.rules.specs.Bytes.{Bytes, pick}
-use Rattle.rules.specs.Template as template
 use Rattle.rules.specs.Bits.{Bits, bits}
-use Rattle.rules.specs.Layout.{field, _then_}
-use Rattle.rules.specs.LayoutLaws.{Binary, field-lt}
-use Rattle.rules.specs.Bundle.{string, param, call-of}
-use Rattle.rules.specs.BundleLaws.{bits-binary}
+use Rattle.rules.specs.Layout.{_then_}
+use Rattle.rules.specs.Bundle.{string, param}
 use Rattle.rules.specs.Error as rule
 use Rattle.rules.specs.Error.{RenderErrorReason, number, got, bad, wth}
 use Rattle.rules.specs.Value.{ScopedJson}
 use Rattle.rules.specs.State.{RenderContext}
 use Rattle.rules.specs.Registry.{Registry}
-use Rattle.rules.specs.HelperIf.{include-zero}
 use Rattle.rules.specs.Expand as rules
-use Rattle.rules.specs.Partial.{partial-context}
-use Rattle.bits.specs.Fields.{field-append}
 use Rattle.layout.specs.Text.{text-at}
 use Rattle.parts.specs.Holds.{Holds, end, row}
-use Rattle.parts.specs.HoldsLaws.{more-holds, counted-holds, none-left}
-use Rattle.calls.specs.declared.Parameter.the-variants.{Name}
-use Rattle.calls.specs.Calls.{param-of, param-name, param-at, ParamStands, param-read, call-at, call-says, hash-at, no-hash, hash-more, name-end, params-end, call-view, call-name, call-params, call-stands}
-use Rattle.calls.specs.Shorts.{short-end, short-ends}
-use Rattle.value.specs.declared.Value.{Value}
-use Rattle.value.specs.declared.Value.the-variants.{Missing, Context, Place, Text}
-use Rattle.value.specs.Numbers.{encoded, decoded, place-of}
-use Rattle.scope.specs.declared.Scope.{Scope}
-use Rattle.scope.specs.Scopes.{blank, base-of}
-use Rattle.scope.specs.Names.{without-path}
-use Rattle.expand.specs.declared.Got.the-variants.{Is}
-use Rattle.expand.specs.declared.Expanded.{Expanded}
-use Rattle.expand.specs.Answers.{Refuses, Works, IsTemplate}
-use Rattle.expand.proofs.Parts.{gathered-given, string-given, all-none}
+use Rattle.parts.specs.HoldsLaws.{more-holds}
+use Rattle.calls.specs.Calls.{param-at, hash-at, no-hash, hash-more}
+use Rattle.expand.specs.Answers.{Refuses, Works}
 use Rattle.including.specs.Values.{pair-place, content-place}
-use Rattle.including.specs.Starting.{StartsPartial, GivesContext, current-given, no-param}
-
--- The call
-
--- how many pairs it has, right behind its name; 16 or more where the call is another one
-abbrev pub plain-pairs : Bits → ℕ → ℕ
-plain-pairs b p = pick (ltb 65535 (field b 18 p)) 16 (field b 8 (short-end b p))
-
-pub record PlainCall (d : ℕ) (b : Bits) (p k : ℕ) : Type 0 where
-  pub params : call-view d b p .params ≡ 0
-  pub pairs : call-view d b p .pairs ≡ k
-  pub pair : call-view d b p .pair ≡ end string b (p + 2) + 8
-  pub name : param-at d b p ≡ template.name (text-at b (p + 2))
-  pub held : Holds string b (p + 2)
-
-module _ (d : ℕ) (b : Bits) (bin : Binary b) (p : ℕ) (H : Holds (call-of (param d)) b p) where
-  -- x is the kind of its name with the count of its string, k are both counts behind that
-  module _ (k : ℕ) (lo : field b 18 p ≤ 65535) (e : k ≡ field b 8 (short-end b p)) (few : k < 16) where
-    is-name : field b 2 p ≡ 0
-    is-name = omega (arith, field-append b 2 16 p, lo)
-
-    read : ParamStands d b p (Name (p + 2))
-    read = param-read d b p (call-name d b p H) (Name (p + 2)) (ap (param-of (p + 2)) (sym is-name))
-
-    counts : k ≡ field b 4 (name-end d b p) * 16 + field b 4 (name-end d b p + 4)
-    counts = e ∙ ap (field b 8) (short-ends d b bin p H (field b 18 p) refl lo .0) ∙ field-append b 4 4 (name-end d b p)
-
-    none : field b 4 (name-end d b p) ≡ 0
-    none = omega (arith, counts, few)
-
-    behind : params-end d b p ≡ name-end d b p + 4
-    behind =
-        sym (counted-holds 4 (param d) b (name-end d b p) (call-params d b p H) .ends)
-        ∙ ap (λ (n : ℕ). end (row (param d) n) b (name-end d b p + 4)) none
-        ∙ none-left (param d) b (name-end d b p + 4)
-
-    plain-so : PlainCall d b p k
-    plain-so =
-        let m : end string b (p + 2) ≡ name-end d b p = param-name d b p (call-name d b p H) is-name .ends in
-        let n : field b 4 (name-end d b p + 4) ≡ k = omega (arith, counts, none) in
-        record { params = none; pairs = ap (field b 4) behind ∙ n; pair = omega (arith, behind, m); name = read .is; held = read .parts }
-
-  pub plain-read : (k : ℕ) → k ≡ plain-pairs b p → k < 16 → PlainCall d b p k
-  plain-read k e few = go (ltb 65535 (field b 18 p)) refl e
-    where
-      go : (y : Bool) → ltb 65535 (field b 18 p) ≡ y → k ≡ pick y 16 (field b 8 (short-end b p)) → PlainCall d b p k
-      go true q h = absurd (omega (arith, h, few))
-      go false q h = plain-so k (ltb-false 65535 (field b 18 p) q) h few
-
-pub plain-other : (b : Bits) (p : ℕ) → 65535 < field b 18 p → 16 ≡ plain-pairs b p
-plain-other b p h = rw (lt-ltb 65535 (field b 18 p) h)
-
-pub plain-here : (b : Bits) (p x : ℕ) → x ≡ field b 18 p → x ≤ 65535 → field b 8 (p + 18 + 8 * x) ≡ plain-pairs b p
-plain-here b p x e h =
-    let le : field b 18 p ≤ 65535 = omega (arith, e, h) in
-    ap (λ (y : ℕ). field b 8 (p + 18 + 8 * y)) e ∙ rw (le-ltb 65535 (field b 18 p) le)
-
--- Its hash, pair by pair
 
 pub pick-first : (i x y : ℕ) → i ≡ 0 → x ≡ pick (eqb i 0) x y
 pick-first i x y e = ap (λ (j : ℕ). pick (eqb j 0) x y) (sym e)
@@ -229,48 +153,3 @@ module _ (b : Bytes) (d p : ℕ) (g : Registry) (st : RenderContext) where
 
   pub one-refused : (n m k : ℕ) → m < n → WorkedOut m → Holds (row (string then param d) n) (bits b) p → Refuses (value-of m) k → Refuses (rules.expand-hash g st (hash-at d n (bits b) p)) k
   one-refused n m k lt w H r = refused-from n 0 m k (omega arith) (omega arith) w H r
-
--- The whole call: its name is the string at q
-
-abbrev pub asked : ℕ → Bool → ℕ → Expanded
-asked q z n = record { name = Text q; count = 0; first = Missing; second = Missing; zero = z; bad = n }
-
--- whether includeZero is true goes by the hash
-pub zero-works : (P : List (Bytes × ScopedJson) → Type 0) (x : rule.Got (List (Bytes × ScopedJson))) (n : ℕ) → Works P x n → (z : Bool) × Works (λ h. include-zero h ≡ z) x n
-zero-works P x zero w = let f = w .fine refl in (include-zero (f .0), record { fine = λ e. (f .0, f .1, refl); refused = λ e. absurd (e refl) })
-zero-works P x (suc n) w = (false, record { fine = λ e. absurd (omega (arith, e)); refused = λ e. w .refused e })
-
-module _ (s b : Bytes) (ent : List ℕ) (t d p k : ℕ) (H : Holds (call-of (param d)) (bits b) p) (c : PlainCall d (bits b) p k) (g : Registry) (st : RenderContext) where
-  pub asked-given : (z : Bool) (n : ℕ) → Works (λ h. include-zero h ≡ z) (rules.expand-hash g st (hash-at d k (bits b) (end string (bits b) (p + 2) + 8))) n
-      → IsTemplate s b ent t (rules.try-from-template g st (call-at d (bits b) p)) (asked (p + 2) z n)
-  asked-given z n w =
-      let v = call-view d (bits b) p in
-      let h = subst (λ (j : ℕ). Works (λ h. include-zero h ≡ z) (rules.expand-hash g st (hash-at d j (bits b) (v .pair))) n) (sym (c .pairs))
-      (subst (λ (q : ℕ). Works (λ h. include-zero h ≡ z) (rules.expand-hash g st (hash-at d k (bits b) q)) n) (sym (c .pair)) w) in
-      let ps = all-none s b ent t d (v .params) (v .param) g st (c .params) in
-      subst (λ (y : template.Call). IsTemplate s b ent t (rules.try-from-template g st y) (asked (p + 2) z n)) (sym (call-stands d (bits b) p H .is))
-      (subst (λ (j : ℕ). IsTemplate s b ent t (rules.try-from-template g st (call-says d (bits b) p v)) (record { name = Text (p + 2); count = j; first = Missing; second = Missing; zero = z; bad = n })) (c .params)
-      (gathered-given s b ent t _ _ _ (Is (Text (p + 2))) (v .params) (record { first = Missing; second = Missing; bad = 0 }) (record { zero = z; bad = n })
-      (string-given s b ent t (p + 2) (c .held) g st _ (c .name)) ps h))
-
--- its context is the current value
-pub asked-starts : (l : List Scope) (used : ℕ) (x : Expanded) → 0 < used → x .count ≡ 0 → StartsPartial l used x (without-path (base-of (getD l (used - 1) blank)))
-asked-starts l used x lt z s b ent o g st t e h S E =
-    subst (λ (ps : List ScopedJson). GivesContext s b ent t (partial-context g st ps) (without-path (base-of (getD l (used - 1) blank)))) (sym (no-param s b ent t x e E g st z))
-    (current-given s b ent l used o g st t S lt h)
-
--- The number of the current value without its path
-
-pub context-number : (n : ℕ) → n % 16 ≡ 5 → n + 1 ≡ encoded (without-path (decoded n))
-unfolding decoded place-of
-context-number n e =
-    let d : decoded n ≡ Context (n / 16) = rw e in
-    let m : n + 1 ≡ 6 + 16 * (n / 16) = omega (arith, e) in
-    m ∙ ap (λ (v : Value). encoded (without-path v)) (sym d)
-
-pub place-number : (n : ℕ) → n % 16 ≡ 6 → n ≡ encoded (without-path (decoded n))
-unfolding decoded place-of
-place-number n e =
-    let d : decoded n ≡ Place (n / 16) = rw e in
-    let m : n ≡ 6 + 16 * (n / 16) = omega (arith, e) in
-    m ∙ ap (λ (v : Value). encoded (without-path v)) (sym d)

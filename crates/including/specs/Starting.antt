@@ -16,7 +16,6 @@ use Rattle.rules.specs.Block.{BlockContext}
 use Rattle.rules.specs.Context.{absolute-path, local-value, from-block, follow}
 use Rattle.rules.specs.State.{RenderContext, first-context}
 use Rattle.rules.specs.Registry.{Registry}
-use Rattle.rules.specs.BlockUtil as block-util
 use Rattle.rules.specs.Partial.{partial-context}
 use Rattle.places.specs.Places.{json-at, path-at}
 use Rattle.value.specs.declared.Value.{Value}
@@ -32,8 +31,7 @@ use Rattle.scope.specs.NamesLaws.{value-is}
 use Rattle.context.specs.Walk.{walk-end, follow-place}
 use Rattle.context.proofs.Walking.{context-is}
 use Rattle.expand.specs.declared.Options.{Options}
-use Rattle.expand.specs.declared.Expanded.{Expanded}
-use Rattle.expand.specs.Answers.{Setting, Begins, IsExpanded}
+use Rattle.expand.specs.Answers.{Setting, Begins, Front}
 use Rattle.expand.proofs.Calling.{as-json-of}
 
 -- v is the value that x gives, without its path
@@ -42,11 +40,12 @@ pub record GivesContext (s b : Bytes) (ent : List ℕ) (t : ℕ) (x : rule.Got J
   pub is : x ≡ got json
   pub value : ValueIs s b ent t json v
 
--- for every setting and every call that w is
-abbrev pub StartsPartial : List Scope → ℕ → Expanded → Value → Type 0
-StartsPartial l used w v =
-    (s b : Bytes) (ent : List ℕ) (o : Options) (g : Registry) (st : RenderContext) (t : ℕ) (e : block-util.Expanded)
-    → answer s ≡ 0 → Setting s b ent l used o g st t → IsExpanded s b ent t w e → GivesContext s b ent t (partial-context g st (e .params)) v
+-- with n parameters, of which v is the first: in every setting whose newest scope is the front
+abbrev pub StartsPartial : Scope → ℕ → Value → Value → Type 0
+StartsPartial front n v r =
+    (s b : Bytes) (ent : List ℕ) (l : List Scope) (used : ℕ) (o : Options) (g : Registry) (st : RenderContext) (t : ℕ) (w : Value) (ps : List ScopedJson)
+    → answer s ≡ 0 → 0 < used → front ≡ getD l (used - 1) blank → Setting s b ent l used o g st t → Front s b ent t n v w ps
+    → GivesContext s b ent t (partial-context g st ps) r
 
 -- Laws
 
@@ -99,22 +98,22 @@ module _ (s b : Bytes) (ent : List ℕ) (l : List Scope) (used : ℕ) (o : Optio
     }
 
 -- a parameter
-module _ (s b : Bytes) (ent : List ℕ) (t : ℕ) (w : Expanded) (e : block-util.Expanded) (E : IsExpanded s b ent t w e) (g : Registry) (st : RenderContext) where
-  pub param-given : (w .count ≡ 0 → ⊥) → GivesContext s b ent t (partial-context g st (e .params)) (without-path (w .first))
+module _ (s b : Bytes) (ent : List ℕ) (t n : ℕ) (v w : Value) (ps : List ScopedJson) (F : Front s b ent t n v w ps) (g : Registry) (st : RenderContext) where
+  pub param-given : (n ≡ 0 → ⊥) → GivesContext s b ent t (partial-context g st ps) (without-path v)
   param-given z = record {
-    json = json-of s b ent (w .first);
-    is = go (e .params) (E .params .count) (E .params .begins);
-    value = value-is s b ent t (w .first) (E .params .first);
+    json = json-of s b ent v;
+    is = go ps (F .count) (F .begins);
+    value = value-is s b ent t v (F .first);
   }
     where
-      go : (l : List ScopedJson) → w .count ≡ length l → Begins s b ent l (w .first) (w .second) → partial-context g st l ≡ got (json-of s b ent (w .first))
-      go [] n q = absurd (z n)
-      go (v ∷ []) n q = ap (λ (x : ScopedJson). got (as-json x)) q ∙ ap got (as-json-of s b ent (w .first))
-      go (v ∷ u ∷ l) n q = ap (λ (x : ScopedJson). got (as-json x)) (q .0) ∙ ap got (as-json-of s b ent (w .first))
+      go : (l : List ScopedJson) → n ≡ length l → Begins s b ent l v w → partial-context g st l ≡ got (json-of s b ent v)
+      go [] e q = absurd (z e)
+      go (x ∷ []) e q = ap (λ (x : ScopedJson). got (as-json x)) q ∙ ap got (as-json-of s b ent v)
+      go (x ∷ u ∷ l) e q = ap (λ (x : ScopedJson). got (as-json x)) (q .0) ∙ ap got (as-json-of s b ent v)
 
-  pub no-param : w .count ≡ 0 → e .params ≡ []
-  no-param z = go (e .params) (sym z ∙ E .params .count)
+  pub no-param : n ≡ 0 → ps ≡ []
+  no-param z = go ps (sym z ∙ F .count)
     where
       go : (l : List ScopedJson) → 0 ≡ length l → l ≡ []
-      go [] n = refl
-      go (v ∷ l) n = absurd (omega arith)
+      go [] e = refl
+      go (x ∷ l) e = absurd (omega arith)

@@ -62,8 +62,8 @@ pub got-is : {A C : Type 0} {x : rule.Got A} (a : A) (r : RenderErrorReason) →
 got-is a r e f = let y : got a ≡ bad r = sym e ∙ f in let z : _≡_ {A = ℕ} 0 1 = cc in absurd (omega arith)
 
 module _ (s b : Bytes) (ent : List ℕ) (t : ℕ) where
-  pub got-fits : answer s ≡ 0 → length b ≤ 65536 → t ≤ 4096 → (x : rule.Got ScopedJson) (r : Got) → Expands s b ent t x r → GotFits r
-  got-fits h le few x (Is v) e = stands-fits s b ent t h le few v (e .1)
+  pub got-fits : answer s ≡ 0 → length b ≤ 65536 → t < 1048576 → (x : rule.Got ScopedJson) (r : Got) → Expands s b ent t x r → GotFits r
+  got-fits h le few x (Is v) e = near.stands-fits s b ent t h le few v (e .1)
   got-fits h le few x (Bad n) e = tt
 
   pub numbered : (x : rule.Got ScopedJson) (r : Got) → Expands s b ent t x r → GotFits r → Numbered s b ent t x (number-of r)
@@ -90,9 +90,6 @@ module _ (s b : Bytes) (ent : List ℕ) (t d p : ℕ) (g : Registry) (st : Rende
   zeros zero i = refl
   zeros (suc m) zero = refl
   zeros (suc m) (suc i) = zeros m i
-
-  pub values-none : (m : ℕ) → HashValues s b ent t d p 0 g st (replicate m 0)
-  values-none m = record { each = λ i lt. absurd (omega arith); rest = λ i le. zeros m i }
 
   pub values-as-were : (o : List ℕ) → HashValuesIn s b ent t d p 0 g st o o
   values-as-were o = record { each = λ i lt. absurd (omega arith); rest = λ i le. refl }

@@ -8,6 +8,7 @@ use lib.ListN.{length, set}
 use Rattle.rules.specs.Bytes.{Bytes}
 use Rattle.rules.specs.Bits.{Bits, bits}
 use Rattle.rules.specs.Template.{Template}
+use Rattle.rules.specs.Error.{number, block-content-required}
 use Rattle.rules.specs.Registry.{Registry}
 use Rattle.rules.specs.Render.{eval-decorator}
 use Rattle.parts.specs.declared.Maybe.{Maybe}
@@ -20,6 +21,7 @@ use Rattle.value.specs.declared.Value.{Value}
 use Rattle.value.specs.Numbers.{Fits, encoded}
 use Rattle.meaning.specs.Entries.{low}
 use Rattle.entries.specs.Stored.{stored}
+use Rattle.scope.specs.declared.Scope.{Scope}
 use Rattle.scope.specs.Made.{with-count}
 use Rattle.expand.specs.declared.Options.{Options}
 use Rattle.decorators.specs.declared.Inlined.{Inlined}
@@ -46,49 +48,43 @@ place-of Nothing = 0
 abbrev pub with-body : Bool → Inlined → Inlined
 with-body true x = x
 with-body false (Bad n) = Bad n
-with-body false (New v) = Bad 19
-with-body false (Again k v) = Bad 19
-
--- behind the entries in use
-abbrev pub end-of : RenderContext → ℕ
-end-of c = newest (c .scopes) (c .used) .inline + newest (c .scopes) (c .used) .count
+with-body false (New v) = Bad (number block-content-required)
+with-body false (Again k v) = Bad (number block-content-required)
 
 -- the newest scope has an inline partial more
 abbrev pub one-more : RenderContext → RenderContext
 one-more c = with-scopes c (set (c .scopes) (c .used - 1) (with-count (newest (c .scopes) (c .used)) (newest (c .scopes) (c .used) .count + 1))) (c .used) (c .total + 1)
 
--- there is an entry for it, and its name has a number
-pub record NewFits (ent : List ℕ) (c : RenderContext) (v : Value) : Type 0 where
+-- there is an entry for it, behind those in use, and its name has a number; f is the newest of so many scopes, and so many entries are taken
+pub record NewFits (ent : List ℕ) (f : Scope) (used taken : ℕ) (v : Value) : Type 0 where
   pub name : Fits v
-  pub one : 0 < c .used
-  pub most : c .used ≤ 32
-  pub sized : length (c .scopes) ≡ 32
-  pub near : newest (c .scopes) (c .used) .inline + newest (c .scopes) (c .used) .count < 4096
+  pub most : used ≤ 32
+  pub near : f .inline + f .count < 4096
   pub table : 8192 ≤ length ent
-  pub few : c .total < 4096
+  pub few : taken < 4096
 
--- Behind each answer of `inline`; q is the place of the body, d the depths that it has left
+-- Behind each answer of `inline`: f is the newest scope, q the place of the body, d the depths that it has left
 
 abbrev pub context-after : RenderContext → Inlined → RenderContext
 context-after c (Bad n) = failed c n
 context-after c (New v) = one-more c
 context-after c (Again k v) = c
 
-abbrev pub entries-after : RenderContext → List ℕ → ℕ → ℕ → Inlined → List ℕ
-entries-after c ent d q (Bad n) = ent
-entries-after c ent d q (New v) = stored ent (end-of c) (encoded v) d q
-entries-after c ent d q (Again k v) = stored ent k (low ent k) d q
+abbrev pub entries-after : Scope → List ℕ → ℕ → ℕ → Inlined → List ℕ
+entries-after f ent d q (Bad n) = ent
+entries-after f ent d q (New v) = stored ent (f .inline + f .count) (encoded v) d q
+entries-after f ent d q (Again k v) = stored ent k (low ent k) d q
 
-abbrev pub Keepable : List ℕ → RenderContext → Inlined → Type 0
-Keepable ent c (Bad n) = Unit {0}
-Keepable ent c (New v) = NewFits ent c v
-Keepable ent c (Again k v) = 2 * k + 1 < length ent
+abbrev pub Keepable : List ℕ → Scope → ℕ → ℕ → Inlined → Type 0
+Keepable ent f used taken (Bad n) = Unit {0}
+Keepable ent f used taken (New v) = NewFits ent f used taken v
+Keepable ent f used taken (Again k v) = 2 * k + 1 < length ent
 
 -- r and ent′ are what an answer makes of c and ent; a refusal leaves the entries as they are
 pub record Leaves (c r : RenderContext) (ent ent′ : List ℕ) (d : ℕ) (body : Maybe) : Type 0 where
   pub answer : Inlined
   pub context : r ≡ context-after c answer
-  pub table : ent′ ≡ entries-after c ent d (place-of body) answer
+  pub table : ent′ ≡ entries-after (newest (c .scopes) (c .used)) ent d (place-of body) answer
   pub refused : (r .bad ≡ 0 → ⊥) → ent′ ≡ ent
 
 -- with some page, texts and indent the context may be drawn from

@@ -1,11 +1,14 @@
 -- The world whose newest scope has an inline partial more, or another body under a name that it has: it stands for what `define` makes.
 use Prim.Native.Nat.{ℕ, suc, _+_, _-_, _≤_, _<_}
+use mathlib.Core.Bool.{Bool, true, false}
 use mathlib.Core.List.{List, []}
 use mathlib.Core.Option.{Option}
 use mathlib.Core.Path.{_≡_, refl, sym, ap, ap₂, _∙_, subst}
 use native.Mathlib.Omega.{arith}
+use lib.Dec.{eqb}
 use lib.ListN.{length, getD, set, length-set}
 use lib.Seq.{set-getD, getD-set-same, getD-set-other}
+use borrow.Author.Tests.{eqb-true, eqb-false}
 use Rattle.rules.specs.Bytes.{Bytes}
 use Rattle.rules.specs.Template.{Template}
 use Rattle.rules.specs.Block.{Block}
@@ -15,6 +18,8 @@ use Rattle.rules.specs.State.{blocks, entries, entries-in, set-block-partials, 
 use Rattle.scope.specs.declared.Scope.{Scope}
 use Rattle.scope.specs.Scopes.{blank, blocks-of}
 use Rattle.scope.specs.Standing.{ScopesStand}
+use Rattle.scope.specs.NameBits.{Covers, AllCovered, covers-counted, covered-kept}
+use Rattle.scope.specs.StackLaws.{push-stands, pop-stands, scope-again}
 use Rattle.scope.specs.Made.{with-count}
 use Rattle.scope.specs.InlineLaws.{size-is}
 use Rattle.decorators.specs.Defined.{Holding, scopes-defined, blocks-defined}
@@ -23,6 +28,16 @@ use Rattle.state.specs.Setters.{with-scopes}
 use Rattle.state.specs.World.{World, world, outputs-of, front, top, text-on, stack-of, sizes-of, abs, Ready, Goes}
 use Rattle.state.specs.Laws.{grows-none}
 use Rattle.state.specs.Steps.{stack-under, sizes-under}
+
+-- more or fewer inline partials of the newest of m + 1 scopes leave its block names
+covered-counted : (M : ℕ) (b : Bytes) (ent : List ℕ) (x y : List Scope) (m k : ℕ) → ((i : ℕ) → i < m → getD y i blank ≡ getD x i blank)
+    → getD y m blank ≡ with-count (getD x m blank) k → AllCovered M b ent x (suc m) → AllCovered M b ent y (suc m)
+covered-counted M b ent x y m k under here h i lt = go (eqb i m) refl
+  where
+    go : (t : Bool) → eqb i m ≡ t → Covers M b ent (getD y i blank)
+    go true q =
+        subst (Covers M b ent) (sym (ap (λ (j : ℕ). getD y j blank) (eqb-true i m q) ∙ here)) (covers-counted M b ent (getD x m blank) k (h m (omega arith)))
+    go false q = let ne = eqb-false i m q in subst (Covers M b ent) (sym (under i (omega arith))) (h i lt)
 
 -- n is the number of inline partials then, T the number of entries
 module _ (s b : Bytes) (w : World) (r : Ready s b w) (n T : ℕ) (ent′ : List ℕ) (x : Bytes) (B : Template) (h : Holding s b (w .ent) ent′ (front w) n x B)
@@ -101,6 +116,35 @@ module _ (s b : Bytes) (w : World) (r : Ready s b w) (n T : ℕ) (ent′ : List 
       (subst (λ (k : ℕ). ScopesStand s b ent′ l′ k (front w .inline + n)) (sym e)
       (scopes-defined s b (w .ent) ent′ l m n (top w) x B st h same-length (front w .inline + n) (omega arith) (omega (arith, r .enough, r .table))))
 
+  -- the block names stay in their set: without its inline partials the newest scope is before all that changes
+  bare : List Scope
+  bare = set l m (with-count (front w) 0)
+
+  bare-here : getD bare m blank ≡ with-count (front w) 0
+  unfolding bare
+  bare-here = getD-set-same l m (with-count (front w) 0) blank (omega (arith, r .sized, r .most, r .one))
+
+  bare-under : (i : ℕ) → i < m → getD bare i blank ≡ getD l i blank
+  unfolding bare
+  bare-under i lt = getD-set-other l m i (with-count (front w) 0) blank (λ q. omega arith)
+
+  bare-stands : ScopesStand s b (w .ent) bare (suc m) (front w .inline)
+  unfolding bare
+  bare-stands =
+      push-stands s b (w .ent) l (with-count (front w) 0) m (front w .inline) (front w .inline) (pop-stands s b (w .ent) l m (top w) st) (omega (arith, r .sized, r .most, r .one))
+      (scope-again s b (w .ent) (w .ent) (front w) (front w .inline) (record { same = λ i lt. refl }) (st .each m (omega arith)) (omega arith) 0
+      (λ i lt. absurd (omega arith)) (λ i j lt q. absurd (omega arith)))
+      (omega arith) (omega arith) (omega (arith, r .enough, r .few, r .table))
+
+  covered : AllCovered (w .rc .names) b ent′ l′ (w .rc .used)
+  covered =
+      let M : ℕ = w .rc .names in
+      let old : AllCovered M b (w .ent) l (suc m) = subst (AllCovered M b (w .ent) l) e (r .covered) in
+      let less : AllCovered M b (w .ent) bare (suc m) = covered-counted M b (w .ent) l bare m 0 bare-under bare-here old in
+      let kept : AllCovered M b ent′ bare (suc m) = covered-kept s b (w .ent) ent′ M bare (suc m) (front w .inline) (h .beneath) bare-stands less in
+      subst (AllCovered M b ent′ l′) (sym e)
+      (covered-counted M b ent′ bare l′ m n (λ i lt. under i lt ∙ sym (bare-under i lt)) (here ∙ ap (λ (c : Scope). with-count c n) (sym bare-here)) kept)
+
   pub goes-defining : Goes s b [] w defining
   goes-defining = record {
     ready = record {
@@ -112,6 +156,7 @@ module _ (s b : Bytes) (w : World) (r : Ready s b w) (n T : ℕ) (ent′ : List 
       nameless = r .nameless;
       sound = r .sound;
       scopes = stand;
+      covered = covered;
       total = total-is;
       few = few;
       enough = subst (λ (c : Scope). c .inline + c .count ≤ T) (sym here) (omega (arith, r .enough));

@@ -35,6 +35,7 @@ use Rattle.meaning.specs.Meaning.{json-of, scoped-of}
 use Rattle.meaning.specs.Standing.{Stands}
 use Rattle.meaning.specs.Means.{Means}
 use Rattle.entries.specs.Stored.{stored, stored-length}
+use Rattle.scope.specs.Scopes.{partials-of}
 use Rattle.scope.specs.Standing.{ScopeStands}
 use Rattle.expand.specs.declared.Options.{Options}
 use Rattle.expand.specs.declared.Expanded.{Expanded}
@@ -44,7 +45,7 @@ use Rattle.including.specs.ValuesLaws.{stands-fits, encoded-near}
 use Rattle.decorators.specs.declared.Inlined.{Inlined}
 use Rattle.decorators.specs.declared.Inlined.the-variants.{Bad, New, Again}
 use Rattle.decorators.specs.Indents.{own, OwnStands}
-use Rattle.decorators.specs.Inlined.{has-body, Defines, InlinedIs, Inlining, Inlines}
+use Rattle.decorators.specs.Inlined.{has-body, newest, Defines, InlinedIs, Inlining, Inlines}
 use Rattle.decorators.specs.Defined.{Holding, body-at, holds-new, holds-again}
 use Rattle.state.specs.Context.{RenderContext}
 use Rattle.state.specs.Setters.{failed}
@@ -148,6 +149,10 @@ module _ (s b : Bytes) (w : World) (r : Ready s b w) where
   unfolding abs
   indent-now = refl
 
+  partials-now : abs s b w .seen .block-partials ≡ partials-of s b (w .ent) (front w .inline) (front w .count)
+  unfolding abs
+  partials-now = refl
+
   indent-length : length (take (w .rc .writer .indent) (w .indent)) ≡ w .rc .writer .indent
   indent-length = length-take-le (w .rc .writer .indent) (w .indent) (omega (arith, r .indent, r .buffer))
 
@@ -165,11 +170,11 @@ module _ (s b : Bytes) (w : World) (r : Ready s b w) (answers : answer s ≡ 0) 
 
   -- the world behind it; q is the place of the body
   abbrev after : ℕ → Inlined → World
-  after q y = world (context-after (w .rc) y) (w .page) (w .texts) (w .indent) (entries-after (w .rc) (w .ent) d q y)
+  after q y = world (context-after (w .rc) y) (w .page) (w .texts) (w .indent) (entries-after (front w) (w .ent) d q y)
 
-  keepable : (k : Bool) (T : Option Template) (R : Res) (y : Inlined) → InlinedSo T R y → Keepable (w .ent) (w .rc) (with-body k y)
+  keepable : (k : Bool) (T : Option Template) (R : Res) (y : Inlined) → InlinedSo T R y → Keepable (w .ent) (front w) (w .rc .used) (w .rc .total) (with-body k y)
   keepable true T R (Bad n) h = tt
-  keepable true T R (New v) h = record { name = fits-value s b w r answers small v (h .0 .stands); one = omega (arith, r .one); most = r .most; sized = r .sized; near = omega (arith, r .enough, h .2); table = r .table; few = h .2 }
+  keepable true T R (New v) h = record { name = fits-value s b w r answers small v (h .0 .stands); most = r .most; near = omega (arith, r .enough, h .2); table = r .table; few = h .2 }
   keepable true T R (Again k v) h = omega (arith, h .1 .at, h .1 .within, r .enough, r .few, r .table)
   keepable false T R (Bad n) h = tt
   keepable false T R (New v) h = tt
@@ -271,10 +276,9 @@ module _ (s b : Bytes) (o : Options) (c : RenderContext) (ent : List ℕ) (p d :
       name-is : (y : Bool) → NamedSo y → is-inline (worked .0 .name) ≡ y
       name-is y f = ap is-inline (worked .2 .name) ∙ sym (f .at ent (top w) (worked .2 .name-stands))
 
-      inlining : Inlining s b ent (c .scopes) (c .used) (c .total) x (is-at m) g (abs s b w) (top w) (worked .0) T
+      inlining : Inlining s b ent (front w) (c .total) x (is-at m) g (abs s b w) (top w) (worked .0) T
       inlining = record {
-        options = o;
-        setting = setting s b w r o g K;
+        partials = partials-now s b w r;
         expanded = worked .2;
         limit = K .entries;
         total = sym (r .total);
@@ -314,12 +318,12 @@ module _ (s b : Bytes) (o : Options) (c : RenderContext) (ent : List ℕ) (p d :
             refuses s b (world c page texts indent ent) r 15 param-not-found-for-index _
             (past-all g page texts indent K r ∙ no-params g _ _ (k .0 .params) (sym e ∙ k .2 .params .count)) refl
 
-        module _ (there : x .count ≡ 0 → ⊥) (answers : answer s ≡ 0) (small : length b ≤ 65536) (few : d ≤ 16) (y : Inlined) (Y : Inlines s b ent (c .scopes) (c .used) (c .total) x (is-at m) y) where
-          pub at-end : MaybeHolds (body 16 d) (bits b) m → Is (context-after c (with-body (is-at m) y)) (entries-after c ent d (place-of m) (with-body (is-at m) y))
+        module _ (there : x .count ≡ 0 → ⊥) (answers : answer s ≡ 0) (small : length b ≤ 65536) (few : d ≤ 16) (y : Inlined) (Y : Inlines s b ent (newest (c .scopes) (c .used)) (c .total) x (is-at m) y) where
+          pub at-end : MaybeHolds (body 16 d) (bits b) m → Is (context-after c (with-body (is-at m) y)) (entries-after (newest (c .scopes) (c .used)) ent d (place-of m) (with-body (is-at m) y))
           at-end held-body g page texts indent K r =
               let k = worked g page texts indent K r in
               let v : World = world c page texts indent ent in
-              subst (Draws s b v (world (context-after c (with-body (is-at m) y)) page texts indent (entries-after c ent d (place-of m) (with-body (is-at m) y)))) (sym (past-all g page texts indent K r))
+              subst (Draws s b v (world (context-after c (with-body (is-at m) y)) page texts indent (entries-after (newest (c .scopes) (c .used)) ent d (place-of m) (with-body (is-at m) y)))) (sym (past-all g page texts indent K r))
               (ends s b v r answers small d few x g (k .0 .params) (some-there g page texts indent K r there) (k .2 .params .begins) m held-body y
               (Y g (abs s b v) (top v) (k .0) (template-says d (bits b) m) (inlining g page texts indent K r)))
 
@@ -328,7 +332,7 @@ module _ (s b : Bytes) (o : Options) (c : RenderContext) (ent : List ℕ) (p d :
       pub some-held : ExpandedHeld s b ent x
       some-held = held (some-registry s o) (R .page) (R .texts) (R .indent) (some-given s o) (R .ready)
 
-      pub some-keepable : answer s ≡ 0 → length b ≤ 65536 → d ≤ 16 → (y : Inlined) → Inlines s b ent (c .scopes) (c .used) (c .total) x (is-at m) y → Keepable ent c (with-body (is-at m) y)
+      pub some-keepable : answer s ≡ 0 → length b ≤ 65536 → d ≤ 16 → (y : Inlined) → Inlines s b ent (newest (c .scopes) (c .used)) (c .total) x (is-at m) y → Keepable ent (newest (c .scopes) (c .used)) (c .used) (c .total) (with-body (is-at m) y)
       some-keepable answers small few y Y =
           let g : Registry = some-registry s o in
           let k = worked g (R .page) (R .texts) (R .indent) (some-given s o) (R .ready) in
@@ -338,10 +342,10 @@ module _ (s b : Bytes) (o : Options) (c : RenderContext) (ent : List ℕ) (p d :
 
 -- Answers
 
-pub leaves : (c r : RenderContext) (ent ent′ : List ℕ) (d : ℕ) (m : Maybe) → c .bad ≡ 0 → (y : Inlined) → r ≡ context-after c y → ent′ ≡ entries-after c ent d (place-of m) y → Leaves c r ent ent′ d m
+pub leaves : (c r : RenderContext) (ent ent′ : List ℕ) (d : ℕ) (m : Maybe) → c .bad ≡ 0 → (y : Inlined) → r ≡ context-after c y → ent′ ≡ entries-after (newest (c .scopes) (c .used)) ent d (place-of m) y → Leaves c r ent ent′ d m
 leaves c r ent ent′ d m z y e t = record { answer = y; context = e; table = t; refused = λ n. t ∙ same y (λ q. n (ap (λ (k : RenderContext). k .bad) e ∙ q)) }
   where
-    same : (y : Inlined) → (context-after c y .bad ≡ 0 → ⊥) → entries-after c ent d (place-of m) y ≡ ent
+    same : (y : Inlined) → (context-after c y .bad ≡ 0 → ⊥) → entries-after (newest (c .scopes) (c .used)) ent d (place-of m) y ≡ ent
     same (Bad k) n = refl
     same (New v) n = absurd (n z)
     same (Again k v) n = absurd (n z)
@@ -350,11 +354,11 @@ module _ (s b : Bytes) (o : Options) (c r : RenderContext) (ent : List ℕ) (p d
   pub refused-so : (n : ℕ) → r ≡ failed c n → Decorates s b c (failed c n) ent ent o p m at d → Leaves c r ent ent d m × Decorates s b c r ent ent o p m at d
   refused-so n e D = (leaves c r ent ent d m z (Bad n) e refl, subst (λ (k : RenderContext). Decorates s b c k ent ent o p m at d) (sym e) D)
 
-  pub kept-so : (ent′ : List ℕ) (q : ℕ) (y v : Inlined) → y ≡ v → q ≡ place-of m → r ≡ context-after c y → ent′ ≡ entries-after c ent d q y
-      → Decorates s b c (context-after c v) ent (entries-after c ent d (place-of m) v) o p m at d → Leaves c r ent ent′ d m × Decorates s b c r ent ent′ o p m at d
+  pub kept-so : (ent′ : List ℕ) (q : ℕ) (y v : Inlined) → y ≡ v → q ≡ place-of m → r ≡ context-after c y → ent′ ≡ entries-after (newest (c .scopes) (c .used)) ent d q y
+      → Decorates s b c (context-after c v) ent (entries-after (newest (c .scopes) (c .used)) ent d (place-of m) v) o p m at d → Leaves c r ent ent′ d m × Decorates s b c r ent ent′ o p m at d
   kept-so ent′ q y v i j e t D =
       let e′ : r ≡ context-after c v = e ∙ ap (context-after c) i in
-      let t′ : ent′ ≡ entries-after c ent d (place-of m) v = t ∙ ap₂ (entries-after c ent d) j i in (
+      let t′ : ent′ ≡ entries-after (newest (c .scopes) (c .used)) ent d (place-of m) v = t ∙ ap₂ (entries-after (newest (c .scopes) (c .used)) ent d) j i in (
         leaves c r ent ent′ d m z v e′ t′,
         subst (λ (k : RenderContext). Decorates s b c k ent ent′ o p m at d) (sym e′)
             (subst (λ (k : List ℕ). Decorates s b c (context-after c v) ent k o p m at d) (sym t′) D),

@@ -1,7 +1,8 @@
 // render.rs: `eval_decorator`. It draws nothing; the newest scope may have an inline partial more behind it, or another body under a name that
 // it has. s is the plan, b the bundle, ent holds the entries of open partials.
+ghost use mathlib.Core.List.{List};
 ghost use mathlib.Core.Path.{_≡_};
-ghost use Prim.Native.Nat.{_≤_};
+ghost use Prim.Native.Nat.{_+_, _≤_};
 ghost use lib.ListN.{length};
 ghost use Rattle.rules.specs.Bits.{bits};
 ghost use Rattle.rules.specs.Bundle as bundle;
@@ -11,11 +12,16 @@ ghost use Rattle.parts.specs.Says.{MaybeHolds};
 ghost use Rattle.places.specs.Accepted.{Accepted};
 ghost use Rattle.value.specs.Numbers.{encoded};
 ghost use Rattle.entries.specs.Stored.{stored};
-ghost use Rattle.state.specs.Context.{whole};
-ghost use Rattle.inlining.specs.Decorated.{is-at, place-of, with-body, end-of, one-more, NewFits, context-after, entries-after, Keepable, SomeReady, Leaves, Decorates};
+ghost use Rattle.state.specs.Context.{whole, Front};
+ghost use Rattle.inlining.specs.Decorated.{is-at, place-of, with-body, one-more, NewFits, context-after, entries-after, Keepable, SomeReady, Leaves, Decorates};
 use decorators::Inlined;
+use error::BLOCK_CONTENT_REQUIRED;
+use error::DECORATOR_NOT_FOUND;
+use error::INDENT_LIMIT;
+use error::PARAM_NOT_FOUND_FOR_INDEX;
 use expand::Options;
 use parts::Maybe;
+use scope::Scope;
 use state::RenderContext;
 use value::Value;
 
@@ -46,45 +52,47 @@ fn with_body(x: Inlined, has_body: bool) -> Inlined
     }
     match x {
         Inlined::Bad(n) => Inlined::Bad(n),
-        Inlined::New(_) => Inlined::Bad(19),
-        Inlined::Again(_, _) => Inlined::Bad(19),
+        Inlined::New(_) => Inlined::Bad(BLOCK_CONTENT_REQUIRED),
+        Inlined::Again(_, _) => Inlined::Bad(BLOCK_CONTENT_REQUIRED),
     }
 }
 
-// An inline partial more, behind the entries in use: v is its name, q the place of its body, which has d depths.
+// An inline partial more, behind the entries in use: v is its name, q the place of its body, which has d depths. c is the newest scope.
 fn add_partial(
     ent: &mut [u64],
-    sc: &mut [u64],
+    c: Scope,
     rc: RenderContext,
     v: Value,
     d: usize,
     q: usize,
 ) -> RenderContext
-    requires { ⌜ NewFits (now ent) (whole rc (now sc)) v × (d ≤ 16) × (length (now sc) ≡ 96) ⌝ }
-    ensures { λ r. ⌜ ((whole r (now (sc .exit))) ≡ one-more (whole rc (now (sc .entry)))) × (now (ent .exit) ≡ stored (now (ent .entry)) (end-of (whole rc (now (sc .entry)))) (encoded v) d q) ⌝ }
+    requires { ⌜ NewFits (now ent) c (rc .used) (rc .total) v × (d ≤ 16) ⌝ }
+    ensures { λ r. ⌜ ((l : List Scope) → length l ≡ 32 → Front l rc c → whole r l ≡ one-more (whole rc l))
+        × (now (ent .exit) ≡ stored (now (ent .entry)) (c .inline + c .count) (encoded v) d q) ⌝ }
 {
-    let c = state::front(sc, rc);
     let k = c.inline + c.count;
     decorators::set_local_partial(ent, k as usize, value::encode(v), d, q);
-    let more = state::set_block(sc, rc, scope::with_count(c, c.count + 1));
+    let mut more = rc;
+    more.count = c.count as usize + 1;
     state::set_total(more, rc.total + 1)
 }
 
 // What `inline` answered is done.
 fn keep_partial(
     ent: &mut [u64],
-    sc: &mut [u64],
+    c: Scope,
     rc: RenderContext,
     x: Inlined,
     d: usize,
     q: usize,
 ) -> RenderContext
-    requires { ⌜ Keepable (now ent) (whole rc (now sc)) x × (d ≤ 16) × (length (now sc) ≡ 96) ⌝ }
-    ensures { λ r. ⌜ ((whole r (now (sc .exit))) ≡ context-after (whole rc (now (sc .entry))) x) × (now (ent .exit) ≡ entries-after (whole rc (now (sc .entry))) (now (ent .entry)) d q x) ⌝ }
+    requires { ⌜ Keepable (now ent) c (rc .used) (rc .total) x × (d ≤ 16) ⌝ }
+    ensures { λ r. ⌜ ((l : List Scope) → length l ≡ 32 → Front l rc c → whole r l ≡ context-after (whole rc l) x)
+        × (now (ent .exit) ≡ entries-after c (now (ent .entry)) d q x) ⌝ }
 {
     match x {
         Inlined::Bad(n) => state::failed(rc, n),
-        Inlined::New(v) => add_partial(ent, sc, rc, v, d, q),
+        Inlined::New(v) => add_partial(ent, c, rc, v, d, q),
         Inlined::Again(k, _) => {
             // the entry keeps its name
             let name = entries::low(ent, k);
@@ -94,13 +102,15 @@ fn keep_partial(
     }
 }
 
-// The decorator whose call stands at p, with its body and its own indent, where it has them; d is the number of depths that both have left.
+// The decorator whose call stands at p, with its body and its own indent, where it has them; d is the number of depths that both have left. front is the
+// newest scope.
 pub fn eval_decorator(
     s: &[u8],
     tab: &[u64],
     b: &[u8],
     ent: &mut [u64],
-    sc: &mut [u64],
+    scopes: [Scope; 32],
+    front: Scope,
     options: Options,
     p: usize,
     body: Maybe,
@@ -108,26 +118,31 @@ pub fn eval_decorator(
     d: usize,
     rc: RenderContext,
 ) -> RenderContext
-    requires { ⌜ Accepted (now s) (now tab) × (length (now b) ≤ 65536) × SomeReady (now s) (now b) (whole rc (now sc)) (now ent) × (d ≤ 16) × Holds (call-of (param d)) (bits (now b)) p × MaybeHolds (bundle.body 16 d) (bits (now b)) body × MaybeHolds string (bits (now b)) at × (length (now sc) ≡ 96) ⌝ }
-    ensures { λ r. ⌜ Leaves (whole rc (now (sc .entry))) (whole r (now (sc .exit))) (now (ent .entry)) (now (ent .exit)) d body × Decorates (now (s .entry)) (now (b .entry)) (whole rc (now (sc .entry))) (whole r (now (sc .exit))) (now (ent .entry)) (now (ent .exit)) options p body at d ⌝ }
+    requires { ⌜ Accepted (now s) (now tab) × (length (now b) ≤ 65536) × Front scopes rc front
+        × SomeReady (now s) (now b) (whole rc scopes) (now ent)
+        × (d ≤ 16) × Holds (call-of (param d)) (bits (now b)) p
+        × MaybeHolds (bundle.body 16 d) (bits (now b)) body × MaybeHolds string (bits (now b)) at ⌝ }
+    ensures { λ r. ⌜ Leaves (whole rc scopes) (whole r scopes) (now (ent .entry)) (now (ent .exit)) d body
+        × Decorates (now (s .entry)) (now (b .entry)) (whole rc scopes) (whole r scopes)
+        (now (ent .entry)) (now (ent .exit)) options p body at d ⌝ }
 {
-    let w = expand::try_from_template(s, tab, b, ent, sc, rc.used, options, p, d);
+    let w = expand::try_from_template(s, tab, b, ent, scopes, rc.used, options, p, d);
     if w.bad != 0 {
         return state::failed(rc, w.bad);
     }
     let name = w.name;
     if !decorators::indent_fits(b, rc.writer.has_indent, rc.writer.indent, at) {
-        return state::failed(rc, 21);
+        return state::failed(rc, INDENT_LIMIT);
     }
     if !decorators::is_inline(s, tab, b, name) {
-        return state::failed(rc, 16);
+        return state::failed(rc, DECORATOR_NOT_FOUND);
     }
-    // 15 comes before 19, which with_body answers
+    // it comes before the refusal of with_body
     if w.count == 0 {
-        return state::failed(rc, 15);
+        return state::failed(rc, PARAM_NOT_FOUND_FOR_INDEX);
     }
     let has = is_at(body);
-    let x = decorators::inline(s, tab, b, ent, sc, rc.used, rc.total, w, has);
+    let x = decorators::inline(s, tab, b, ent, front, rc.total, w, has);
     let y = with_body(x, has);
-    keep_partial(ent, sc, rc, y, d, place_of(body))
+    keep_partial(ent, front, rc, y, d, place_of(body))
 }

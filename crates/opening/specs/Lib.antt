@@ -1,2 +1,2 @@
 pub mod Scoped
-pub mod Plain
+pub mod Opens

@@ -1,49 +1,45 @@
 -- The scope of a partial: s is the plan, b the bundle.
-use Prim.Native.Nat.{ℕ, suc, _+_, _-_, _*_, _≤_, _<_}
-use mathlib.Core.Bool.{Bool, true, false}
+use Prim.Native.Nat.{ℕ, suc, _+_, _-_, _≤_, _<_}
 use mathlib.Core.List.{List, []}
 use mathlib.Core.Option.{Option, some}
 use mathlib.Core.Path.{_≡_, refl, sym, ap, _∙_, subst}
 use native.Mathlib.Omega.{arith}
-use lib.Dec.{ltb}
 use lib.ListN.{length, getD}
-use borrow.Author.Tests.{ltb-true, ltb-false, lt-ltb, le-ltb}
-use Rattle.rules.specs.Bytes.{Bytes, pick}
+use Rattle.rules.specs.Bytes.{Bytes}
 use Rattle.rules.specs.Bits.{bits}
 use Rattle.rules.specs.Bundle.{param, call-of}
 use Rattle.rules.specs.Json.{Json}
 use Rattle.rules.specs.Plan.{answer}
-use Rattle.rules.specs.Error.{got}
 use Rattle.rules.specs.State as rules
 use Rattle.rules.specs.State.{Res, Draw, blocks, or-fail}
 use Rattle.rules.specs.Registry.{Registry}
 use Rattle.rules.specs.BlockUtil as block-util
 use Rattle.rules.specs.BlockUtil.{Drawable}
 use Rattle.rules.specs.Context.{merge-json}
-use Rattle.rules.specs.Expand.{try-from-template}
 use Rattle.rules.specs.Partial.{hash-ctx, merged-entries, partial-context, include, block-text-of, render-partial}
 use Rattle.rules.specs.Render.{render-body, render-template}
 use Rattle.parts.specs.declared.Maybe.{Maybe}
 use Rattle.parts.specs.Holds.{Holds}
 use Rattle.calls.specs.declared.Call.{Call}
-use Rattle.calls.specs.Calls.{call-at, call-view}
+use Rattle.calls.specs.Calls.{call-view}
 use Rattle.template.specs.Views.{body-says}
 use Rattle.value.specs.declared.Value.{Value}
 use Rattle.value.specs.declared.Value.the-variants.{Merged}
 use Rattle.value.specs.Numbers.{Fits, encoded}
 use Rattle.meaning.specs.Meaning.{json-of}
-use Rattle.meaning.specs.Standing.{Stands}
 use Rattle.members.specs.Parts.{Parts}
 use Rattle.scope.specs.Scopes.{blank}
+use Rattle.scope.specs.Names.{Readable}
+use Rattle.scope.specs.NameBits.{Covers}
 use Rattle.expand.specs.declared.Options.{Options}
 use Rattle.expand.specs.declared.Expanded.{Expanded}
 use Rattle.expand.specs.Answers.{Setting, IsExpanded}
 use Rattle.including.specs.Values.{HashValues}
-use Rattle.including.specs.ValuesLaws.{stands-fits, values-none}
+use Rattle.including.specs.ValuesLaws.{stands-fits}
 use Rattle.rules.specs.BundleLaws.{bits-binary}
 use Rattle.including.specs.Pairs.{PairsStand, with-pairs}
 use Rattle.including.specs.PairsLaws.{call-pairs-stand}
-use Rattle.including.specs.Starting.{StartsPartial, GivesContext}
+use Rattle.including.specs.Starting.{GivesContext}
 use Rattle.including.specs.Included.{included, entries-of}
 use Rattle.including.specs.Including.{pairs-fit, Includes, includes}
 use Rattle.state.specs.Context.{RenderContext}
@@ -54,21 +50,17 @@ use Rattle.texts.specs.Setters.{cleaned}
 use Rattle.drawing.specs.Renders.{registry-of, Worked, joined, target, IncludeDrawn, TextDrawn}
 use Rattle.drawing.specs.Members.{setting}
 use Rattle.drawing.specs.Continues.{unless-refused}
-use Rattle.drawing.specs.Including.{too-many-pairs, too-many-entries, too-many-scopes, include-within, include-no-block, include-no-text, include-drawn}
+use Rattle.drawing.specs.Including.{too-many-pairs, too-many-entries, too-many-scopes, include-readable, include-within, include-no-block, include-no-text, include-drawn}
 
 -- where the entries in use end
 abbrev pub end-of : RenderContext → ℕ
 end-of c = getD (c .scopes) (c .used - 1) blank .inline + getD (c .scopes) (c .used - 1) blank .count
 
--- without a hash: base is the context, and t is behind the entries in use
-abbrev pub plainly-opened : Value → ℕ → RenderContext → RenderContext
-plainly-opened base t c = pick (ltb (c .used) 32) (pushed c (included base t 0 (getD (c .scopes) (c .used - 1) blank))) (failed c 23)
-
-pub plainly-room : (base : Value) (t : ℕ) (c : RenderContext) → c .used < 32 → pushed c (included base t 0 (getD (c .scopes) (c .used - 1) blank)) ≡ plainly-opened base t c
-plainly-room base t c lt = rw (lt-ltb (c .used) 32 lt)
-
-pub plainly-deep : (base : Value) (t : ℕ) (c : RenderContext) → 32 ≤ c .used → failed c 23 ≡ plainly-opened base t c
-plainly-deep base t c le = rw (le-ltb (c .used) 32 le)
+-- v is the context of the partial whose call x is, for the rules as for the code
+abbrev pub Starts : Bytes → Bytes → List ℕ → Options → RenderContext → Expanded → Value → Type 0
+Starts s b ent o c x v =
+    (g : Registry) (st : rules.RenderContext) (t : ℕ) (e : block-util.Expanded)
+    → Setting s b ent (c .scopes) (c .used) o g st t → IsExpanded s b ent t x e → GivesContext s b ent t (partial-context g st (e .params)) v
 
 -- the call at p is what x says, whatever page, texts and indent there are
 pub record SomeWorked (s b : Bytes) (ent : List ℕ) (o : Options) (c : RenderContext) (d p : ℕ) (x : Expanded) : Type 0 where
@@ -95,7 +87,7 @@ pub record ScopeOpened (s b : Bytes) (ent ent′ : List ℕ) (o : Options) (c r 
 
 -- w is in front; the call's hash pairs are v, their numbers l, and the context is base
 module _ (s b : Bytes) (ent : List ℕ) (o : Options) (c : RenderContext) (d p : ℕ) (x : Expanded) (ok : answer s ≡ 0) (small : length b ≤ 65536) (H : Holds (call-of (param d)) (bits b) p)
-    (v : Call) (view : v ≡ call-view d (bits b) p) (base : Value) (starts : StartsPartial (c .scopes) (c .used) x base) (l : List ℕ)
+    (v : Call) (view : v ≡ call-view d (bits b) p) (base : Value) (starts : Starts s b ent o c x base) (l : List ℕ)
     (L : (g : Registry) (st : rules.RenderContext) (t : ℕ) → Setting s b ent (c .scopes) (c .used) o g st t → HashValues s b ent t d (v .pair) (v .pairs) g st l) where
   module _ (page texts indent : Bytes) (r : Ready s b (world c page texts indent ent)) where
     abbrev w : World
@@ -107,7 +99,7 @@ module _ (s b : Bytes) (ent : List ℕ) (o : Options) (c : RenderContext) (d p :
     module _ (y : block-util.Expanded) (W : Worked s b o w d p x y) where
       -- the context by the rules
       given : GivesContext s b ent (top w) (partial-context g (abs s b w) (y .params)) base
-      given = starts s b ent o g (abs s b w) (top w) y ok (setting s b o w r (length page)) (W .expanded)
+      given = starts g (abs s b w) (top w) y (setting s b o w r (length page)) (W .expanded)
 
       abbrev j : Json
       j = given .json
@@ -131,10 +123,6 @@ module _ (s b : Bytes) (ent : List ℕ) (o : Options) (c : RenderContext) (d p :
       context-known : (F : Json → Res) → or-fail (partial-context g (abs s b w) (y .params)) F ≡ F j
       unfolding or-fail
       context-known F = ap (λ z. or-fail z F) (given .is)
-
-      -- what the rules answer once D is known
-      abbrev answer-of : (f : ℕ) (own at : Maybe) (D : Draw) → Res
-      answer-of f own at D = include g (some D) (render-body g (render-template g f) (body-says 16 d (bits b) own)) D h (joined s b w at) (merge-json j h) (abs s b w)
 
   -- a refusal: r is the context that is left, and ent′ the entries
   module _ (ent′ : List ℕ) (k : ℕ) (some-number : k ≡ 0 → ⊥)
@@ -162,10 +150,7 @@ module _ (s b : Bytes) (ent : List ℕ) (o : Options) (c : RenderContext) (d p :
   abbrev t : ℕ
   t = end-of c
 
-  -- a call has few pairs
-  pub scope-few : v .pairs < 16
-  scope-few = call-pairs-stand d (bits b) p v (bits-binary b) H view .few
-
+  -- the pairs of the call
   pub scope-holds : PairsStand (bits b) d (v .pair) (v .pairs)
   scope-holds = call-pairs-stand d (bits b) p v (bits-binary b) H view
 
@@ -204,9 +189,20 @@ module _ (s b : Bytes) (ent : List ℕ) (o : Options) (c : RenderContext) (d p :
     pub scope-parts : (O : SomeWorked s b ent o c d p x) → 0 < v .pairs → Parts s b after t (v .pairs)
     scope-parts O lt = I (O .page) (O .texts) (O .indent) (O .ready) (O .expanded) (O .worked) few .parts lt
 
-    module _ (le : c .total + k ≤ 4096) (lt : c .used < 32) where
+    -- and `names_of`
+    pub scope-readable : (O : SomeWorked s b ent o c d p x) → c .total + k ≤ 4096 → Readable b after (included base t (v .pairs) (getD (c .scopes) (c .used - 1) blank))
+    scope-readable O le =
+        let r = O .ready in
+        let y = O .expanded in
+        let W = O .worked in
+        let D : Draw = λ u. rules.ok u [] in
+        include-readable s b o (w (O .page) (O .texts) (O .indent) r) r base l d (v .pair) (v .pairs) (W .st) (same-blocks (O .page) (O .texts) (O .indent) r y W) (j (O .page) (O .texts) (O .indent) r y W) (h (O .page) (O .texts) (O .indent) r y W)
+        (pairs (O .page) (O .texts) (O .indent) r y W) (some D) (some D) D (some []) (I (O .page) (O .texts) (O .indent) r y W few) (omega (arith, counted-so (O .page) (O .texts) (O .indent) r y W))
+
+    -- the block names of the scope are in the set
+    module _ (le : c .total + k ≤ 4096) (lt : c .used < 32) (names : ℕ) (covers : Covers names b after (included base t (v .pairs) (getD (c .scopes) (c .used - 1) blank))) where
       abbrev opened : RenderContext
-      opened = pushed (counted c (c .total + k)) (included base t (v .pairs) (getD (c .scopes) (c .used - 1) blank))
+      opened = pushed (counted c (c .total + k)) (included base t (v .pairs) (getD (c .scopes) (c .used - 1) blank)) names
 
       pub scope-opened : ScopeOpened s b ent after o c opened d p x
       scope-opened = record {
@@ -217,8 +213,8 @@ module _ (s b : Bytes) (ent : List ℕ) (o : Options) (c : RenderContext) (d p :
             record {
               refused = λ z. absurd (z (r .fine));
               within = λ z. within-so page texts indent r y U;
-              no-block = λ z. subst (λ (i : ℕ). front (world (pushed (counted c (c .total + i)) (included base t (v .pairs) (getD (c .scopes) (c .used - 1) blank))) page texts indent after) .block ≡ 0) (sym eq) (include-no-block s b o w₀ r base l d (v .pair) (v .pairs) (U .st) (same-blocks page texts indent r y U) (j page texts indent r y U) (h page texts indent r y U) (pairs page texts indent r y U) (some (target (registry-of s b o (length page)) 0 b q e n)) (some (target (registry-of s b o (length page)) 0 b q e n)) (target (registry-of s b o (length page)) 0 b q e n) (joined s b w₀ ind) (I page texts indent r y U few) (omega (arith, eq)) lt);
-              no-text = λ z. subst (λ (i : ℕ). front (world (pushed (counted c (c .total + i)) (included base t (v .pairs) (getD (c .scopes) (c .used - 1) blank))) page texts indent after) .text ≡ 0) (sym eq) (include-no-text s b o w₀ r base l d (v .pair) (v .pairs) (U .st) (same-blocks page texts indent r y U) (j page texts indent r y U) (h page texts indent r y U) (pairs page texts indent r y U) (some (target (registry-of s b o (length page)) 0 b q e n)) (some (target (registry-of s b o (length page)) 0 b q e n)) (target (registry-of s b o (length page)) 0 b q e n) (joined s b w₀ ind) (I page texts indent r y U few) (omega (arith, eq)) lt);
+              no-block = λ z. subst (λ (i : ℕ). front (world (pushed (counted c (c .total + i)) (included base t (v .pairs) (getD (c .scopes) (c .used - 1) blank)) names) page texts indent after) .block ≡ 0) (sym eq) (include-no-block s b o w₀ r base l d (v .pair) (v .pairs) (U .st) (same-blocks page texts indent r y U) (j page texts indent r y U) (h page texts indent r y U) (pairs page texts indent r y U) (some (target (registry-of s b o (length page)) 0 b q e n)) (some (target (registry-of s b o (length page)) 0 b q e n)) (target (registry-of s b o (length page)) 0 b q e n) (joined s b w₀ ind) (I page texts indent r y U few) (omega (arith, eq)) lt names covers);
+              no-text = λ z. subst (λ (i : ℕ). front (world (pushed (counted c (c .total + i)) (included base t (v .pairs) (getD (c .scopes) (c .used - 1) blank)) names) page texts indent after) .text ≡ 0) (sym eq) (include-no-text s b o w₀ r base l d (v .pair) (v .pairs) (U .st) (same-blocks page texts indent r y U) (j page texts indent r y U) (h page texts indent r y U) (pairs page texts indent r y U) (some (target (registry-of s b o (length page)) 0 b q e n)) (some (target (registry-of s b o (length page)) 0 b q e n)) (target (registry-of s b o (length page)) 0 b q e n) (joined s b w₀ ind) (I page texts indent r y U few) (omega (arith, eq)) lt names covers);
               same-writer = refl;
               done = λ z w₂ T. record { at = λ f i fe ie y W D same. finished page texts indent r U q e n own ind w₂ T f i fe ie y W D (same lt) };
             };
@@ -228,8 +224,8 @@ module _ (s b : Bytes) (ent : List ℕ) (o : Options) (c : RenderContext) (d p :
           within-so : (page texts indent : Bytes) (r : Ready s b (world c page texts indent ent)) (y : block-util.Expanded) (U : Worked s b o (world c page texts indent ent) d p x y) → Within s b [] (world c page texts indent ent) (world opened page texts indent after)
           within-so page texts indent r y U =
               let eq : k ≡ m page texts indent r y U = counted-so page texts indent r y U in
-              subst (λ (i : ℕ). Within s b [] (world c page texts indent ent) (world (pushed (counted c (c .total + i)) (included base t (v .pairs) (getD (c .scopes) (c .used - 1) blank))) page texts indent after)) (sym eq)
-              (include-within s b o (world c page texts indent ent) r base l d (v .pair) (v .pairs) (U .st) (same-blocks page texts indent r y U) (j page texts indent r y U) (h page texts indent r y U) (pairs page texts indent r y U) (some (λ u. rules.ok u [])) (some (λ u. rules.ok u [])) (λ u. rules.ok u []) (some []) (I page texts indent r y U few) (omega (arith, eq)) lt)
+              subst (λ (i : ℕ). Within s b [] (world c page texts indent ent) (world (pushed (counted c (c .total + i)) (included base t (v .pairs) (getD (c .scopes) (c .used - 1) blank)) names) page texts indent after)) (sym eq)
+              (include-within s b o (world c page texts indent ent) r base l d (v .pair) (v .pairs) (U .st) (same-blocks page texts indent r y U) (j page texts indent r y U) (h page texts indent r y U) (pairs page texts indent r y U) (some (λ u. rules.ok u [])) (some (λ u. rules.ok u [])) (λ u. rules.ok u []) (some []) (I page texts indent r y U few) (omega (arith, eq)) lt names covers)
 
           finished : (page texts indent : Bytes) (r : Ready s b (world c page texts indent ent)) {z : block-util.Expanded} (U : Worked s b o (world c page texts indent ent) d p x z) (q e n : ℕ) (own ind : Maybe) (w₂ : World) → TextDrawn s b o (world opened page texts indent after) w₂ d q e n own ind
               → (f i : ℕ) → 32 ≤ f + suc (c .used) → 32 ≤ i + suc (c .used) → (y : block-util.Expanded) (W : Worked s b o (world c page texts indent ent) d p x y) (D : Draw) → D ≡ target (registry-of s b o (length page)) i b q e n
@@ -246,52 +242,12 @@ module _ (s b : Bytes) (ent : List ℕ) (o : Options) (c : RenderContext) (d p :
               let J : Json = j page texts indent r y W in
               let Hs = hash-ctx (y .hash) in
               let is : include G (some E) O E Hs (joined s b w₀ ind) (merge-json J Hs) (abs s b w₀) ≡ block-text-of (some E) O (render-partial (abs s b w₀ .seen .current-template) (abs s b w₀ .kept .indent-string) (joined s b w₀ ind) E) (abs s b w₁) =
-              include-drawn s b o w₀ r base l d (v .pair) (v .pairs) (W .st) (same-blocks page texts indent r y W) J Hs (pairs page texts indent r y W) (some E) O E (joined s b w₀ ind) (I page texts indent r y W few) fit lt
-              ∙ ap (λ (a : ℕ). block-text-of (some E) O (render-partial (abs s b w₀ .seen .current-template) (abs s b w₀ .kept .indent-string) (joined s b w₀ ind) E) (abs s b (world (pushed (counted c (c .total + a)) (included base t (v .pairs) (getD (c .scopes) (c .used - 1) blank))) page texts indent after))) (sym eq) in
+              include-drawn s b o w₀ r base l d (v .pair) (v .pairs) (W .st) (same-blocks page texts indent r y W) J Hs (pairs page texts indent r y W) (some E) O E (joined s b w₀ ind) (I page texts indent r y W few) fit lt names covers
+              ∙ ap (λ (a : ℕ). block-text-of (some E) O (render-partial (abs s b w₀ .seen .current-template) (abs s b w₀ .kept .indent-string) (joined s b w₀ ind) E) (abs s b (world (pushed (counted c (c .total + a)) (included base t (v .pairs) (getD (c .scopes) (c .used - 1) blank)) names) page texts indent after))) (sym eq) in
               let whole : or-fail (partial-context G (abs s b w₀) (y .params)) (λ j. include G (some D) O D Hs (joined s b w₀ ind) (merge-json j Hs) (abs s b w₀)) ≡ block-text-of (some E) O (render-partial (abs s b w₀ .seen .current-template) (abs s b w₀ .kept .indent-string) (joined s b w₀ ind) E) (abs s b w₁) =
               context-known page texts indent r y W (λ j. include G (some D) O D Hs (joined s b w₀ ind) (merge-json j Hs) (abs s b w₀)) ∙ ap (λ (u : Draw). include G (some u) O u Hs (joined s b w₀ ind) (merge-json J Hs) (abs s b w₀)) same ∙ is in
-              let nb : front w₁ .block ≡ 0 = subst (λ (a : ℕ). front (world (pushed (counted c (c .total + a)) (included base t (v .pairs) (getD (c .scopes) (c .used - 1) blank))) page texts indent after) .block ≡ 0) (sym eq) (include-no-block s b o w₀ r base l d (v .pair) (v .pairs) (W .st) (same-blocks page texts indent r y W) J Hs (pairs page texts indent r y W) (some E) O E (joined s b w₀ ind) (I page texts indent r y W few) fit lt) in
-              let nt : front w₁ .text ≡ 0 = subst (λ (a : ℕ). front (world (pushed (counted c (c .total + a)) (included base t (v .pairs) (getD (c .scopes) (c .used - 1) blank))) page texts indent after) .text ≡ 0) (sym eq) (include-no-text s b o w₀ r base l d (v .pair) (v .pairs) (W .st) (same-blocks page texts indent r y W) J Hs (pairs page texts indent r y W) (some E) O E (joined s b w₀ ind) (I page texts indent r y W few) fit lt) in
+              let nb : front w₁ .block ≡ 0 = subst (λ (a : ℕ). front (world (pushed (counted c (c .total + a)) (included base t (v .pairs) (getD (c .scopes) (c .used - 1) blank)) names) page texts indent after) .block ≡ 0) (sym eq) (include-no-block s b o w₀ r base l d (v .pair) (v .pairs) (W .st) (same-blocks page texts indent r y W) J Hs (pairs page texts indent r y W) (some E) O E (joined s b w₀ ind) (I page texts indent r y W few) fit lt names covers) in
+              let nt : front w₁ .text ≡ 0 = subst (λ (a : ℕ). front (world (pushed (counted c (c .total + a)) (included base t (v .pairs) (getD (c .scopes) (c .used - 1) blank)) names) page texts indent after) .text ≡ 0) (sym eq) (include-no-text s b o w₀ r base l d (v .pair) (v .pairs) (W .st) (same-blocks page texts indent r y W) J Hs (pairs page texts indent r y W) (some E) O E (joined s b w₀ ind) (I page texts indent r y W few) fit lt names covers) in
               let K = T .at w₀ r (within-so page texts indent r y W) nb nt f i (omega arith) (omega arith) in
               subst (Draws s b w₀ (over (unless-bad (λ u. cleaned u c) (w₂ .rc)) w₂)) (sym whole)
               (unless-refused (λ u. Draws s b w₀ u (block-text-of (some E) O (render-partial (abs s b w₀ .seen .current-template) (abs s b w₀ .kept .indent-string) (joined s b w₀ ind) E) (abs s b w₁))) (λ u. cleaned u c) w₂ (λ z. K .fine z) (λ z. K .refused z))
-
--- The same where there is no hash
-
-module _ (s b : Bytes) (ent : List ℕ) (o : Options) (c : RenderContext) (d p : ℕ) (x : Expanded) (ok : answer s ≡ 0) (small : length b ≤ 65536) (H : Holds (call-of (param d)) (bits b) p)
-    (v : Call) (view : v ≡ call-view d (bits b) p) (base : Value) (starts : StartsPartial (c .scopes) (c .used) x base) (none : v .pairs ≡ 0) where
-  no-values : (g : Registry) (st : rules.RenderContext) (t : ℕ) → Setting s b ent (c .scopes) (c .used) o g st t → HashValues s b ent t d (v .pair) (v .pairs) g st []
-  no-values g st t h = subst (λ (n : ℕ). HashValues s b ent t d (v .pair) n g st []) (sym none) (values-none s b ent t d (v .pair) g st 0)
-
-  pub plain-base : (O : SomeWorked s b ent o c d p x) → Fits base
-  plain-base = scope-base s b ent o c d p x ok small H v view base starts [] no-values
-
-  module _ (few : end-of c ≤ 4096) (total : c .total ≤ 4096) where
-    few-pairs : end-of c + v .pairs ≤ 4096
-    few-pairs = omega (arith, none)
-
-    -- the table, and the entries taken, with n pairs
-    abbrev with-so-many : ℕ → List ℕ
-    with-so-many n = with-pairs ent (bits b) (end-of c) (encoded base) [] d (v .pair) n
-
-    abbrev taken : ℕ → ℕ
-    taken n = entries-of n (json-of s b (with-so-many n) (Merged (end-of c) n))
-
-    within-limit : c .total + taken (v .pairs) ≤ 4096
-    within-limit = let e : taken (v .pairs) ≡ 0 = ap taken none in omega arith
-
-    as-before : c .total + 0 ≡ c .total
-    as-before = omega arith
-
-    room : (y : Bool) → ltb (c .used) 32 ≡ y
-        → ScopeOpened s b ent ent o c (pick y (pushed c (included base (end-of c) 0 (getD (c .scopes) (c .used - 1) blank))) (failed c 23)) d p x
-    room true e =
-        subst (λ (i : ℕ). ScopeOpened s b ent ent o c (pushed (counted c i) (included base (end-of c) 0 (getD (c .scopes) (c .used - 1) blank))) d p x) as-before
-        (subst (λ (n : ℕ). ScopeOpened s b ent (with-so-many n) o c (pushed (counted c (c .total + taken n)) (included base (end-of c) n (getD (c .scopes) (c .used - 1) blank))) d p x) none
-        (scope-opened s b ent o c d p x ok small H v view base starts [] no-values few-pairs within-limit (ltb-true (c .used) 32 e)))
-    room false e =
-        subst (λ (n : ℕ). ScopeOpened s b ent (with-so-many n) o c (failed c 23) d p x) none
-        (scope-deep s b ent o c d p x ok small H v view base starts [] no-values few-pairs within-limit (ltb-false (c .used) 32 e))
-
-    pub scope-plain : ScopeOpened s b ent ent o c (plainly-opened base (end-of c) c) d p x
-    scope-plain = room (ltb (c .used) 32) refl

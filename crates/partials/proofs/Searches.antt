@@ -1,14 +1,12 @@
 -- Searches among inline partials and among templates.
-use Prim.Native.Nat.{ℕ, zero, suc, _+_, _-_, _*_, _%_, _≤_, _<_}
+use Prim.Native.Nat.{ℕ, suc, _+_, _-_, _*_, _≤_, _<_}
 use mathlib.Core.Bool.{Bool, true, false}
 use mathlib.Core.List.{List}
 use mathlib.Core.Option.{Option, none, some}
 use mathlib.Core.Path.{_≡_, refl, sym, ap, ap₂, _∙_, subst}
 use native.Mathlib.Omega.{arith}
-use lib.Dec.{eqb}
-use lib.ListN.{getD}
-use borrow.Author.Tests.{eqb-true, eq-eqb, ne-eqb}
-use Rattle.rules.specs.Bytes.{Bytes, pick, maybe, same}
+use lib.ListN.{length}
+use Rattle.rules.specs.Bytes.{Bytes, maybe, same}
 use Rattle.rules.specs.Template as rule
 use Rattle.rules.specs.Bits.{Bits, bits}
 use Rattle.rules.specs.Layout.{field}
@@ -23,14 +21,13 @@ use Rattle.registry.specs.declared.Found.the-variants.{Template as Is, Missing}
 use Rattle.registry.specs.Templates.{templates-at, found-view, FoundStands, found-stands}
 use Rattle.meaning.specs.Entries.{high, place}
 use Rattle.scope.specs.declared.Scope.{Scope}
-use Rattle.scope.specs.Scopes.{inline-body, blocks-of, blank}
-use Rattle.scope.specs.Words.{scopes-of, scopes-at}
-use Rattle.scope.specs.Standing.{InlineStands, ScopesStand}
+use Rattle.scope.specs.Scopes.{inline-body, blocks-of}
+use Rattle.scope.specs.Standing.{InlineStands, ScopeStands, ScopesStand}
 use Rattle.scope.specs.InlineLaws.{find-none, find-here}
 use Rattle.decorators.specs.declared.Local.{Local}
 use Rattle.decorators.specs.declared.Local.the-variants.{At, Nothing}
-use Rattle.decorators.specs.Inlined.{newest, Unnamed, Named, same-swap}
-use Rattle.partials.specs.Finding.{filled, EntryFound, EntryIs, InlineFound, TemplateFound, template-name}
+use Rattle.decorators.specs.Inlined.{newest, Unnamed, Named, LocalIs, same-swap}
+use Rattle.partials.specs.Finding.{EntryFound, EntryIs, InlineFound, TemplateFound, template-name}
 
 -- The newest of the first i scopes
 
@@ -57,64 +54,19 @@ module _ (s b : Bytes) (ent : List ℕ) (l : List Scope) (used t : ℕ) (st : Sc
       (step
       ∙ ap (λ (o : Option rule.Template). maybe o (get-partial (blocks-of s b ent l (i - 1)) m) some) (find-none s b ent m (newest l i .inline) (newest l i .count) u))
 
--- Scopes without inline partials are passed by
+  -- the newest has no inline partial
+  pub turn-none : newest l i .count ≡ 0 → get-partial (blocks-of s b ent l (i - 1)) m ≡ get-partial (blocks-of s b ent l i) m
+  turn-none e = turn-outer (λ j lt. absurd (omega arith))
 
-none-here : (sc : List ℕ) (n : ℕ) → getD (scopes-of sc) n blank .count ≡ 0 → filled sc n ≡ filled sc (suc n)
-unfolding filled
-none-here sc n e = rw (eq-eqb (getD (scopes-of sc) n blank .count) 0 e)
+-- as the code has read it
+module _ (s b : Bytes) (ent : List ℕ) (l : List Scope) (used t : ℕ) (st : ScopesStand s b ent l used t) (i : ℕ) (pos : 0 < i) (le : i ≤ used) (d : Scope) (here : d ≡ newest l i) where
+  pub turn-ready : (2 * (d .inline + d .count) ≤ length ent) × ((j : ℕ) → j < d .count → InlineStands s b ent (d .inline + j))
+  turn-ready =
+      let f : d .inline + d .count ≤ t = subst (λ (c : Scope). c .inline + c .count ≤ t) (sym here) (st .within (i - 1) (omega arith)) in
+      (omega (arith, st .entries), subst (ScopeStands s b ent) (sym here) (st .each (i - 1) (omega arith)) .inlines)
 
-some-here : (sc : List ℕ) (n : ℕ) → (getD (scopes-of sc) n blank .count ≡ 0 → ⊥) → suc n ≡ filled sc (suc n)
-unfolding filled
-some-here sc n h = rw (ne-eqb (getD (scopes-of sc) n blank .count) 0 h)
-
-pub filled-none : (sc : List ℕ) → 0 ≡ filled sc 0
-unfolding filled
-filled-none sc = refl
-
-pub filled-le : (sc : List ℕ) (n : ℕ) → filled sc n ≤ n
-unfolding filled
-filled-le sc zero = omega arith
-filled-le sc (suc n) = go (eqb (getD (scopes-of sc) n blank .count) 0) (filled-le sc n)
-  where
-    go : (y : Bool) → filled sc n ≤ n → pick y (filled sc n) (suc n) ≤ suc n
-    go true h = omega arith
-    go false h = omega arith
-
--- the newest of i scopes, by its third word
-module _ (sc : List ℕ) (i : ℕ) (pos : 0 < i) (le : i ≤ 32) where
-  whole-again : suc (i - 1) ≡ i
-  whole-again = omega arith
-
-  third : getD (scopes-of sc) (i - 1) blank .count ≡ getD sc (3 * (i - 1) + 2) 0 % 65536
-  third = ap (λ (c : Scope). c .count) (scopes-at sc (i - 1) (omega arith))
-
-  pub filled-here : (getD sc (3 * (i - 1) + 2) 0 % 65536 ≡ 0 → ⊥) → i ≡ filled sc i
-  filled-here h = subst (λ (n : ℕ). n ≡ filled sc n) whole-again (some-here sc (i - 1) (λ e. h (sym third ∙ e)))
-
-  pub filled-less : getD sc (3 * (i - 1) + 2) 0 % 65536 ≡ 0 → filled sc (i - 1) ≡ filled sc i
-  filled-less e = subst (λ (n : ℕ). filled sc (i - 1) ≡ filled sc n) whole-again (none-here sc (i - 1) (third ∙ e))
-
-pub filled-outer : (s b : Bytes) (ent sc : List ℕ) (used t : ℕ) → ScopesStand s b ent (scopes-of sc) used t → (m : Bytes) (n : ℕ) → n ≤ used
-    → get-partial (blocks-of s b ent (scopes-of sc) (filled sc n)) m ≡ get-partial (blocks-of s b ent (scopes-of sc) n) m
-unfolding filled
-filled-outer s b ent sc used t st m zero le = refl
-filled-outer s b ent sc used t st m (suc n) le = go (eqb (getD (scopes-of sc) n blank .count) 0) refl (filled-outer s b ent sc used t st m n (omega arith))
-  where
-    less : suc n - 1 ≡ n
-    less = omega arith
-
-    go : (y : Bool) → eqb (getD (scopes-of sc) n blank .count) 0 ≡ y
-        → get-partial (blocks-of s b ent (scopes-of sc) (filled sc n)) m ≡ get-partial (blocks-of s b ent (scopes-of sc) n) m
-        → get-partial (blocks-of s b ent (scopes-of sc) (pick y (filled sc n) (suc n))) m ≡ get-partial (blocks-of s b ent (scopes-of sc) (suc n)) m
-    go true e h =
-        let z : newest (scopes-of sc) (suc n) .count ≡ 0 = ap (λ (j : ℕ). getD (scopes-of sc) j blank .count) less ∙ eqb-true _ 0 e in
-        h ∙ ap (λ (j : ℕ). get-partial (blocks-of s b ent (scopes-of sc) j) m) (sym less)
-        ∙ turn-outer s b ent (scopes-of sc) used t st (suc n) (omega arith) le m (λ i lt. absurd (omega arith))
-    go false e h = refl
-
--- where all are such, there is none
-pub none-filled : (s b : Bytes) (ent sc : List ℕ) (used t : ℕ) → ScopesStand s b ent (scopes-of sc) used t → (m : Bytes) → filled sc used ≡ 0 → get-partial (blocks-of s b ent (scopes-of sc) used) m ≡ none
-none-filled s b ent sc used t st m e = sym (filled-outer s b ent sc used t st m used (omega arith)) ∙ ap (λ (j : ℕ). get-partial (blocks-of s b ent (scopes-of sc) j) m) e
+  pub turn-is : (m : Bytes) (r q : Local) → r ≡ q → LocalIs s b ent (d .inline) (d .count) m r → LocalIs s b ent (newest l i .inline) (newest l i .count) m q
+  turn-is m r q e h = subst (λ (c : Scope). LocalIs s b ent (c .inline) (c .count) m q) here (subst (LocalIs s b ent (d .inline) (d .count) m) e h)
 
 -- Templates, by their places
 

@@ -3,9 +3,8 @@ use Prim.Native.Nat.{ℕ, zero, suc, _+_, _*_, _≤_, _<_}
 use mathlib.Core.List.{List}
 use mathlib.Core.Option.{Option, none, some}
 use mathlib.Core.Path.{_≡_, sym, ap, ap₂, _∙_}
-use lib.Dec.{eqb}
-use lib.ListN.{length, getD}
-use Rattle.rules.specs.Bytes.{Bytes, pick}
+use lib.ListN.{length}
+use Rattle.rules.specs.Bytes.{Bytes}
 use Rattle.rules.specs.Template.{Template, tnil}
 use Rattle.rules.specs.Bits.{Bits}
 use Rattle.rules.specs.Bundle.{string, body}
@@ -15,18 +14,12 @@ use Rattle.rules.specs.Registry.{Registry, get-template}
 use Rattle.rules.specs.Partial.{Rendering, get-partial, of-template, of-partial, find-partial}
 use Rattle.layout.specs.Text.{text-at}
 use Rattle.parts.specs.Holds.{Holds, value}
-use Rattle.scope.specs.Scopes.{inline-body, blank}
-use Rattle.scope.specs.Words.{scopes-of}
+use Rattle.scope.specs.Scopes.{inline-body}
 use Rattle.scope.specs.Standing.{InlineStands}
 use Rattle.decorators.specs.declared.Local.{Local}
 use Rattle.decorators.specs.declared.Local.the-variants.{At, Nothing as Lacking}
 use Rattle.partials.specs.declared.Found.{Found}
 use Rattle.partials.specs.declared.Found.the-variants.{Inline, Template as Named, Nothing}
-
--- how many of the first n scopes are left without those at their end that have no inline partial
-unfoldable pub filled : List ℕ → ℕ → ℕ
-filled sc zero = 0
-filled sc (suc n) = pick (eqb (getD (scopes-of sc) n blank .count) 0) (filled sc n) (suc n)
 
 -- the inline partial in the entry k
 pub record EntryFound (s b : Bytes) (ent : List ℕ) (o : Option Template) (k : ℕ) : Type 0 where

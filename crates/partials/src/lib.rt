@@ -13,16 +13,15 @@ ghost use Rattle.parts.specs.Holds.{Holds};
 ghost use Rattle.registry.specs.Templates.{templates-at, found-view};
 ghost use Rattle.registry.specs.Index.{Indexed};
 ghost use Rattle.places.specs.Accepted.{Accepted};
-ghost use Rattle.value.specs.declared.Value.the-variants.{Text};
 ghost use Rattle.meaning.specs.Standing.{Stands};
 ghost use Rattle.meaning.specs.Forms.{Known};
 ghost use Rattle.meaning.specs.Means.{Means};
 ghost use Rattle.scope.specs.Scopes.{blocks-of};
-ghost use Rattle.scope.specs.Words.{scopes-of};
 ghost use Rattle.scope.specs.Standing.{ScopesStand};
 ghost use Rattle.expand.specs.Answers.{name-of};
-ghost use Rattle.partials.specs.Finding.{filled, EntryIs, FoundIs, template-name};
+ghost use Rattle.partials.specs.Finding.{EntryIs, FoundIs, template-name};
 use decorators::Local;
+use scope::Scope;
 use value::Value;
 
 pub enum Found {
@@ -33,61 +32,55 @@ pub enum Found {
     Nothing,
 }
 
-// How many of the first n scopes are left without those at their end that have no inline partial. Most have none: the third word of a scope tells, so
-// that they need not be unpacked.
-fn filled(sc: &[u64], n: usize) -> usize
-    requires { ⌜ (length (now sc) ≡ 96) × (n ≤ 32) ⌝ }
-    ensures { λ r. ⌜ r ≡ filled (now (sc .entry)) n ⌝ }
-{
-    let mut i = n;
-    while 0 < i {
-        let j = i - 1;
-        if sc[3 * j + 2] % 65536 != 0 {
-            return i;
-        }
-        i = j;
-    }
-    0
-}
-
 // Among the inline partials, from the newest scope on.
 fn get_partial(
     s: &[u8],
     tab: &[u64],
     b: &[u8],
     ent: &[u64],
-    sc: &[u64],
+    scopes: [Scope; 32],
     used: usize,
     v: Value,
 ) -> Local
-    requires { ⌜ Accepted (now s) (now tab) × (length (now b) ≤ 65536) × (used ≤ 32) × ((t : ℕ) × ScopesStand (now s) (now b) (now ent) (scopes-of (now sc)) used t) × Known (now s) (now b) v × (length (now sc) ≡ 96) ⌝ }
-    ensures { λ r. ⌜ ((t : ℕ) → Stands (now (s .entry)) (now (b .entry)) (now (ent .entry)) t v → EntryIs (now (s .entry)) (now (b .entry)) (now (ent .entry)) (get-partial (blocks-of (now (s .entry)) (now (b .entry)) (now (ent .entry)) (scopes-of (now (sc .entry))) used) (name-of (now (s .entry)) (now (b .entry)) (now (ent .entry)) v)) r) ⌝ }
+    requires { ⌜ Accepted (now s) (now tab) × (length (now b) ≤ 65536)
+        × (used ≤ 32) × ((t : ℕ) × ScopesStand (now s) (now b) (now ent) scopes used t)
+        × Known (now s) (now b) v ⌝ }
+    ensures { λ r. ⌜ ((t : ℕ) → Stands (now (s .entry)) (now (b .entry)) (now (ent .entry)) t v
+        → EntryIs (now (s .entry)) (now (b .entry)) (now (ent .entry))
+        (get-partial (blocks-of (now (s .entry)) (now (b .entry)) (now (ent .entry)) scopes used)
+        (name-of (now (s .entry)) (now (b .entry)) (now (ent .entry)) v)) r) ⌝ }
 {
-    let mut i = filled(sc, used);
+    let mut i = used;
     while 0 < i {
         i -= 1;
-        let c = scope::scope_at(sc, i);
-        let found = decorators::get_local_partial(
-            s,
-            tab,
-            b,
-            ent,
-            c.inline as usize,
-            c.count as usize,
-            v,
-        );
-        if let Local::At(k) = found {
-            return Local::At(k);
+        let c = scopes[i];
+        // most have none
+        if c.count != 0 {
+            let found = decorators::get_local_partial(
+                s,
+                tab,
+                b,
+                ent,
+                c.inline as usize,
+                c.count as usize,
+                v,
+            );
+            if let Local::At(k) = found {
+                return Local::At(k);
+            }
         }
-        i = filled(sc, i);
     }
     Local::Nothing
 }
 
 // Among the templates of the bundle, whatever v is.
 fn get_printed(s: &[u8], tab: &[u64], b: &[u8], places: &[u32], v: Value) -> registry::Found
-    requires { ⌜ Accepted (now s) (now tab) × (length (now b) ≤ 65536) × Holds (templates 16) (bits (now b)) 8 × (field (bits (now b)) 8 8 ≤ length (now places)) × Indexed (body 16 16) (bits (now b)) (field (bits (now b)) 8 8) (now places) × Known (now s) (now b) v ⌝ }
-    ensures { λ r. ⌜ Means (now (s .entry)) (now (b .entry)) v (λ j. r ≡ found-view (body 16 16) (bits (now (b .entry))) (find-template (templates-at 16 (bits (now (b .entry)))) (render j))) ⌝ }
+    requires { ⌜ Accepted (now s) (now tab) × (length (now b) ≤ 65536) × Holds (templates 16) (bits (now b)) 8
+        × (field (bits (now b)) 8 8 ≤ length (now places))
+        × Indexed (body 16 16) (bits (now b)) (field (bits (now b)) 8 8) (now places) × Known (now s) (now b) v ⌝ }
+    ensures { λ r. ⌜ Means (now (s .entry)) (now (b .entry)) v (λ j. r
+        ≡ found-view (body 16 16) (bits (now (b .entry)))
+        (find-template (templates-at 16 (bits (now (b .entry)))) (render j))) ⌝ }
 {
     let n = registry::template_count(b);
     let mut i: usize = 0;
@@ -103,8 +96,12 @@ fn get_printed(s: &[u8], tab: &[u64], b: &[u8], places: &[u32], v: Value) -> reg
 
 // Among the templates of the bundle: mostly v is a string of it.
 fn get_template(s: &[u8], tab: &[u64], b: &[u8], places: &[u32], v: Value) -> registry::Found
-    requires { ⌜ Accepted (now s) (now tab) × (length (now b) ≤ 65536) × Holds (templates 16) (bits (now b)) 8 × (field (bits (now b)) 8 8 ≤ length (now places)) × Indexed (body 16 16) (bits (now b)) (field (bits (now b)) 8 8) (now places) × Known (now s) (now b) v ⌝ }
-    ensures { λ r. ⌜ Means (now (s .entry)) (now (b .entry)) v (λ j. r ≡ found-view (body 16 16) (bits (now (b .entry))) (find-template (templates-at 16 (bits (now (b .entry)))) (render j))) ⌝ }
+    requires { ⌜ Accepted (now s) (now tab) × (length (now b) ≤ 65536) × Holds (templates 16) (bits (now b)) 8
+        × (field (bits (now b)) 8 8 ≤ length (now places))
+        × Indexed (body 16 16) (bits (now b)) (field (bits (now b)) 8 8) (now places) × Known (now s) (now b) v ⌝ }
+    ensures { λ r. ⌜ Means (now (s .entry)) (now (b .entry)) v (λ j. r
+        ≡ found-view (body 16 16) (bits (now (b .entry)))
+        (find-template (templates-at 16 (bits (now (b .entry)))) (render j))) ⌝ }
 {
     if let Value::Text(q) = v {
         return registry::get_indexed(b, places, q);
@@ -119,14 +116,22 @@ pub fn find_partial(
     b: &[u8],
     places: &[u32],
     ent: &[u64],
-    sc: &[u64],
+    scopes: [Scope; 32],
     used: usize,
     v: Value,
 ) -> Found
-    requires { ⌜ Accepted (now s) (now tab) × (length (now b) ≤ 65536) × Holds (templates 16) (bits (now b)) 8 × (field (bits (now b)) 8 8 ≤ length (now places)) × Indexed (body 16 16) (bits (now b)) (field (bits (now b)) 8 8) (now places) × (used ≤ 32) × ((t : ℕ) × ScopesStand (now s) (now b) (now ent) (scopes-of (now sc)) used t) × ((t : ℕ) × Stands (now s) (now b) (now ent) t v) × (length (now sc) ≡ 96) ⌝ }
-    ensures { λ r. ⌜ FoundIs (bits (now (b .entry))) (name-of (now (s .entry)) (now (b .entry)) (now (ent .entry)) v) (get-partial (blocks-of (now (s .entry)) (now (b .entry)) (now (ent .entry)) (scopes-of (now (sc .entry))) used) (name-of (now (s .entry)) (now (b .entry)) (now (ent .entry)) v)) (get-template (templates-at 16 (bits (now (b .entry)))) (name-of (now (s .entry)) (now (b .entry)) (now (ent .entry)) v)) r ⌝ }
+    requires { ⌜ Accepted (now s) (now tab) × (length (now b) ≤ 65536) × Holds (templates 16) (bits (now b)) 8
+        × (field (bits (now b)) 8 8 ≤ length (now places))
+        × Indexed (body 16 16) (bits (now b)) (field (bits (now b)) 8 8) (now places)
+        × (used ≤ 32) × ((t : ℕ) × ScopesStand (now s) (now b) (now ent) scopes used t)
+        × ((t : ℕ) × Stands (now s) (now b) (now ent) t v) ⌝ }
+    ensures { λ r. ⌜ FoundIs (bits (now (b .entry))) (name-of (now (s .entry)) (now (b .entry)) (now (ent .entry)) v)
+        (get-partial (blocks-of (now (s .entry)) (now (b .entry)) (now (ent .entry)) scopes used)
+        (name-of (now (s .entry)) (now (b .entry)) (now (ent .entry)) v))
+        (get-template (templates-at 16 (bits (now (b .entry))))
+        (name-of (now (s .entry)) (now (b .entry)) (now (ent .entry)) v)) r ⌝ }
 {
-    let inner = get_partial(s, tab, b, ent, sc, used, v);
+    let inner = get_partial(s, tab, b, ent, scopes, used, v);
     if let Local::At(k) = inner {
         return Found::Inline(entries::place(ent, k), entries::high(ent, k) as usize);
     }
@@ -137,34 +142,12 @@ pub fn find_partial(
     }
 }
 
-// The same of the string at q. Mostly no scope has an inline partial: then the templates alone are looked through.
-pub fn find_named(
-    s: &[u8],
-    tab: &[u64],
-    b: &[u8],
-    places: &[u32],
-    ent: &[u64],
-    sc: &[u64],
-    used: usize,
-    q: usize,
-) -> Found
-    requires { ⌜ Accepted (now s) (now tab) × (length (now b) ≤ 65536) × Holds (templates 16) (bits (now b)) 8 × (field (bits (now b)) 8 8 ≤ length (now places)) × Indexed (body 16 16) (bits (now b)) (field (bits (now b)) 8 8) (now places) × (used ≤ 32) × ((t : ℕ) × ScopesStand (now s) (now b) (now ent) (scopes-of (now sc)) used t) × Holds string (bits (now b)) q × (length (now sc) ≡ 96) ⌝ }
-    ensures { λ r. ⌜ FoundIs (bits (now (b .entry))) (name-of (now (s .entry)) (now (b .entry)) (now (ent .entry)) (Text q)) (get-partial (blocks-of (now (s .entry)) (now (b .entry)) (now (ent .entry)) (scopes-of (now (sc .entry))) used) (name-of (now (s .entry)) (now (b .entry)) (now (ent .entry)) (Text q))) (get-template (templates-at 16 (bits (now (b .entry)))) (name-of (now (s .entry)) (now (b .entry)) (now (ent .entry)) (Text q))) r ⌝ }
-{
-    if filled(sc, used) != 0 {
-        return find_partial(s, tab, b, places, ent, sc, used, Value::Text(q));
-    }
-    let t = registry::get_indexed(b, places, q);
-    match t {
-        registry::Found::Template(_, name, body) => Found::Template(name, body),
-        registry::Found::Missing => Found::Nothing,
-    }
-}
-
 // Whether v prints the name of the current template: one more than the place of its string, or 0 where there is none.
 pub fn is_current_template(s: &[u8], tab: &[u64], b: &[u8], template: usize, v: Value) -> bool
-    requires { ⌜ Accepted (now s) (now tab) × (length (now b) ≤ 65536) × ((template ≡ 0 → ⊥) → Holds string (bits (now b)) (template - 1)) × Known (now s) (now b) v ⌝ }
-    ensures { λ r. ⌜ Means (now (s .entry)) (now (b .entry)) v (λ j. r ≡ is-current-template (template-name (bits (now (b .entry))) template) (render j)) ⌝ }
+    requires { ⌜ Accepted (now s) (now tab) × (length (now b) ≤ 65536)
+        × ((template ≡ 0 → ⊥) → Holds string (bits (now b)) (template - 1)) × Known (now s) (now b) v ⌝ }
+    ensures { λ r. ⌜ Means (now (s .entry)) (now (b .entry)) v (λ j. r
+        ≡ is-current-template (template-name (bits (now (b .entry))) template) (render j)) ⌝ }
 {
     if template == 0 {
         return false;

@@ -1,4 +1,8 @@
+pub mod Looked
 pub mod Plain
 pub mod Reading
-pub mod Laws
+pub mod Finding
 pub mod Put
+pub mod Drawn
+pub mod Laws
+pub mod Lookups

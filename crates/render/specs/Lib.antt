@@ -1,3 +1,4 @@
 pub mod Texts
 pub mod Laws
 pub mod Start
+pub mod Body

@@ -29,6 +29,7 @@ use Rattle.value.specs.Numbers.{decoded, decoded-encoded}
 use Rattle.meaning.specs.Meaning.{is-missing, json-of, scoped-of}
 use Rattle.scope.specs.declared.Scope.{Scope}
 use Rattle.scope.specs.Scopes.{blank, context-of}
+use Rattle.scope.specs.NameBits.{Covers, covers-none}
 use Rattle.scope.specs.Made.{child}
 use Rattle.scope.specs.MadeLaws.{child-is}
 use Rattle.settings.specs.Settings.{roots-stand}
@@ -74,6 +75,7 @@ module _ (s b page texts indent : Bytes) (ent : List ℕ) where
         nameless = refl;
         sound = sound;
         scopes = roots-stand s b ent (replicate 32 blank) 1 (omega arith) (λ i h. first-root i h);
+        covered = λ i h. subst (Covers 0 b ent) (sym (first-root i h)) (covers-none b ent 0 blank refl);
         total = sym (ap entries abs-fresh);
         few = omega arith;
         enough = omega arith;

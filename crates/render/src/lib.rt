@@ -1,11 +1,13 @@
 // render.rs and partial.rs: bodies draw elements, elements call helpers and partials, and these draw bodies again.
 // s is the plan with its places tab, b the bundle with the places of its templates; d is the number of depths left for a body, its own
 // included. ent holds the entries of open partials, indent the indent in force; page and texts are written into.
+// The open scopes go by value: each function is given the array and its newest record, and gives back the context, in which the newest scope
+// may have gained inline partials. The scopes beneath are the caller's own.
 ghost use mathlib.Core.Path.{_≡_};
 ghost use mathlib.Core.List.{List};
 ghost use mathlib.Core.Option.{some};
-ghost use Prim.Native.Nat.{ℕ, _+_, _≤_, _<_};
-ghost use lib.ListN.{length};
+ghost use Prim.Native.Nat.{ℕ, _+_, _-_, _≤_, _<_};
+ghost use lib.ListN.{length, set, replicate};
 ghost use Rattle.rules.specs.Bits.{bits};
 ghost use Rattle.rules.specs.Bundle.{string, body, param, call-of, block-names};
 ghost use Rattle.rules.specs.Call.{fresh as rules-fresh};
@@ -17,20 +19,25 @@ ghost use Rattle.parts.specs.declared.Maybe.the-variants.{At, Nothing};
 ghost use Rattle.parts.specs.Holds.{Holds};
 ghost use Rattle.parts.specs.Says.{MaybeHolds, names-at};
 ghost use Rattle.template.specs.Views.{template-at, element-says, ElementHolds};
-ghost use Rattle.state.specs.Context.{whole};
+ghost use Rattle.scope.specs.declared.Scope.{Scope};
+ghost use Rattle.scope.specs.Scopes.{blank};
+ghost use Rattle.state.specs.Context.{whole, topped, Front};
 ghost use Rattle.rules.specs.Layout.{field};
-ghost use Rattle.state.specs.Setters.{fresh, located, with-writer, with-template};
+ghost use Rattle.state.specs.Setters.{fresh, located};
 ghost use Rattle.state.specs.World.{world, Ready, Draws};
-ghost use Rattle.drawing.specs.Renders.{Checked, Named, Renders, registry-of, Openable};
-ghost use Rattle.helping.specs.Decided.{helper-rule};
 ghost use Rattle.drawing.specs.EachLoop.{each-rule};
-ghost use Rattle.drawing.specs.Renders.{body-rule};
+ghost use Rattle.drawing.specs.Renders.{Checked, Named, Openable, Renders, registry-of, body-rule};
+ghost use Rattle.places.specs.Accepted.{Accepted};
+ghost use Rattle.helping.specs.Begun.{HelperBegun, TopIs};
+ghost use Rattle.helping.specs.Decided.{helper-rule};
 ghost use Rattle.beginning.specs.Opened.{partial-rule};
 ghost use Rattle.render.specs.Texts.{TextDrawn, TextReady};
 use expand::Options;
-use output::Writer;
+use helping::Begun;
+use helping::Near;
 use parts::Maybe;
 use plain::Shown;
+use scope::Scope;
 use state::RenderContext;
 use template::Element;
 use turns::Turn;
@@ -39,24 +46,15 @@ use value::Value;
 // The error of the element at p gets the line and column that stand there.
 fn stopped(b: &[u8], name: usize, p: usize, rc: RenderContext) -> RenderContext
     requires { ⌜ p ≤ 524288 ⌝ }
-    ensures { λ r. ⌜ ((l : List ℕ) → whole r l ≡ located (whole rc l) name (field (bits (now (b .entry))) 16 p) (field (bits (now (b .entry))) 16 (p + 16))) ⌝ }
+    ensures { λ r. ⌜ ((l : List Scope) → whole r l
+        ≡ located (whole rc l) name (field (bits (now (b .entry))) 16 p) (field (bits (now (b .entry))) 16 (p + 16))) ⌝ }
 {
     state::located(rc, name, bits::field(b, p, 16), bits::field(b, p + 16, 16))
 }
 
-// The context behind a block.
-fn behind(rc: RenderContext, w: Writer, template: usize) -> RenderContext
-    ensures { λ r. ⌜ ((l : List ℕ) → whole r l ≡ with-template (with-writer (whole rc l) w) template) ⌝ }
-{
-    let mut q = rc;
-    q.writer = w;
-    q.template = template;
-    q
-}
-
-// A body, or all of a template whose name stands at the place before name; 0 where it has none.
-// (How a text or a value is stored is written out here: a function that gave the writer or the context back would have it copied for each element, which takes a
-// tenth of a sheet's time.)
+// A body, or all of a template whose name stands at the place before name; 0 where it has none. top is the newest scope, and not yet in the array.
+// (How a text or a value is stored is written out here: a function that gave the writer or the context back would have it copied for each
+// element, which takes a tenth of a sheet's time.)
 fn render_elements(
     s: &[u8],
     tab: &[u64],
@@ -66,19 +64,31 @@ fn render_elements(
     page: &mut [u8],
     texts: &mut [u8],
     indent: &mut [u8],
-    sc: &mut [u64],
+    scopes: [Scope; 32],
+    top: Scope,
     options: Options,
     p: usize,
     d: usize,
     name: usize,
     rc: RenderContext,
 ) -> RenderContext
-    requires { ⌜ Checked (now s) (now tab) (now b) (now index) × Ready (now s) (now b) (world (whole rc (now sc)) (now page) (now texts) (now indent) (now ent)) × (d ≤ 16) × Holds (body 16 d) (bits (now b)) p × Named (now b) name × (length (now sc) ≡ 96) ⌝ }
-    ensures { λ r. ⌜ Renders (now (s .entry)) (now (b .entry)) options (world (whole rc (now (sc .entry))) (now (page .entry)) (now (texts .entry)) (now (indent .entry)) (now (ent .entry))) (world (whole r (now (sc .exit))) (now (page .exit)) (now (texts .exit)) (now (indent .exit)) (now (ent .exit))) (body-rule (now (b .entry)) d p name) ⌝ }
+    requires { ⌜ Checked (now s) (now tab) (now b) (now index)
+        × Ready (now s) (now b) (world (topped rc scopes top) (now page) (now texts) (now indent) (now ent))
+        × (d ≤ 16)
+        × Holds (body 16 d) (bits (now b)) p
+        × Named (now b) name
+        × (top .count ≡ rc .count) ⌝ }
+    ensures { λ r. ⌜ Renders (now (s .entry)) (now (b .entry)) options
+        (world (topped rc scopes top) (now (page .entry)) (now (texts .entry)) (now (indent .entry)) (now (ent .entry)))
+        (world (whole r (set scopes (rc .used - 1) top)) (now (page .exit)) (now (texts .exit)) (now (indent .exit)) (now (ent .exit)))
+        (body-rule (now (b .entry)) d p name) ⌝ }
 {
     let body = template::body_at(b, p);
     let count = body.count;
+    let k = rc.used - 1;
     let mut q = rc;
+    let mut front = top;
+    let mut open = scope::put_scope(scopes, k, top);
     let mut cur = body.first;
     let mut i: u64 = 0;
     while i < count {
@@ -88,9 +98,9 @@ fn render_elements(
             tab,
             b,
             ent,
-            sc,
+            front,
+            q.names,
             options,
-            q.used,
             q.disable_escape,
             at,
             d - 1,
@@ -139,6 +149,15 @@ fn render_elements(
                 i += 1;
                 continue;
             }
+            Shown::Lookup(v, html, before, next) => {
+                q = plain::draw_lookup(page, texts, indent, s, tab, b, v, html, before, q);
+                if q.bad != 0 {
+                    return stopped(b, name, cur, q);
+                }
+                cur = next;
+                i += 1;
+                continue;
+            }
             Shown::Nothing(next) => {
                 cur = next;
                 i += 1;
@@ -148,29 +167,6 @@ fn render_elements(
                 return stopped(b, name, cur, state::failed(q, n));
             }
             Shown::Other => {}
-        }
-        if branches::is_block(b, cur) {
-            let t = branches::draw_block(
-                s,
-                tab,
-                b,
-                ent,
-                page,
-                texts,
-                indent,
-                sc,
-                options,
-                cur,
-                d - 1,
-                q,
-            );
-            if t.next != 0 {
-                let w = t.writer;
-                q = behind(q, w, t.template);
-                cur = t.next;
-                i += 1;
-                continue;
-            }
         }
         let e = template::content_at(b, cur + 16 + 16, 16, d - 1);
         let element = e.element;
@@ -183,7 +179,8 @@ fn render_elements(
             page,
             texts,
             indent,
-            sc,
+            open,
+            front,
             options,
             element,
             d - 1,
@@ -194,6 +191,11 @@ fn render_elements(
         }
         cur = e.next;
         i += 1;
+        if q.count != front.count as usize {
+            front = scope::with_count(front, q.count);
+            let counted = scope::put_scope(open, k, front);
+            open = counted;
+        }
     }
     q
 }
@@ -207,14 +209,22 @@ fn render_element(
     page: &mut [u8],
     texts: &mut [u8],
     indent: &mut [u8],
-    sc: &mut [u64],
+    scopes: [Scope; 32],
+    front: Scope,
     options: Options,
     e: Element,
     d: usize,
     rc: RenderContext,
 ) -> RenderContext
-    requires { ⌜ Checked (now s) (now tab) (now b) (now index) × Ready (now s) (now b) (world (whole rc (now sc)) (now page) (now texts) (now indent) (now ent)) × (d < 16) × ElementHolds 16 d (bits (now b)) e × (length (now sc) ≡ 96) ⌝ }
-    ensures { λ r. ⌜ Renders (now (s .entry)) (now (b .entry)) options (world (whole rc (now (sc .entry))) (now (page .entry)) (now (texts .entry)) (now (indent .entry)) (now (ent .entry))) (world (whole r (now (sc .exit))) (now (page .exit)) (now (texts .exit)) (now (indent .exit)) (now (ent .exit))) (λ g R. render-element g R (element-says 16 d (bits (now (b .entry))) e)) ⌝ }
+    requires { ⌜ Checked (now s) (now tab) (now b) (now index)
+        × Ready (now s) (now b) (world (whole rc scopes) (now page) (now texts) (now indent) (now ent))
+        × (d < 16)
+        × ElementHolds 16 d (bits (now b)) e
+        × Front scopes rc front ⌝ }
+    ensures { λ r. ⌜ Renders (now (s .entry)) (now (b .entry)) options
+        (world (whole rc scopes) (now (page .entry)) (now (texts .entry)) (now (indent .entry)) (now (ent .entry)))
+        (world (whole r scopes) (now (page .exit)) (now (texts .exit)) (now (indent .exit)) (now (ent .exit)))
+        (λ g R. render-element g R (element-says 16 d (bits (now (b .entry))) e)) ⌝ }
 {
     match e {
         Element::RawString(p) => writing::raw_string(page, texts, indent, b, p, rc),
@@ -227,7 +237,7 @@ fn render_element(
                 page,
                 texts,
                 indent,
-                sc,
+                scopes,
                 options,
                 p,
                 before,
@@ -244,7 +254,7 @@ fn render_element(
                 page,
                 texts,
                 indent,
-                sc,
+                scopes,
                 options,
                 p,
                 before,
@@ -262,7 +272,8 @@ fn render_element(
                 page,
                 texts,
                 indent,
-                sc,
+                scopes,
+                front,
                 options,
                 p,
                 at,
@@ -274,10 +285,36 @@ fn render_element(
             )
         }
         Element::DecoratorExpression(p, at, _) => {
-            inlining::eval_decorator(s, tab, b, ent, sc, options, p, Maybe::Nothing, at, d, rc)
+            inlining::eval_decorator(
+                s,
+                tab,
+                b,
+                ent,
+                scopes,
+                front,
+                options,
+                p,
+                Maybe::Nothing,
+                at,
+                d,
+                rc,
+            )
         }
         Element::DecoratorBlock(p, body, at, _) => {
-            inlining::eval_decorator(s, tab, b, ent, sc, options, p, Maybe::At(body), at, d, rc)
+            inlining::eval_decorator(
+                s,
+                tab,
+                b,
+                ent,
+                scopes,
+                front,
+                options,
+                p,
+                Maybe::At(body),
+                at,
+                d,
+                rc,
+            )
         }
         Element::PartialBlock(p, body, at, before) => {
             render_partial_block(
@@ -289,7 +326,8 @@ fn render_element(
                 page,
                 texts,
                 indent,
-                sc,
+                scopes,
+                front,
                 options,
                 p,
                 body,
@@ -309,7 +347,8 @@ fn render_element(
                 page,
                 texts,
                 indent,
-                sc,
+                scopes,
+                front,
                 options,
                 p,
                 at,
@@ -322,6 +361,93 @@ fn render_element(
     }
 }
 
+// What is left to be drawn of a block with a helper. Most calls are told by the front; others are worked out by all scopes.
+fn begin_helper(
+    s: &[u8],
+    tab: &[u64],
+    b: &[u8],
+    ent: &[u64],
+    page: &mut [u8],
+    texts: &mut [u8],
+    indent: &[u8],
+    scopes: [Scope; 32],
+    front: Scope,
+    options: Options,
+    p: usize,
+    at: usize,
+    template: Maybe,
+    inverse: Maybe,
+    before: bool,
+    d: usize,
+    rc: RenderContext,
+) -> Begun
+    requires { ⌜ Accepted (now s) (now tab)
+        × (length (now b) ≤ 65536)
+        × Ready (now s) (now b) (world (whole rc scopes) (now page) (now texts) (now indent) (now ent))
+        × Holds (call-of (param d)) (bits (now b)) p
+        × Holds block-names (bits (now b)) at
+        × MaybeHolds (body 16 d) (bits (now b)) template
+        × MaybeHolds (body 16 d) (bits (now b)) inverse
+        × Front scopes rc front ⌝ }
+    ensures { λ r. ⌜ HelperBegun (now (s .entry)) (now (b .entry)) options
+        (world (whole rc scopes) (now (page .entry)) (now (texts .entry)) (now (indent .entry)) (now (ent .entry)))
+        (world (topped (r .rc) scopes (r .top)) (now (page .exit)) (now (texts .exit)) (now (indent .entry)) (now (ent .entry)))
+        d p at template inverse before (r .next)
+        × (r .top .count ≡ r .rc .count)
+        × TopIs front rc r ⌝ }
+{
+    let near = helping::decide_near(
+        s,
+        tab,
+        b,
+        ent,
+        front,
+        rc.names,
+        rc.used,
+        options,
+        p,
+        template,
+        inverse,
+        d,
+    );
+    let Near::Is(does) = near else {
+        let w = expand::try_from_template(s, tab, b, ent, scopes, rc.used, options, p, d);
+        let far = helping::decide(s, tab, b, ent, rc.used, options, w, template, inverse);
+        return helping::begin(
+            s,
+            tab,
+            b,
+            ent,
+            page,
+            texts,
+            indent,
+            front,
+            far,
+            at,
+            template,
+            inverse,
+            before,
+            rc,
+        );
+    };
+    helping::begin(
+        s,
+        tab,
+        b,
+        ent,
+        page,
+        texts,
+        indent,
+        front,
+        does,
+        at,
+        template,
+        inverse,
+        before,
+        rc,
+    )
+}
+
 // A block with a helper: its call at p, its block names at the place `at`.
 fn render_helper(
     s: &[u8],
@@ -332,7 +458,8 @@ fn render_helper(
     page: &mut [u8],
     texts: &mut [u8],
     indent: &mut [u8],
-    sc: &mut [u64],
+    scopes: [Scope; 32],
+    front: Scope,
     options: Options,
     p: usize,
     at: usize,
@@ -342,12 +469,21 @@ fn render_helper(
     d: usize,
     rc: RenderContext,
 ) -> RenderContext
-    requires { ⌜ Checked (now s) (now tab) (now b) (now index) × Ready (now s) (now b) (world (whole rc (now sc)) (now page) (now texts) (now indent) (now ent)) × (d < 16) × Holds (call-of (param d)) (bits (now b)) p × Holds block-names (bits (now b)) at × MaybeHolds (body 16 d) (bits (now b)) template × MaybeHolds (body 16 d) (bits (now b)) inverse × (length (now sc) ≡ 96) ⌝ }
-    ensures { λ r. ⌜ Renders (now (s .entry)) (now (b .entry)) options (world (whole rc (now (sc .entry))) (now (page .entry)) (now (texts .entry)) (now (indent .entry)) (now (ent .entry))) (world (whole r (now (sc .exit))) (now (page .exit)) (now (texts .exit)) (now (indent .exit)) (now (ent .exit))) (helper-rule (now (b .entry)) d p before (names-at (bits (now (b .entry))) at) template inverse) ⌝ }
+    requires { ⌜ Checked (now s) (now tab) (now b) (now index)
+        × Ready (now s) (now b) (world (whole rc scopes) (now page) (now texts) (now indent) (now ent))
+        × (d < 16)
+        × Holds (call-of (param d)) (bits (now b)) p
+        × Holds block-names (bits (now b)) at
+        × MaybeHolds (body 16 d) (bits (now b)) template
+        × MaybeHolds (body 16 d) (bits (now b)) inverse
+        × Front scopes rc front ⌝ }
+    ensures { λ r. ⌜ Renders (now (s .entry)) (now (b .entry)) options
+        (world (whole rc scopes) (now (page .entry)) (now (texts .entry)) (now (indent .entry)) (now (ent .entry)))
+        (world (whole r scopes) (now (page .exit)) (now (texts .exit)) (now (indent .exit)) (now (ent .exit)))
+        (helper-rule (now (b .entry)) d p before (names-at (bits (now (b .entry))) at) template inverse) ⌝ }
 {
     let marks = rc.writer;
-    let total = rc.total;
-    let begun = helping::begin(
+    let begun = begin_helper(
         s,
         tab,
         b,
@@ -355,7 +491,8 @@ fn render_helper(
         page,
         texts,
         indent,
-        sc,
+        scopes,
+        front,
         options,
         p,
         at,
@@ -366,6 +503,7 @@ fn render_helper(
         rc,
     );
     let next = begun.next;
+    let top = begun.top;
     let mut q = begun.rc;
     match next {
         helping::Next::Done => {}
@@ -379,7 +517,8 @@ fn render_helper(
                 page,
                 texts,
                 indent,
-                sc,
+                scopes,
+                top,
                 options,
                 t,
                 d,
@@ -398,14 +537,15 @@ fn render_helper(
                 page,
                 texts,
                 indent,
-                sc,
+                scopes,
+                top,
                 options,
                 t,
                 d,
                 0,
                 q,
             );
-            q = state::finish_within(q, total, marks);
+            q = state::finish_within(q, rc);
         }
         helping::Next::Turns(v, t) => {
             q = render_turns(
@@ -417,7 +557,8 @@ fn render_helper(
                 page,
                 texts,
                 indent,
-                sc,
+                scopes,
+                front,
                 options,
                 v,
                 at,
@@ -441,7 +582,8 @@ fn render_turns(
     page: &mut [u8],
     texts: &mut [u8],
     indent: &mut [u8],
-    sc: &mut [u64],
+    scopes: [Scope; 32],
+    front: Scope,
     options: Options,
     v: Value,
     at: usize,
@@ -449,17 +591,30 @@ fn render_turns(
     d: usize,
     rc: RenderContext,
 ) -> RenderContext
-    requires { ⌜ Checked (now s) (now tab) (now b) (now index) × Ready (now s) (now b) (world (whole rc (now sc)) (now page) (now texts) (now indent) (now ent)) × (d < 16) × Holds block-names (bits (now b)) at × Holds (body 16 d) (bits (now b)) p × Openable (now s) (now b) (world (whole rc (now sc)) (now page) (now texts) (now indent) (now ent)) v × (length (now sc) ≡ 96) ⌝ }
-    ensures { λ r. ⌜ Renders (now (s .entry)) (now (b .entry)) options (world (whole rc (now (sc .entry))) (now (page .entry)) (now (texts .entry)) (now (indent .entry)) (now (ent .entry))) (world (whole r (now (sc .exit))) (now (page .exit)) (now (texts .exit)) (now (indent .exit)) (now (ent .exit))) (each-rule (now (s .entry)) (now (b .entry)) (world (whole rc (now (sc .entry))) (now (page .entry)) (now (texts .entry)) (now (indent .entry)) (now (ent .entry))) d at p v) ⌝ }
+    requires { ⌜ Checked (now s) (now tab) (now b) (now index)
+        × Ready (now s) (now b) (world (whole rc scopes) (now page) (now texts) (now indent) (now ent))
+        × (d < 16)
+        × Holds block-names (bits (now b)) at
+        × Holds (body 16 d) (bits (now b)) p
+        × Openable (now s) (now b) (world (whole rc scopes) (now page) (now texts) (now indent) (now ent)) v
+        × Front scopes rc front ⌝ }
+    ensures { λ r. ⌜ Renders (now (s .entry)) (now (b .entry)) options
+        (world (whole rc scopes) (now (page .entry)) (now (texts .entry)) (now (indent .entry)) (now (ent .entry)))
+        (world (whole r scopes) (now (page .exit)) (now (texts .exit)) (now (indent .exit)) (now (ent .exit)))
+        (each-rule (now (s .entry)) (now (b .entry)) (world (whole rc scopes) (now (page .entry)) (now (texts .entry)) (now (indent .entry)) (now (ent .entry))) d at p v) ⌝ }
 {
-    let mut q = blocks::open_each(b, sc, at, v, rc);
+    let first = blocks::open_each(b, front, at, v);
+    let names = scope::names_of(b, ent, first);
+    let mut c = first;
+    let mut q = state::deeper(rc, names);
     let mut turn = turns::first_turn(s, tab, b, ent, v);
     let mut k: usize = 0;
     loop {
         let Turn::Item(item, key, object, last) = turn else {
-            return state::pop_block(q, rc.total);
+            return state::pop_block(q, rc);
         };
-        let u = blocks::begin_turn(sc, q, item, key, k, object, last);
+        c = blocks::turn_scope(scope::with_count(c, q.count), item, key, k, object, last);
+        q = state::set_current_template_name(q, 0);
         q = render_elements(
             s,
             tab,
@@ -469,12 +624,13 @@ fn render_turns(
             page,
             texts,
             indent,
-            sc,
+            scopes,
+            c,
             options,
             p,
             d,
             0,
-            u,
+            q,
         );
         if q.bad != 0 {
             return q;
@@ -494,7 +650,8 @@ fn render_partial(
     page: &mut [u8],
     texts: &mut [u8],
     indent: &mut [u8],
-    sc: &mut [u64],
+    scopes: [Scope; 32],
+    front: Scope,
     options: Options,
     p: usize,
     at: Maybe,
@@ -502,8 +659,16 @@ fn render_partial(
     d: usize,
     rc: RenderContext,
 ) -> RenderContext
-    requires { ⌜ Checked (now s) (now tab) (now b) (now index) × Ready (now s) (now b) (world (whole rc (now sc)) (now page) (now texts) (now indent) (now ent)) × (d < 16) × Holds (call-of (param d)) (bits (now b)) p × MaybeHolds string (bits (now b)) at × (length (now sc) ≡ 96) ⌝ }
-    ensures { λ r. ⌜ Renders (now (s .entry)) (now (b .entry)) options (world (whole rc (now (sc .entry))) (now (page .entry)) (now (texts .entry)) (now (indent .entry)) (now (ent .entry))) (world (whole r (now (sc .exit))) (now (page .exit)) (now (texts .exit)) (now (indent .exit)) (now (ent .exit))) (partial-rule (now (b .entry)) d p Nothing at before) ⌝ }
+    requires { ⌜ Checked (now s) (now tab) (now b) (now index)
+        × Ready (now s) (now b) (world (whole rc scopes) (now page) (now texts) (now indent) (now ent))
+        × (d < 16)
+        × Holds (call-of (param d)) (bits (now b)) p
+        × MaybeHolds string (bits (now b)) at
+        × Front scopes rc front ⌝ }
+    ensures { λ r. ⌜ Renders (now (s .entry)) (now (b .entry)) options
+        (world (whole rc scopes) (now (page .entry)) (now (texts .entry)) (now (indent .entry)) (now (ent .entry)))
+        (world (whole r scopes) (now (page .exit)) (now (texts .exit)) (now (indent .exit)) (now (ent .exit)))
+        (partial-rule (now (b .entry)) d p Nothing at before) ⌝ }
 {
     let begun = beginning::begin(
         s,
@@ -514,7 +679,8 @@ fn render_partial(
         page,
         texts,
         indent,
-        sc,
+        scopes,
+        front,
         options,
         p,
         Maybe::Nothing,
@@ -524,6 +690,7 @@ fn render_partial(
         rc,
     );
     let next = begun.next;
+    let top = begun.top;
     let mut q = begun.rc;
     if let beginning::Next::Body(t, e, name) = next {
         q = render_elements(
@@ -535,7 +702,8 @@ fn render_partial(
             page,
             texts,
             indent,
-            sc,
+            scopes,
+            top,
             options,
             t,
             e,
@@ -558,7 +726,8 @@ fn render_partial_block(
     page: &mut [u8],
     texts: &mut [u8],
     indent: &mut [u8],
-    sc: &mut [u64],
+    scopes: [Scope; 32],
+    front: Scope,
     options: Options,
     p: usize,
     own: usize,
@@ -567,8 +736,17 @@ fn render_partial_block(
     d: usize,
     rc: RenderContext,
 ) -> RenderContext
-    requires { ⌜ Checked (now s) (now tab) (now b) (now index) × Ready (now s) (now b) (world (whole rc (now sc)) (now page) (now texts) (now indent) (now ent)) × (d < 16) × Holds (call-of (param d)) (bits (now b)) p × Holds (body 16 d) (bits (now b)) own × MaybeHolds string (bits (now b)) at × (length (now sc) ≡ 96) ⌝ }
-    ensures { λ r. ⌜ Renders (now (s .entry)) (now (b .entry)) options (world (whole rc (now (sc .entry))) (now (page .entry)) (now (texts .entry)) (now (indent .entry)) (now (ent .entry))) (world (whole r (now (sc .exit))) (now (page .exit)) (now (texts .exit)) (now (indent .exit)) (now (ent .exit))) (partial-rule (now (b .entry)) d p (At own) at before) ⌝ }
+    requires { ⌜ Checked (now s) (now tab) (now b) (now index)
+        × Ready (now s) (now b) (world (whole rc scopes) (now page) (now texts) (now indent) (now ent))
+        × (d < 16)
+        × Holds (call-of (param d)) (bits (now b)) p
+        × Holds (body 16 d) (bits (now b)) own
+        × MaybeHolds string (bits (now b)) at
+        × Front scopes rc front ⌝ }
+    ensures { λ r. ⌜ Renders (now (s .entry)) (now (b .entry)) options
+        (world (whole rc scopes) (now (page .entry)) (now (texts .entry)) (now (indent .entry)) (now (ent .entry)))
+        (world (whole r scopes) (now (page .exit)) (now (texts .exit)) (now (indent .exit)) (now (ent .exit)))
+        (partial-rule (now (b .entry)) d p (At own) at before) ⌝ }
 {
     let begun = beginning::begin(
         s,
@@ -579,7 +757,8 @@ fn render_partial_block(
         page,
         texts,
         indent,
-        sc,
+        scopes,
+        front,
         options,
         p,
         Maybe::At(own),
@@ -589,6 +768,7 @@ fn render_partial_block(
         rc,
     );
     let next = begun.next;
+    let top = begun.top;
     let mut q = begun.rc;
     match next {
         beginning::Next::Done => {}
@@ -602,7 +782,8 @@ fn render_partial_block(
                 page,
                 texts,
                 indent,
-                sc,
+                scopes,
+                top,
                 options,
                 t,
                 d,
@@ -621,7 +802,8 @@ fn render_partial_block(
                 page,
                 texts,
                 indent,
-                sc,
+                scopes,
+                top,
                 options,
                 t,
                 e,
@@ -640,7 +822,8 @@ fn render_partial_block(
                 page,
                 texts,
                 indent,
-                sc,
+                scopes,
+                top,
                 options,
                 o,
                 t,
@@ -666,7 +849,8 @@ fn render_text(
     page: &mut [u8],
     texts: &mut [u8],
     indent: &mut [u8],
-    sc: &mut [u64],
+    scopes: [Scope; 32],
+    top: Scope,
     options: Options,
     o: usize,
     p: usize,
@@ -677,8 +861,15 @@ fn render_text(
     rc: RenderContext,
     around: RenderContext,
 ) -> RenderContext
-    requires { ⌜ Checked (now s) (now tab) (now b) (now index) × Ready (now s) (now b) (world (whole rc (now sc)) (now page) (now texts) (now indent) (now ent)) × (d < 16) × TextReady (now s) (now b) options (world (whole rc (now sc)) (now page) (now texts) (now indent) (now ent)) around d o p e name at × (length (now sc) ≡ 96) ⌝ }
-    ensures { λ r. ⌜ TextDrawn (now (s .entry)) (now (b .entry)) options (world (whole rc (now (sc .entry))) (now (page .entry)) (now (texts .entry)) (now (indent .entry)) (now (ent .entry))) (world (whole r (now (sc .exit))) (now (page .exit)) (now (texts .exit)) (now (indent .exit)) (now (ent .exit))) around d o p e name at ⌝ }
+    requires { ⌜ Checked (now s) (now tab) (now b) (now index)
+        × Ready (now s) (now b) (world (topped rc scopes top) (now page) (now texts) (now indent) (now ent))
+        × (d < 16)
+        × TextReady (now s) (now b) options (world (topped rc scopes top) (now page) (now texts) (now indent) (now ent)) scopes around d o p e name at
+        × (top .count ≡ rc .count) ⌝ }
+    ensures { λ r. ⌜ TextDrawn (now (s .entry)) (now (b .entry)) options
+        (world (topped rc scopes top) (now (page .entry)) (now (texts .entry)) (now (indent .entry)) (now (ent .entry)))
+        (world (whole r scopes) (now (page .exit)) (now (texts .exit)) (now (indent .exit)) (now (ent .exit)))
+        scopes around d o p e name at ⌝ }
 {
     let q = render_elements(
         s,
@@ -689,7 +880,8 @@ fn render_text(
         page,
         texts,
         indent,
-        sc,
+        scopes,
+        top,
         options,
         o,
         d,
@@ -700,7 +892,8 @@ fn render_text(
         return q;
     }
     let w = around.writer;
-    let u = beginning::end_text(texts, indent, sc, b, at, name, w.low, w.block_text, q);
+    let c = texts::with_text(scope::with_count(top, q.count), q.writer.low - w.low);
+    let u = beginning::end_text(texts, indent, b, at, name, w.low, w.block_text, q);
     texts::finish_partial(
         render_elements(
             s,
@@ -711,7 +904,8 @@ fn render_text(
             page,
             texts,
             indent,
-            sc,
+            scopes,
+            c,
             options,
             p,
             e,
@@ -732,15 +926,29 @@ pub fn render_template(
     page: &mut [u8],
     texts: &mut [u8],
     indent: &mut [u8],
-    sc: &mut [u64],
     options: Options,
     name: usize,
     p: usize,
 ) -> RenderContext
-    requires { ⌜ Checked (now s) (now tab) (now b) (now index) × (8192 ≤ length (now ent)) × (16384 ≤ length (now texts)) × (256 ≤ length (now indent)) × Holds string (bits (now b)) name × Holds (body 16 16) (bits (now b)) p × (length (now sc) ≡ 96) ⌝ }
-    ensures { λ r. ⌜ Draws (now (s .entry)) (now (b .entry)) (world fresh (now (page .entry)) (now (texts .entry)) (now (indent .entry)) (now (ent .entry))) (world (whole r (now (sc .exit))) (now (page .exit)) (now (texts .exit)) (now (indent .exit)) (now (ent .exit))) (rule.render-template (registry-of (now (s .entry)) (now (b .entry)) options (length (now (page .entry)))) 32 (some (text-at (bits (now (b .entry))) name)) (template-at 16 16 (bits (now (b .entry))) p) (rules-fresh (paper-limits (length (now (page .entry)))))) ⌝ }
+    requires { ⌜ Checked (now s) (now tab) (now b) (now index)
+        × (8192 ≤ length (now ent))
+        × (16384 ≤ length (now texts))
+        × (256 ≤ length (now indent))
+        × Holds string (bits (now b)) name
+        × Holds (body 16 16) (bits (now b)) p ⌝ }
+    ensures { λ r. ⌜ Draws (now (s .entry)) (now (b .entry))
+        (world fresh (now (page .entry)) (now (texts .entry)) (now (indent .entry)) (now (ent .entry)))
+        (world (whole r (replicate 32 blank)) (now (page .exit)) (now (texts .exit)) (now (indent .exit)) (now (ent .exit)))
+        (rule.render-template
+        (registry-of (now (s .entry)) (now (b .entry)) options (length (now (page .entry))))
+        32
+        (some (text-at (bits (now (b .entry))) name))
+        (template-at 16 16 (bits (now (b .entry))) p)
+        (rules-fresh (paper-limits (length (now (page .entry)))))) ⌝ }
 {
-    let rc = state::set_current_template_name(state::new(sc), name + 1);
+    let rc = state::set_current_template_name(state::new(), name + 1);
+    let scopes = scope::begin();
+    let first = scopes[0];
     render_elements(
         s,
         tab,
@@ -750,7 +958,8 @@ pub fn render_template(
         page,
         texts,
         indent,
-        sc,
+        scopes,
+        first,
         options,
         p,
         16,

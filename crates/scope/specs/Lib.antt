@@ -6,4 +6,4 @@ pub mod Made
 pub mod StackLaws
 pub mod InlineLaws
 pub mod MadeLaws
-pub mod Words
+pub mod NameBits

@@ -7,7 +7,7 @@ use mathlib.Core.Path.{_≡_, refl, sym, ap, _∙_, subst}
 use native.Mathlib.Omega.{arith}
 use lib.Dec.{eqb, ltb, leb}
 use lib.ListN.{length, getD, getElem?}
-use borrow.Author.Tests.{ltb-true, ltb-false, le-leb, lt-leb}
+use borrow.Author.Tests.{ltb-true, ltb-false}
 use Rattle.rules.specs.Bytes.{Bytes, pick, maybe, same, ascii}
 use Rattle.rules.specs.Json.{Json, jbool, jpos}
 use Rattle.rules.specs.Bits.{bits}
@@ -34,13 +34,17 @@ use Rattle.scope.specs.declared.Param.{Param}
 use Rattle.scope.specs.declared.Param.the-variants.{Is, Nothing}
 use Rattle.scope.specs.Scopes.{base-of, key-of, is-first, is-last, over-object, holder, second, params-by, locals-of, turn-locals, context-of, block-of, blocks-of, blank}
 use Rattle.scope.specs.Standing.{ScopeStands, ScopesStand}
-use Rattle.scope.specs.Names.{Readable, AllReadable, without-path, hash-param, resolved, LeadsAs, ParamIs, own-param, ValueIs, LocalIs, local-at, second-value, one-param, two-params, param-by, param-of, or-param, first-param, local-param, level-place, flag, local-key, local-variable}
+use Rattle.scope.specs.Names.{Readable, AllReadable, without-path, hash-param, resolved, LeadsAs, ParamIs, own-param, ValueIs, LocalIs, local-at, second-value, one-param, two-params, param-by, param-of, or-param, first-param, level-place, flag, local-key, local-variable}
 
 -- within a list the default does not matter
 pub getD-any : {A : Type 0} (l : List A) (i : ℕ) (d e : A) → i < length l → getD l i d ≡ getD l i e
 getD-any [] i d e lt = absurd (omega arith)
 getD-any (x ∷ l) zero d e lt = refl
 getD-any (x ∷ l) (suc i) d e lt = getD-any l i d e (omega arith)
+
+-- where a stack is read by index
+pub in-stack : (l : List Scope) (i : ℕ) → length l ≡ 32 → i < 32 → getD l i blank ≡ getD l i (record { base = 0; names = 0; key = 0; index = 0; inline = 0; count = 0; text = 0; kind = 0; locals = 0; block = 0 })
+in-stack l i e lt = getD-any l i blank _ (omega arith)
 
 pub string-near : (b : Bytes) (p : ℕ) → length b ≤ 65536 → Holds string (bits b) p → p ≤ 524288
 string-near b p le h = omega (arith, string-in (bits b) p h, bits-size b)
@@ -199,6 +203,24 @@ module _ (s b : Bytes) (ent : List ℕ) where
         at (suc (suc zero)) lt = two-is (lt refl)
         at (suc (suc (suc n))) lt = hash-names-is n
 
+    -- it has no such name
+    two-none : two-params b c k ≡ Nothing → ParamIs s b ent (c .inline) (own-by 2) Nothing
+    two-none = go (same (text-at (bits b) (end string (bits b) (c .names))) k)
+      where
+        go : (y : Bool) → pick y (Is (second-value c)) (one-param b c k) ≡ Nothing → ParamIs s b ent (c .inline)
+            (maybe (pick y (some (holds-value (second s b ent c))) (get-block-param (params-by s b ent c 1) k)) none (λ h. some (h, base-path))) Nothing
+        go true e = let z : _≡_ {A = ℕ} 0 1 = cc in absurd (omega arith)
+        go false e = subst (λ (x : Param). ParamIs s b ent (c .inline) (own-by 1) x) e one-is
+
+    pub own-none : param-of b ent c k ≡ Nothing → ParamIs s b ent (c .inline) (own-param s b ent c k) Nothing
+    own-none e = at (c .kind) e
+      where
+        at : (n : ℕ) → param-by b ent c k n ≡ Nothing → ParamIs s b ent (c .inline) (own-by n) Nothing
+        at zero e = tt
+        at (suc zero) e = subst (λ (x : Param). ParamIs s b ent (c .inline) (own-by 1) x) e one-is
+        at (suc (suc zero)) e = two-none e
+        at (suc (suc (suc n))) e = subst (λ (x : Param). ParamIs s b ent (c .inline) (own-by (suc (suc (suc n)))) x) e (hash-names-is n)
+
   -- Scope by scope
 
   param-later : (t u : ℕ) (o : Option (BlockParamHolder × List Bytes)) (r : Param) → t ≤ u → ParamIs s b ent t o r → ParamIs s b ent u o r
@@ -282,9 +304,6 @@ module _ (s b : Bytes) (ent : List ℕ) where
       go : (y : Bool) → pick y (n - 1 - k) (n - 1) < n
       go true = omega arith
       go false = omega arith
-
-  pub or-front-stands : (l : List Scope) (n t k : ℕ) → 0 < n → ScopesStand s b ent l n t → ScopeStands s b ent (getD l (level-place n k) blank)
-  or-front-stands l n t k lt st = st .each (level-place n k) (level-within n k lt)
 
   -- both kinds of value are followed alike
   pub follow-local : (plan : Json) (r : Bool) (q : List Bytes) (v : Json) → follow plan r (local-value q v) ≡ follow plan r (block-param-value q v)
@@ -379,10 +398,3 @@ module _ (b : Bytes) (ent : List ℕ) (l : List Scope) (k : Bytes) (i : ℕ) (d 
 
   pub first-outer : r ≡ Nothing → first-param b ent l k (i - 1) ≡ first-param b ent l k i
   first-outer e = sym (first-own ∙ ap (λ (z : Param). or-param z (first-param b ent l k (i - 1))) e)
-
-module _ (l : List Scope) (n level : ℕ) (k : Bytes) where
-  pub no-local-param : n ≤ level → Nothing ≡ local-param l n level k
-  no-local-param le = rw (le-leb n level le)
-
-  pub local-param-is : (d : Scope) (r : Param) → level < n → d ≡ getD l (n - 1 - level) blank → r ≡ local-variable d k → r ≡ local-param l n level k
-  local-param-is d r lt here e = rw (lt-leb n level lt) (e ∙ ap (λ (c : Scope). local-variable c k) here)

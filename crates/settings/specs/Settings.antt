@@ -1,14 +1,11 @@
 -- There is a registry and a state that the code is handed as places and numbers; so what is worked out stands.
 use Prim.Native.Nat.{ℕ, zero, suc, _+_, _≤_, _<_}
 use native.Mathlib.Omega.{arith}
-use mathlib.Core.Bool.{Bool, true, false}
+use mathlib.Core.Bool.{false}
 use mathlib.Core.List.{List, []}
 use mathlib.Core.Option.{none}
-use mathlib.Core.Path.{_≡_, refl, sym, ap, _∙_, subst}
-use lib.Dec.{eqb}
-use lib.ListN.{length, set, getD}
-use lib.Seq.{getD-set-same, getD-set-other}
-use borrow.Author.Tests.{eqb-true, eqb-false}
+use mathlib.Core.Path.{_≡_, refl, sym, ap, subst}
+use lib.ListN.{length, getD, replicate}
 use Rattle.rules.specs.Bytes.{Bytes}
 use Rattle.rules.specs.Error as rule
 use Rattle.rules.specs.Value.{ScopedJson}
@@ -26,9 +23,9 @@ use Rattle.meaning.specs.Means.{stands-known}
 use Rattle.scope.specs.declared.Scope.{Scope}
 use Rattle.scope.specs.Scopes.{blank, context-of, partials-of, blocks-of}
 use Rattle.scope.specs.Standing.{ScopeStands, ScopesStand}
-use Rattle.scope.specs.Words.{scopes-of, scopes-length}
 use Rattle.scope.specs.Made.{child}
 use Rattle.scope.specs.MadeLaws.{child-stands}
+use Rattle.context.specs.Near.{NearScopes}
 use Rattle.expand.specs.declared.Options.{Options}
 use Rattle.expand.specs.declared.Got.{Got}
 use Rattle.expand.specs.declared.Got.the-variants.{Is, Bad}
@@ -93,14 +90,14 @@ module _ (s b : Bytes) (ent : List ℕ) (l : List Scope) where
     entries = omega arith;
   }
 
--- one more of them in the lent words
-pub roots-more : (w x : List ℕ) (n : ℕ) → n < 32 → scopes-of x ≡ set (scopes-of w) n (child 5 0) → ((i : ℕ) → i < n → getD (scopes-of w) i blank ≡ child 5 0)
-    → (i : ℕ) → i < suc n → getD (scopes-of x) i blank ≡ child 5 0
-roots-more w x n room e f i lt = ap (λ (l : List Scope). getD l i blank) e ∙ go (eqb i n) refl
-  where
-    go : (y : Bool) → eqb i n ≡ y → getD (set (scopes-of w) n (child 5 0)) i blank ≡ child 5 0
-    go true z = ap (λ (j : ℕ). getD (set (scopes-of w) n (child 5 0)) j blank) (eqb-true i n z) ∙ getD-set-same (scopes-of w) n (child 5 0) blank (omega (arith, scopes-length w))
-    go false z = let g : i ≡ n → ⊥ = eqb-false i n z in getD-set-other (scopes-of w) n i (child 5 0) blank g ∙ f i (omega arith)
+-- the stack of a call that begins has only such scopes
+begun-root : (n i : ℕ) → getD (replicate n blank) i blank ≡ blank
+begun-root zero i = refl
+begun-root (suc n) zero = refl
+begun-root (suc n) (suc i) = begun-root n i
+
+pub begun-near : (s b : Bytes) (ent : List ℕ) (n : ℕ) → n ≤ 32 → NearScopes s b ent (replicate 32 blank) n
+begun-near s b ent n le = record { top = 0; near = omega arith; stand = roots-stand s b ent (replicate 32 blank) n le (λ i lt. begun-root 32 i) }
 
 module _ (s b : Bytes) (ent : List ℕ) (t : ℕ) where
   pub got-known : (x : rule.Got ScopedJson) (r : Got) → Expands s b ent t x r → GotKnown s b r

@@ -11,6 +11,7 @@ use Rattle.rules.specs.Block.{Block, BlockContext}
 use Rattle.rules.specs.State.{entries, rest}
 use Rattle.meaning.specs.Kept.{Agree}
 use Rattle.scope.specs.Scopes.{blank, context-of, partials-of, blocks-of}
+use Rattle.scope.specs.NameBits.{covered-kept}
 use Rattle.scope.specs.StackLaws.{partials-kept, context-kept, blocks-kept, scopes-kept}
 use Rattle.state.specs.World.{World, world, outputs-of, front, top, abs, Ready, Goes}
 use Rattle.state.specs.Laws.{grows-none}
@@ -50,6 +51,7 @@ module _ (s b : Bytes) (w : World) (ent : List ℕ) (r : Ready s b w) (a : Agree
     nameless = r .nameless;
     sound = r .sound;
     scopes = scopes-kept s b (w .ent) ent (w .rc .scopes) (w .rc .used) (top w) a (r .scopes) (rw long (r .scopes .entries));
+    covered = covered-kept s b (w .ent) ent (w .rc .names) (w .rc .scopes) (w .rc .used) (top w) a (r .scopes) (r .covered);
     total = r .total ∙ ap entries abs-entries;
     few = r .few;
     enough = r .enough;

@@ -20,7 +20,8 @@ use Rattle.scope.specs.declared.Scope.{Scope}
 use Rattle.scope.specs.Scopes.{blank, context-of, partials-of, block-of, blocks-of}
 use Rattle.scope.specs.Standing.{ScopeStands, ScopesStand}
 use Rattle.scope.specs.Made.{with-count}
-use Rattle.scope.specs.StackLaws.{push-stands, pop-stands, blocks-kept}
+use Rattle.scope.specs.NameBits.{Covers, covered-kept}
+use Rattle.scope.specs.StackLaws.{push-stands, pop-stands, blocks-kept, scopes-kept}
 use Rattle.state.specs.Context.{RenderContext}
 use Rattle.state.specs.Setters.{with-scopes, turned, closed}
 use Rattle.state.specs.World.{World, over, outputs-of, front, top, text-on, stack-of, sizes-of, abs, error-of, Ready, Sizes, Grows, Goes, Drawn, Draws}
@@ -47,11 +48,14 @@ tight s b ent l n t le st =
     go i h true x f = let z : i ≡ n - 1 = eqb-true i (n - 1) x in subst (λ (j : ℕ). getD l j blank .inline + getD l j blank .count ≤ getD l (n - 1) blank .inline + getD l (n - 1) blank .count) (sym z) (omega arith)
     go i h false x f = let z : i ≡ n - 1 → ⊥ = eqb-false i (n - 1) x in omega (arith, f (omega arith))
 
--- Closing
+-- Closing: the scopes are those of before, by the array of the one who opened
 
 module _ (s b v : Bytes) (w w′ : World) (le : 1 ≤ w .rc .used) (r : Ready s b w) (h : Within s b v w w′) (no-block : front w′ .block ≡ 0) (no-text : front w′ .text ≡ 0) where
   abbrev shut : World
-  shut = over (closed (w′ .rc) (w .rc .total)) w′
+  shut = over (closed (w .rc) (w′ .rc)) w′
+
+  abbrev l : List Scope
+  l = w .rc .scopes
 
   abbrev l′ : List Scope
   l′ = w′ .rc .scopes
@@ -59,73 +63,64 @@ module _ (s b v : Bytes) (w w′ : World) (le : 1 ≤ w .rc .used) (r : Ready s 
   n-is : w′ .rc .used - 1 ≡ w .rc .used
   n-is = omega (arith, h .used)
 
-  below-is : (i : ℕ) → i < w′ .rc .used - 1 → getD l′ i blank ≡ getD (w .rc .scopes) i blank
-  below-is i lt = h .beneath i (omega (arith, n-is))
-
-  newest : front shut ≡ front w
-  newest = ap (λ (k : ℕ). getD l′ (k - 1) blank) n-is ∙ h .beneath (w .rc .used - 1) (omega arith)
+  beneath-is : blocks-of s b (w′ .ent) l′ (w′ .rc .used - 1) ≡ blocks-of s b (w′ .ent) l (w .rc .used)
+  beneath-is = ap (blocks-of s b (w′ .ent) l′) n-is ∙ blocks-alike s b (w′ .ent) l l′ (w .rc .used) (h .beneath)
 
   blocks-shut : blocks (abs s b shut) ≡ blocks (abs s b w)
-  blocks-shut =
-      blocks-abs s b shut (omega (arith, n-is))
-      ∙ ap (blocks-of s b (w′ .ent) l′) n-is
-      ∙ blocks-alike s b (w′ .ent) (w .rc .scopes) l′ (w .rc .used) (h .beneath)
-      ∙ sym (blocks-kept s b (w .ent) (w′ .ent) (w .rc .scopes) (w .rc .used) (top w) (h .agree) (r .scopes))
-      ∙ sym (blocks-abs s b w le)
+  blocks-shut = blocks-abs s b shut le ∙ sym (blocks-kept s b (w .ent) (w′ .ent) l (w .rc .used) (top w) (h .agree) (r .scopes)) ∙ sym (blocks-abs s b w le)
 
-  stack-is : stack-of (w′ .texts) l′ (w′ .rc .used) (w′ .rc .writer .high) ≡ stack-of (w′ .texts) l′ (w′ .rc .used - 1) (w′ .rc .writer .high)
+  stack-is : stack-of (w′ .texts) l′ (w′ .rc .used) (w′ .rc .writer .high) ≡ stack-of (w′ .texts) l (w .rc .used) (w′ .rc .writer .high)
   stack-is =
       let e : w′ .rc .used ≡ suc (w′ .rc .used - 1) = omega (arith, h .used) in
       ap (λ (k : ℕ). stack-of (w′ .texts) l′ k (w′ .rc .writer .high)) e
       ∙ text-plain (w′ .texts) l′ (w′ .rc .used - 1) (w′ .rc .writer .high) (front w′ .block) (front w′ .text) no-block no-text
+      ∙ ap (λ (k : ℕ). stack-of (w′ .texts) l′ k (w′ .rc .writer .high)) n-is
+      ∙ stack-under (w′ .texts) l l′ (w .rc .used) (w′ .rc .writer .high) (h .beneath)
 
   pub abs-close : pop-block (abs s b w′) ≡ abs s b shut
   unfolding abs
   abs-close =
-      let e : w′ .rc .used - 1 ≡ suc (w′ .rc .used - 1 - 1) = omega (arith, n-is) in
-      ap₂ (λ (k : ℕ) (t : List (Option Bytes)). record {
-        kept = record { block = first-context (context-of s b (w′ .ent) (front w′)) (blocks-of s b (w′ .ent) l′ k); blocks-beneath = rest (blocks-of s b (w′ .ent) l′ k); partial-block-stack = t; indent-string = abs s b w′ .kept .indent-string; disable-escape = abs s b w′ .kept .disable-escape; out = abs s b w′ .kept .out };
-        seen = record { block-partials = first-partials (abs s b w′ .seen .block-partials) (blocks-of s b (w′ .ent) l′ k); current-template = abs s b w′ .seen .current-template; marks = abs s b w′ .seen .marks; room = abs s b w′ .seen .room };
-      }) e stack-is
+      let e : w .rc .used ≡ suc (w .rc .used - 1) = omega arith in
+      ap₂ (λ (k : List Block) (t : List (Option Bytes)). record {
+        kept = record { block = first-context (context-of s b (w′ .ent) (front w′)) k; blocks-beneath = rest k; partial-block-stack = t; indent-string = abs s b w′ .kept .indent-string; disable-escape = abs s b w′ .kept .disable-escape; out = abs s b w′ .kept .out };
+        seen = record { block-partials = first-partials (abs s b w′ .seen .block-partials) k; current-template = abs s b w′ .seen .current-template; marks = abs s b w′ .seen .marks; room = abs s b w′ .seen .room };
+      }) (beneath-is ∙ ap (blocks-of s b (w′ .ent) l) e) stack-is
 
-  shut-stand : ScopesStand s b (w′ .ent) l′ (w′ .rc .used - 1) (top shut)
-  shut-stand =
+  sizes-is : sizes-of l′ (w′ .rc .used) ≡ sizes-of l (w .rc .used)
+  sizes-is =
       let e : w′ .rc .used ≡ suc (w′ .rc .used - 1) = omega (arith, h .used) in
-      tight s b (w′ .ent) l′ (w′ .rc .used - 1) (front w′ .inline) (omega (arith, n-is))
-      (pop-stands s b (w′ .ent) l′ (w′ .rc .used - 1) (top w′) (subst (λ (k : ℕ). ScopesStand s b (w′ .ent) l′ k (top w′)) e (h .ready .scopes)))
-
-  fewer : sizes-of l′ (w′ .rc .used - 1) ≤ sizes-of l′ (w′ .rc .used)
-  fewer =
-      let e : w′ .rc .used ≡ suc (w′ .rc .used - 1) = omega (arith, h .used) in
-      subst (λ (k : ℕ). sizes-of l′ (w′ .rc .used - 1) ≤ sizes-of l′ k) (sym e) (omega arith)
+      let m : ℕ = sizes-of l′ (w′ .rc .used - 1) in
+      let z : front w′ .text + m ≡ m = omega arith in
+      ap (sizes-of l′) e ∙ z ∙ ap (sizes-of l′) n-is ∙ sizes-under l l′ (w .rc .used) (h .beneath)
 
   pub goes-close : Goes s b v w shut
   goes-close =
       let q = h .ready in
       record {
         ready = record {
-          sized = q .sized;
-          one = omega (arith, n-is);
-          most = omega (arith, q .most);
+          sized = r .sized;
+          one = r .one;
+          most = r .most;
           fine = q .fine;
           nowhere = q .nowhere;
           nameless = q .nameless;
           sound = q .sound;
-          scopes = shut-stand;
+          scopes = scopes-kept s b (w .ent) (w′ .ent) l (w .rc .used) (top w) (h .agree) (r .scopes) (omega (arith, r .scopes .entries, h .sizes .ent));
+          covered = covered-kept s b (w .ent) (w′ .ent) (w .rc .names) l (w .rc .used) (top w) (h .agree) (r .scopes) (r .covered);
           total = r .total ∙ ap entries-in (sym blocks-shut);
           few = r .few;
-          enough = subst (λ (x : Scope). x .inline + x .count ≤ w .rc .total) (sym newest) (r .enough);
+          enough = r .enough;
           table = q .table;
-          texts = omega (arith, fewer, q .texts);
+          texts = rw sizes-is at (q .texts);
           high = q .high;
           indent = q .indent;
           absent = q .absent;
           buffer = q .buffer;
           template = q .template;
         };
-        used = n-is;
-        beneath = λ i lt. h .beneath i (omega arith);
-        newest = newest ∙ ap (with-count (front w)) (ap (λ (c : Scope). c .count) (sym newest));
+        used = refl;
+        beneath = λ i lt. refl;
+        newest = refl;
         agree = record { same = λ i lt. h .agree .same i (omega arith) };
         grows = h .grows;
         indent = h .indent;
@@ -134,7 +129,7 @@ module _ (s b v : Bytes) (w w′ : World) (le : 1 ≤ w .rc .used) (r : Ready s 
 
 -- x is drawn inside a scope that was opened, and the scope is closed
 pub draws-close : (s b : Bytes) (w w₁ w₂ : World) (x : Res) → Ready s b w → Within s b [] w w₁ → front w₁ .block ≡ 0 → front w₁ .text ≡ 0 → Draws s b w₁ w₂ x → w₂ .rc .bad ≡ 0
-    → Draws s b w (over (closed (w₂ .rc) (w .rc .total)) w₂) (pop-block after x)
+    → Draws s b w (over (closed (w .rc) (w₂ .rc)) w₂) (pop-block after x)
 unfolding _after_
 draws-close s b w w₁ w₂ x r h nb nt d e =
     let y = d .fine e in
@@ -154,7 +149,8 @@ draws-close s b w w₁ w₂ x r h nb nt d e =
 
 module _ (s b v : Bytes) (w w′ : World) (c : Scope) (h : Within s b v w w′) (st : ScopeStands s b (w′ .ent) c)
     (inline : c .inline ≡ front w′ .inline) (count : c .count ≡ front w′ .count) (block : c .block ≡ front w′ .block) (text : c .text ≡ front w′ .text)
-    (merged : context-of s b (w′ .ent) c .merged-entries ≡ context-of s b (w′ .ent) (front w′) .merged-entries) where
+    (merged : context-of s b (w′ .ent) c .merged-entries ≡ context-of s b (w′ .ent) (front w′) .merged-entries)
+    (covers : Covers (w′ .rc .names) b (w′ .ent) c) where
   abbrev m : ℕ
   m = w′ .rc .used - 1
 
@@ -218,6 +214,14 @@ module _ (s b v : Bytes) (w w′ : World) (c : Scope) (h : Within s b v w w′) 
       (subst (λ (k : ℕ). ScopesStand s b (w′ .ent) k′ k (c .inline + c .count)) (sym e)
       (push-stands s b (w′ .ent) (w′ .rc .scopes) c m (front w′ .inline) (c .inline + c .count) under-it (omega (arith, q .sized, q .most, q .one)) st (omega arith) (omega arith) (omega (arith, q .scopes .entries))))
 
+  -- what holds of a scope that stays, and of the new one
+  at-all : (P : Scope → Type 0) (i : ℕ) → i < w′ .rc .used → P (getD (w′ .rc .scopes) i blank) → P c → P (getD k′ i blank)
+  at-all P i lt x y = go (eqb i m) refl
+    where
+      go : (t : Bool) → eqb i m ≡ t → P (getD k′ i blank)
+      go true z = subst P (sym (ap (λ (j : ℕ). getD k′ j blank) (eqb-true i m z) ∙ here)) y
+      go false z = let f = eqb-false i m z in subst P (sym (under i (omega arith))) x
+
   pub within-change : Within s b v w changed
   within-change =
       let q = h .ready in
@@ -231,6 +235,7 @@ module _ (s b v : Bytes) (w w′ : World) (c : Scope) (h : Within s b v w w′) 
           nameless = q .nameless;
           sound = q .sound;
           scopes = changed-stand;
+          covered = λ i lt. at-all (Covers (w′ .rc .names) b (w′ .ent)) i lt (q .covered i lt) covers;
           total = q .total ∙ entries-same;
           few = q .few;
           enough = subst (λ (x : Scope). x .inline + x .count ≤ w′ .rc .total) (sym here) (omega (arith, q .enough));

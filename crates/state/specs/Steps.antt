@@ -21,10 +21,12 @@ use Rattle.meaning.specs.Kept.{Agree}
 use Rattle.scope.specs.declared.Scope.{Scope}
 use Rattle.scope.specs.Scopes.{blank, context-of, partials-of, block-of, blocks-of}
 use Rattle.scope.specs.Standing.{ScopeStands, ScopesStand}
+use lib.Bits.{bitOr}
+use Rattle.scope.specs.NameBits.{Covers, push-covered}
 use Rattle.scope.specs.Made.{with-count}
 use Rattle.scope.specs.StackLaws.{blocks-under, blocks-set, push-stands, pop-stands, blocks-kept, scopes-kept}
 use Rattle.state.specs.Context.{RenderContext}
-use Rattle.state.specs.Setters.{with-escape, with-template, with-writer, with-marks, with-scopes, turned, closed}
+use Rattle.state.specs.Setters.{with-escape, with-template, with-writer, with-marks, with-scopes, with-names}
 use Rattle.state.specs.World.{World, over, outputs-of, front, top, text-on, stack-of, sizes-of, name-at, abs, error-of, Ready, Sizes, Grows, Goes, Drawn, Draws}
 use Rattle.state.specs.Laws.{grows-none, grows-trans, sizes-trans, goes-self}
 
@@ -34,20 +36,20 @@ module _ (s b : Bytes) (w : World) (r : Ready s b w) where
   pub goes-escape : (y : Bool) → Goes s b [] w (over (with-escape (w .rc) y) w)
   unfolding abs
   goes-escape y =
-      let ready : Ready s b (over (with-escape (w .rc) y) w) = record { sized = r .sized; one = r .one; most = r .most; fine = r .fine; nowhere = r .nowhere; nameless = r .nameless; sound = r .sound; scopes = r .scopes; total = r .total; few = r .few; enough = r .enough; table = r .table; texts = r .texts; high = r .high; indent = r .indent; absent = r .absent; buffer = r .buffer; template = r .template } in
+      let ready : Ready s b (over (with-escape (w .rc) y) w) = record { sized = r .sized; one = r .one; most = r .most; fine = r .fine; nowhere = r .nowhere; nameless = r .nameless; sound = r .sound; scopes = r .scopes; covered = r .covered; total = r .total; few = r .few; enough = r .enough; table = r .table; texts = r .texts; high = r .high; indent = r .indent; absent = r .absent; buffer = r .buffer; template = r .template } in
       record { ready = ready; used = refl; beneath = λ i lt. refl; newest = refl; agree = record { same = λ i lt. refl }; grows = grows-none (outputs-of w) (r .sound); indent = refl; sizes = record { page = refl; texts = refl; indent = refl; ent = refl } }
 
   pub goes-template : (n : ℕ) → ((n ≡ 0 → ⊥) → Holds string (bits b) (n - 1)) → Goes s b [] w (over (with-template (w .rc) n) w)
   unfolding abs
   goes-template n h =
-      let ready : Ready s b (over (with-template (w .rc) n) w) = record { sized = r .sized; one = r .one; most = r .most; fine = r .fine; nowhere = r .nowhere; nameless = r .nameless; sound = r .sound; scopes = r .scopes; total = r .total; few = r .few; enough = r .enough; table = r .table; texts = r .texts; high = r .high; indent = r .indent; absent = r .absent; buffer = r .buffer; template = h } in
+      let ready : Ready s b (over (with-template (w .rc) n) w) = record { sized = r .sized; one = r .one; most = r .most; fine = r .fine; nowhere = r .nowhere; nameless = r .nameless; sound = r .sound; scopes = r .scopes; covered = r .covered; total = r .total; few = r .few; enough = r .enough; table = r .table; texts = r .texts; high = r .high; indent = r .indent; absent = r .absent; buffer = r .buffer; template = h } in
       record { ready = ready; used = refl; beneath = λ i lt. refl; newest = refl; agree = record { same = λ i lt. refl }; grows = grows-none (outputs-of w) (r .sound); indent = refl; sizes = record { page = refl; texts = refl; indent = refl; ent = refl } }
 
   pub goes-marks : (p q : Bool) → Goes s b [] w (over (with-writer (w .rc) (with-marks (w .rc .writer) p q)) w)
   unfolding abs
   goes-marks p q =
       let sound : Sound (outputs (with-marks (w .rc .writer) p q) (w .page) (w .texts)) = record { goes = r .sound .goes; written-fits = r .sound .written-fits; low-fits = r .sound .low-fits; high-fits = r .sound .high-fits } in
-      let ready : Ready s b (over (with-writer (w .rc) (with-marks (w .rc .writer) p q)) w) = record { sized = r .sized; one = r .one; most = r .most; fine = r .fine; nowhere = r .nowhere; nameless = r .nameless; sound = sound; scopes = r .scopes; total = r .total; few = r .few; enough = r .enough; table = r .table; texts = r .texts; high = r .high; indent = r .indent; absent = r .absent; buffer = r .buffer; template = r .template } in
+      let ready : Ready s b (over (with-writer (w .rc) (with-marks (w .rc .writer) p q)) w) = record { sized = r .sized; one = r .one; most = r .most; fine = r .fine; nowhere = r .nowhere; nameless = r .nameless; sound = sound; scopes = r .scopes; covered = r .covered; total = r .total; few = r .few; enough = r .enough; table = r .table; texts = r .texts; high = r .high; indent = r .indent; absent = r .absent; buffer = r .buffer; template = r .template } in
       record {
         ready = ready;
         used = refl;
@@ -136,12 +138,12 @@ pub depth-abs : (s b : Bytes) (w : World) → 1 ≤ w .rc .used → depth (abs s
 unfolding abs
 depth-abs s b w le = ap suc (length-blocks s b (w .ent) (w .rc .scopes) (w .rc .used - 1)) ∙ omega arith
 
--- a scope is opened: it has no inline partial and no block text yet; t is the entries in use with it
+-- a scope is opened: it has no inline partial and no block text yet; t is the entries in use with it, and its block names are in m
 module _ (s b : Bytes) (w : World) (c : Scope) (t : ℕ) (r : Ready s b w) (lt : w .rc .used < 32) (st : ScopeStands s b (w .ent) c)
     (above : top w ≤ c .inline) (none-yet : c .count ≡ 0) (no-block : c .block ≡ 0) (no-text : c .text ≡ 0)
-    (sum : t ≡ context-of s b (w .ent) c .merged-entries + w .rc .total) (few : t ≤ 4096) (enough : c .inline ≤ t) where
+    (sum : t ≡ context-of s b (w .ent) c .merged-entries + w .rc .total) (few : t ≤ 4096) (enough : c .inline ≤ t) (m : ℕ) (covers : Covers m b (w .ent) c) where
   abbrev opened : World
-  opened = over (with-scopes (w .rc) (set (w .rc .scopes) (w .rc .used) c) (w .rc .used + 1) t) w
+  opened = over (with-names (with-scopes (w .rc) (set (w .rc .scopes) (w .rc .used) c) (w .rc .used + 1) t) (bitOr (w .rc .names) m)) w
 
   under : (i : ℕ) → i < w .rc .used → getD (set (w .rc .scopes) (w .rc .used) c) i blank ≡ getD (w .rc .scopes) i blank
   under i h = getD-set-other (w .rc .scopes) (w .rc .used) i c blank (λ e. omega arith)
@@ -198,7 +200,8 @@ module _ (s b : Bytes) (w : World) (c : Scope) (t : ℕ) (r : Ready s b w) (lt :
       nameless = r .nameless;
       sound = r .sound;
       scopes = subst (λ (x : Scope). ScopesStand s b (w .ent) (set (w .rc .scopes) (w .rc .used) c) (w .rc .used + 1) (x .inline + x .count)) (sym newest) stand;
-      total = sum ∙ ap (λ (m : ℕ). context-of s b (w .ent) c .merged-entries + m) (r .total) ∙ sum-is;
+      covered = push-covered b (w .ent) (w .rc .scopes) (w .rc .used) (w .rc .names) m c (omega (arith, r .sized)) (r .covered) covers;
+      total = sum ∙ ap (λ (i : ℕ). context-of s b (w .ent) c .merged-entries + i) (r .total) ∙ sum-is;
       few = few;
       enough = subst (λ (x : Scope). x .inline + x .count ≤ t) (sym newest) (omega arith);
       table = r .table;

@@ -20,6 +20,7 @@ use Rattle.meaning.specs.Kept.{Agree}
 use Rattle.scope.specs.declared.Scope.{Scope}
 use Rattle.scope.specs.Scopes.{blank, partials-of, context-of, blocks-of}
 use Rattle.scope.specs.Standing.{ScopesStand}
+use Rattle.scope.specs.NameBits.{AllCovered}
 use Rattle.scope.specs.Made.{with-count}
 use Rattle.state.specs.Context.{RenderContext}
 
@@ -127,6 +128,8 @@ pub record Ready (s b : Bytes) (w : World) : Type 0 where
   pub nameless : w .rc .named ≡ 0
   pub sound : Sound (outputs-of w)
   pub scopes : ScopesStand s b (w .ent) (w .rc .scopes) (w .rc .used) (top w)
+  -- a block name of an open scope is in the set of them
+  pub covered : AllCovered (w .rc .names) b (w .ent) (w .rc .scopes) (w .rc .used)
   pub total : w .rc .total ≡ entries (abs s b w)
   pub few : w .rc .total ≤ 4096
   pub enough : top w ≤ w .rc .total

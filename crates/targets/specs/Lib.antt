@@ -1,3 +1,2 @@
 pub mod Target
 pub mod TargetLaws
-pub mod Named

@@ -5,6 +5,7 @@ use mathlib.Core.Path.{_≡_, ap, sym}
 use lib.ListN.{length, take, drop}
 use Rattle.rules.specs.Bytes.{Bytes}
 use Rattle.rules.specs.Bits.{bits}
+use Rattle.rules.specs.Error.{number, partial-not-found, partial-block-not-found}
 use Rattle.rules.specs.Order.{differ}
 use Rattle.rules.specs.Bundle.{body}
 use Rattle.rules.specs.Output.{write}
@@ -28,7 +29,7 @@ use Rattle.targets.specs.declared.Target.the-variants.{Bad, Text, Fallba
 
 abbrev pub fallback : Maybe → Target
 fallback (At p) = Fallback p
-fallback Nothing = Bad 13
+fallback Nothing = Bad (number partial-block-not-found)
 
 -- `@partial-block`
 abbrev pub by-peek : Maybe → Peek → Target
@@ -42,7 +43,7 @@ block-target own c = by-peek own (peeked (c .scopes) (c .used) (c .writer .high)
 -- where nothing is found
 abbrev pub own-target : Maybe → ℕ → Target
 own-target (At p) d = Body p d 0 Nothing
-own-target Nothing d = Bad 12
+own-target Nothing d = Bad (number partial-not-found)
 
 -- no body is none
 pub nothing-at : {C : Type 0} (t : ℕ) → Nothing ≡ At t → C

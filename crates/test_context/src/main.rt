@@ -1,7 +1,7 @@
 // Paths over a small plan, with one scope, two, and recursive lookup: a line for each, what it prints (unwritten bytes are dots) or 20.
 ghost use mathlib.Core.Path.{_≡_};
-ghost use Prim.Native.Nat.{ℕ, _≤_, _<_};
-ghost use lib.ListN.{length, getD};
+ghost use Prim.Native.Nat.{_≤_, _<_};
+ghost use lib.ListN.{length};
 ghost use Rattle.rules.specs.Bits.{bits};
 ghost use Rattle.rules.specs.Bundle.{path, param, body};
 ghost use Rattle.layout.specs.Verdict.{verdict};
@@ -10,15 +10,13 @@ ghost use Rattle.parts.specs.Holds.{Holds};
 ghost use Rattle.template.specs.Views.{ElementHolds};
 ghost use Rattle.places.specs.Accepted.{Accepted};
 ghost use Rattle.meaning.specs.Forms.{Known};
-ghost use Rattle.scope.specs.Scopes.{blank};
-ghost use Rattle.scope.specs.Made.{child};
-ghost use Rattle.scope.specs.Words.{scopes-of};
-ghost use Rattle.scope.specs.Standing.{ScopesStand};
+ghost use Rattle.context.specs.Near.{NearScopes};
 use calls::Parameter;
 use context::Evaluated;
 use layout::Verdict;
 use libc::STDOUT_FILENO;
 use registry::Found;
+use scope::Scope;
 use template::Element;
 use value::Value;
 
@@ -41,16 +39,22 @@ fn show_path(
     tab: &[u64],
     b: &[u8],
     ent: &[u64],
-    sc: &[u64],
+    scopes: [Scope; 32],
     used: usize,
     recursive: bool,
     q: usize,
 )
-    requires { ⌜ Accepted (now s) (now tab) × (length (now b) ≤ 65536) × (0 < used) × (used ≤ 32) × ((t : ℕ) × ScopesStand (now s) (now b) (now ent) (scopes-of (now sc)) used t) × Holds path (bits (now b)) q × (length (now sc) ≡ 96) ⌝ }
+    requires { ⌜ Accepted (now s) (now tab)
+        × (length (now b) ≤ 65536)
+        × (0 < used)
+        × (used ≤ 32)
+        × NearScopes (now s) (now b) (now ent) scopes used
+        × Holds path (bits (now b)) q ⌝ }
 {
-    let found = context::evaluate2(s, tab, b, ent, sc, used, recursive, q);
+    let found = context::evaluate2(s, tab, b, ent, scopes, used, recursive, q);
     match found {
         Evaluated::Is(v) => print_value(s, tab, b, v),
+        Evaluated::Nothing => print_value(s, tab, b, Value::Missing),
         Evaluated::BadIndex => print(b"20"),
     }
     print(b"\n");
@@ -62,19 +66,24 @@ fn show_name(
     tab: &[u64],
     b: &[u8],
     ent: &[u64],
-    sc: &[u64],
+    scopes: [Scope; 32],
     used: usize,
     recursive: bool,
     p: usize,
     d: usize,
 )
-    requires { ⌜ Accepted (now s) (now tab) × (length (now b) ≤ 65536) × (0 < used) × (used ≤ 32) × ((t : ℕ) × ScopesStand (now s) (now b) (now ent) (scopes-of (now sc)) used t) × Holds (param d) (bits (now b)) p × (length (now sc) ≡ 96) ⌝ }
+    requires { ⌜ Accepted (now s) (now tab)
+        × (length (now b) ≤ 65536)
+        × (0 < used)
+        × (used ≤ 32)
+        × NearScopes (now s) (now b) (now ent) scopes used
+        × Holds (param d) (bits (now b)) p ⌝ }
 {
     let x = calls::param_at(b, p);
     let Parameter::Path(q) = x else {
         return;
     };
-    show_path(s, tab, b, ent, sc, used, recursive, q);
+    show_path(s, tab, b, ent, scopes, used, recursive, q);
 }
 
 fn show_element(
@@ -82,18 +91,23 @@ fn show_element(
     tab: &[u64],
     b: &[u8],
     ent: &[u64],
-    sc: &[u64],
+    scopes: [Scope; 32],
     used: usize,
     recursive: bool,
     e: Element,
     d: usize,
 )
-    requires { ⌜ Accepted (now s) (now tab) × (length (now b) ≤ 65536) × (0 < used) × (used ≤ 32) × ((t : ℕ) × ScopesStand (now s) (now b) (now ent) (scopes-of (now sc)) used t) × ElementHolds 16 d (bits (now b)) e × (length (now sc) ≡ 96) ⌝ }
+    requires { ⌜ Accepted (now s) (now tab)
+        × (length (now b) ≤ 65536)
+        × (0 < used)
+        × (used ≤ 32)
+        × NearScopes (now s) (now b) (now ent) scopes used
+        × ElementHolds 16 d (bits (now b)) e ⌝ }
 {
     let Element::Expression(c, _) = e else {
         return;
     };
-    show_name(s, tab, b, ent, sc, used, recursive, c, d);
+    show_name(s, tab, b, ent, scopes, used, recursive, c, d);
 }
 
 // The elements of the body at p.
@@ -102,13 +116,18 @@ fn show_body(
     tab: &[u64],
     b: &[u8],
     ent: &[u64],
-    sc: &[u64],
+    scopes: [Scope; 32],
     used: usize,
     recursive: bool,
     p: usize,
     d: usize,
 )
-    requires { ⌜ Accepted (now s) (now tab) × (length (now b) ≤ 65536) × (0 < used) × (used ≤ 32) × ((t : ℕ) × ScopesStand (now s) (now b) (now ent) (scopes-of (now sc)) used t) × Holds (body 16 d) (bits (now b)) p × (length (now sc) ≡ 96) ⌝ }
+    requires { ⌜ Accepted (now s) (now tab)
+        × (length (now b) ≤ 65536)
+        × (0 < used)
+        × (used ≤ 32)
+        × NearScopes (now s) (now b) (now ent) scopes used
+        × Holds (body 16 d) (bits (now b)) p ⌝ }
 {
     let v = template::body_at(b, p);
     let count = v.count;
@@ -117,20 +136,8 @@ fn show_body(
     while i < count {
         let e = template::element_at(b, cur, 16, d - 1);
         let element = e.element;
-        show_element(s, tab, b, ent, sc, used, recursive, element, d - 1);
+        show_element(s, tab, b, ent, scopes, used, recursive, element, d - 1);
         cur = e.next;
-        i += 1;
-    }
-}
-
-// So many scopes of the plan.
-fn open_roots(sc: &mut [u64], n: usize)
-    requires { ⌜ (length (now sc) ≡ 96) × (n ≤ 32) ⌝ }
-    ensures { λ _. ⌜ ((i : ℕ) → i < n → getD (scopes-of (now (sc .exit))) i blank ≡ child 5 0) ⌝ }
-{
-    let mut i: usize = 0;
-    while i < n {
-        scope::put_scope(sc, i, scope::child(5, 0));
         i += 1;
     }
 }
@@ -144,9 +151,7 @@ fn show_main(s: &[u8], tab: &[u64], b: &[u8], used: usize, recursive: bool)
         return;
     };
     let ent: [u64; 2] = [0, 0];
-    let mut sc: [u64; 96] = [0; 96];
-    open_roots(&mut sc, used);
-    show_body(s, tab, b, &ent, &sc, used, recursive, p, 16);
+    show_body(s, tab, b, &ent, scope::begin(), used, recursive, p, 16);
     print(b"\n");
 }
 

@@ -1,8 +1,8 @@
 // Calls worked out over a small plan: each line has the name and the number of parameters, whether includeZero is true, what the name stands for as a
 // value, and what the call gives, or the number of its refusal. The calls are gone through plainly, in strict mode, and with all scopes open.
 ghost use mathlib.Core.Path.{_≡_};
-ghost use Prim.Native.Nat.{ℕ, _≤_, _<_};
-ghost use lib.ListN.{length, getD};
+ghost use Prim.Native.Nat.{_≤_, _<_};
+ghost use lib.ListN.{length};
 ghost use Rattle.rules.specs.Bits.{bits};
 ghost use Rattle.rules.specs.Bundle.{call-of, param, body};
 ghost use Rattle.layout.specs.Verdict.{verdict};
@@ -11,16 +11,14 @@ ghost use Rattle.parts.specs.Holds.{Holds};
 ghost use Rattle.template.specs.Views.{ElementHolds};
 ghost use Rattle.places.specs.Accepted.{Accepted};
 ghost use Rattle.meaning.specs.Forms.{Known};
-ghost use Rattle.scope.specs.Scopes.{blank};
-ghost use Rattle.scope.specs.Made.{child};
-ghost use Rattle.scope.specs.Words.{scopes-of};
-ghost use Rattle.scope.specs.Standing.{ScopesStand};
+ghost use Rattle.context.specs.Near.{NearScopes};
 ghost use Rattle.expand.specs.Answers.{GotKnown};
 use expand::Got;
 use expand::Options;
 use layout::Verdict;
 use libc::STDOUT_FILENO;
 use registry::Found;
+use scope::Scope;
 use template::Element;
 use value::Value;
 
@@ -65,16 +63,17 @@ fn call_value(
     tab: &[u64],
     b: &[u8],
     ent: &[u64],
-    sc: &[u64],
+    scopes: [Scope; 32],
     used: usize,
     options: Options,
     p: usize,
     d: usize,
 ) -> Got
-    requires { ⌜ Accepted (now s) (now tab) × (length (now b) ≤ 65536) × (0 < used) × (used ≤ 32) × ((t : ℕ) × ScopesStand (now s) (now b) (now ent) (scopes-of (now sc)) used t) × Holds (call-of (param d)) (bits (now b)) p × (length (now sc) ≡ 96) ⌝ }
+    requires { ⌜ Accepted (now s) (now tab) × (length (now b) ≤ 65536) × (0 < used) × (used ≤ 32)
+        × NearScopes (now s) (now b) (now ent) scopes used × Holds (call-of (param d)) (bits (now b)) p ⌝ }
     ensures { λ r. ⌜ GotKnown (now (s .entry)) (now (b .entry)) r ⌝ }
 {
-    let w = expand::try_from_template(s, tab, b, ent, sc, used, options, p, d);
+    let w = expand::try_from_template(s, tab, b, ent, scopes, used, options, p, d);
     if w.bad == 0 {
         return expand::called(s, tab, b, ent, used, options, w);
     }
@@ -87,16 +86,17 @@ fn name_value(
     tab: &[u64],
     b: &[u8],
     ent: &[u64],
-    sc: &[u64],
+    scopes: [Scope; 32],
     used: usize,
     options: Options,
     p: usize,
     d: usize,
 ) -> Got
-    requires { ⌜ Accepted (now s) (now tab) × (length (now b) ≤ 65536) × (0 < used) × (used ≤ 32) × ((t : ℕ) × ScopesStand (now s) (now b) (now ent) (scopes-of (now sc)) used t) × Holds (param d) (bits (now b)) p × (length (now sc) ≡ 96) ⌝ }
+    requires { ⌜ Accepted (now s) (now tab) × (length (now b) ≤ 65536) × (0 < used) × (used ≤ 32)
+        × NearScopes (now s) (now b) (now ent) scopes used × Holds (param d) (bits (now b)) p ⌝ }
     ensures { λ r. ⌜ GotKnown (now (s .entry)) (now (b .entry)) r ⌝ }
 {
-    expand::expand_as_name(s, tab, b, ent, sc, used, options, p, d)
+    expand::expand_as_name(s, tab, b, ent, scopes, used, options, p, d)
 }
 
 // The same as a value.
@@ -105,16 +105,17 @@ fn param_value(
     tab: &[u64],
     b: &[u8],
     ent: &[u64],
-    sc: &[u64],
+    scopes: [Scope; 32],
     used: usize,
     options: Options,
     p: usize,
     d: usize,
 ) -> Got
-    requires { ⌜ Accepted (now s) (now tab) × (length (now b) ≤ 65536) × (0 < used) × (used ≤ 32) × ((t : ℕ) × ScopesStand (now s) (now b) (now ent) (scopes-of (now sc)) used t) × Holds (param d) (bits (now b)) p × (length (now sc) ≡ 96) ⌝ }
+    requires { ⌜ Accepted (now s) (now tab) × (length (now b) ≤ 65536) × (0 < used) × (used ≤ 32)
+        × NearScopes (now s) (now b) (now ent) scopes used × Holds (param d) (bits (now b)) p ⌝ }
     ensures { λ r. ⌜ GotKnown (now (s .entry)) (now (b .entry)) r ⌝ }
 {
-    expand::expand(s, tab, b, ent, sc, used, options, p, d)
+    expand::expand(s, tab, b, ent, scopes, used, options, p, d)
 }
 
 // The call at p.
@@ -123,15 +124,16 @@ fn show_call(
     tab: &[u64],
     b: &[u8],
     ent: &[u64],
-    sc: &[u64],
+    scopes: [Scope; 32],
     used: usize,
     options: Options,
     p: usize,
     d: usize,
 )
-    requires { ⌜ Accepted (now s) (now tab) × (length (now b) ≤ 65536) × (0 < used) × (used ≤ 32) × ((t : ℕ) × ScopesStand (now s) (now b) (now ent) (scopes-of (now sc)) used t) × Holds (call-of (param d)) (bits (now b)) p × (length (now sc) ≡ 96) ⌝ }
+    requires { ⌜ Accepted (now s) (now tab) × (length (now b) ≤ 65536) × (0 < used) × (used ≤ 32)
+        × NearScopes (now s) (now b) (now ent) scopes used × Holds (call-of (param d)) (bits (now b)) p ⌝ }
 {
-    let w = expand::try_from_template(s, tab, b, ent, sc, used, options, p, d);
+    let w = expand::try_from_template(s, tab, b, ent, scopes, used, options, p, d);
     if w.bad != 0 {
         print(b"refused ");
         print_number(w.bad as u64);
@@ -143,7 +145,7 @@ fn show_call(
         s,
         tab,
         b,
-        call_value(s, tab, b, ent, sc, used, options, p, d),
+        call_value(s, tab, b, ent, scopes, used, options, p, d),
     );
 }
 
@@ -153,25 +155,26 @@ fn show_name(
     tab: &[u64],
     b: &[u8],
     ent: &[u64],
-    sc: &[u64],
+    scopes: [Scope; 32],
     used: usize,
     options: Options,
     p: usize,
     d: usize,
 )
-    requires { ⌜ Accepted (now s) (now tab) × (length (now b) ≤ 65536) × (0 < used) × (used ≤ 32) × ((t : ℕ) × ScopesStand (now s) (now b) (now ent) (scopes-of (now sc)) used t) × Holds (param d) (bits (now b)) p × (length (now sc) ≡ 96) ⌝ }
+    requires { ⌜ Accepted (now s) (now tab) × (length (now b) ≤ 65536) × (0 < used) × (used ≤ 32)
+        × NearScopes (now s) (now b) (now ent) scopes used × Holds (param d) (bits (now b)) p ⌝ }
 {
     print_got(
         s,
         tab,
         b,
-        name_value(s, tab, b, ent, sc, used, options, p, d),
+        name_value(s, tab, b, ent, scopes, used, options, p, d),
     );
     print_got(
         s,
         tab,
         b,
-        param_value(s, tab, b, ent, sc, used, options, p, d),
+        param_value(s, tab, b, ent, scopes, used, options, p, d),
     );
 }
 
@@ -180,19 +183,20 @@ fn show_element(
     tab: &[u64],
     b: &[u8],
     ent: &[u64],
-    sc: &[u64],
+    scopes: [Scope; 32],
     used: usize,
     options: Options,
     e: Element,
     d: usize,
 )
-    requires { ⌜ Accepted (now s) (now tab) × (length (now b) ≤ 65536) × (0 < used) × (used ≤ 32) × ((t : ℕ) × ScopesStand (now s) (now b) (now ent) (scopes-of (now sc)) used t) × ElementHolds 16 d (bits (now b)) e × (length (now sc) ≡ 96) ⌝ }
+    requires { ⌜ Accepted (now s) (now tab) × (length (now b) ≤ 65536) × (0 < used) × (used ≤ 32)
+        × NearScopes (now s) (now b) (now ent) scopes used × ElementHolds 16 d (bits (now b)) e ⌝ }
 {
     let Element::Expression(c, _) = e else {
         return;
     };
-    show_name(s, tab, b, ent, sc, used, options, c, d);
-    show_call(s, tab, b, ent, sc, used, options, c, d);
+    show_name(s, tab, b, ent, scopes, used, options, c, d);
+    show_call(s, tab, b, ent, scopes, used, options, c, d);
     print(b"\n");
 }
 
@@ -202,13 +206,14 @@ fn show_body(
     tab: &[u64],
     b: &[u8],
     ent: &[u64],
-    sc: &[u64],
+    scopes: [Scope; 32],
     used: usize,
     options: Options,
     p: usize,
     d: usize,
 )
-    requires { ⌜ Accepted (now s) (now tab) × (length (now b) ≤ 65536) × (0 < used) × (used ≤ 32) × ((t : ℕ) × ScopesStand (now s) (now b) (now ent) (scopes-of (now sc)) used t) × Holds (body 16 d) (bits (now b)) p × (length (now sc) ≡ 96) ⌝ }
+    requires { ⌜ Accepted (now s) (now tab) × (length (now b) ≤ 65536) × (0 < used) × (used ≤ 32)
+        × NearScopes (now s) (now b) (now ent) scopes used × Holds (body 16 d) (bits (now b)) p ⌝ }
 {
     let v = template::body_at(b, p);
     let count = v.count;
@@ -217,20 +222,8 @@ fn show_body(
     while i < count {
         let e = template::element_at(b, cur, 16, d - 1);
         let element = e.element;
-        show_element(s, tab, b, ent, sc, used, options, element, d - 1);
+        show_element(s, tab, b, ent, scopes, used, options, element, d - 1);
         cur = e.next;
-        i += 1;
-    }
-}
-
-// So many scopes of the plan.
-fn open_roots(sc: &mut [u64], n: usize)
-    requires { ⌜ (length (now sc) ≡ 96) × (n ≤ 32) ⌝ }
-    ensures { λ _. ⌜ ((i : ℕ) → i < n → getD (scopes-of (now (sc .exit))) i blank ≡ child 5 0) ⌝ }
-{
-    let mut i: usize = 0;
-    while i < n {
-        scope::put_scope(sc, i, scope::child(5, 0));
         i += 1;
     }
 }
@@ -244,14 +237,12 @@ fn show_main(s: &[u8], tab: &[u64], b: &[u8], used: usize, strict: bool)
         return;
     };
     let ent: [u64; 2] = [0, 0];
-    let mut sc: [u64; 96] = [0; 96];
-    open_roots(&mut sc, used);
     let options = Options {
         strict,
         recursive_lookup: false,
         guide_truth: false,
     };
-    show_body(s, tab, b, &ent, &sc, used, options, p, 16);
+    show_body(s, tab, b, &ent, scope::begin(), used, options, p, 16);
     print(b"\n");
 }
 

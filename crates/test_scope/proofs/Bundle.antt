@@ -4,7 +4,7 @@ use mathlib.Core.List.{List, [], _∷_}
 use mathlib.Core.Option.{Option, none, some}
 use mathlib.Core.Path.{_≡_, refl, sym, ap, _∙_, subst}
 use native.Mathlib.Omega.{arith}
-use lib.ListN.{getD, set}
+use lib.ListN.{set, replicate}
 use Rattle.rules.specs.Bytes.{Bytes, maybe}
 use Rattle.rules.specs.Bits.{bits}
 use Rattle.rules.specs.Layout.{field}
@@ -16,9 +16,7 @@ use Rattle.value.specs.Numbers.{decoded, word-of, place-of, pair-of}
 use Rattle.meaning.specs.Entries.{place}
 use Rattle.meaning.specs.Meaning.{merged-of}
 use Rattle.scope.specs.declared.Scope.{Scope}
-use lib.Seq.{getD-set-same}
 use Rattle.scope.specs.Scopes.{blank}
-use Rattle.scope.specs.Words.{scopes-of, scopes-length}
 use Rattle.scope.specs.Names.{HashReadable, Readable, AllReadable}
 
 abbrev pub bundle : Bytes
@@ -79,10 +77,10 @@ hash-readable c k e =
     both : HashReadable bundle hash-entries 0 2
     both = record { few = omega arith; within = omega arith; keys = keys }
 
--- the first of the buffer, where it was put
-pub only : (ent w x : List ℕ) (c : Scope) → Readable bundle ent c → scopes-of x ≡ set (scopes-of w) 0 c → AllReadable bundle ent (scopes-of x) 1
-only ent w x c r e zero lt = rw (e, getD-set-same (scopes-of w) 0 c blank (omega (arith, scopes-length w))) r
-only ent w x c r e (suc i) lt = absurd (omega arith)
+-- the first of the stack, where it was put
+pub only : (ent : List ℕ) (l x : List Scope) (c : Scope) → Readable bundle ent c → l ≡ replicate 32 blank → x ≡ set l 0 c → AllReadable bundle ent x 1
+only ent l x c r z e zero lt = rw (e, z) r
+only ent l x c r z e (suc i) lt = absurd (omega arith)
 
 abbrev pub two : Scope
 two = record { base = 101; names = 0; key = 395; index = 0; inline = 0; count = 0; text = 0; kind = 2; locals = 6; block = 0 }

@@ -1,11 +1,9 @@
-// Scopes by fixed cases: first what three names stand for, then local variables by level, then scopes by level.
-ghost use mathlib.Core.Path.{_≡_};
+// Scopes by fixed cases: first what three names stand for, then local variables, then scopes of a stack.
 ghost use Prim.Native.Nat.{_≤_};
 ghost use lib.ListN.{length};
 ghost use Rattle.rules.specs.Bits.{bits};
 ghost use Rattle.rules.specs.Bundle.{string};
 ghost use Rattle.parts.specs.Holds.{Holds};
-ghost use Rattle.scope.specs.Words.{scopes-of};
 ghost use Rattle.scope.specs.Names.{AllReadable};
 use libc::STDOUT_FILENO;
 use scope::Param;
@@ -43,25 +41,37 @@ fn print_param(r: Param) {
     }
 }
 
-// Three names in the first scopes of the buffer.
-fn print_names(b: &[u8], ent: &[u64], sc: &[u64], used: usize)
-    requires { ⌜ (length (now b) ≤ 65536) × (Holds string (bits (now b)) 0 × Holds string (bits (now b)) 24 × Holds string (bits (now b)) 48) × (used ≤ 32) × AllReadable (now b) (now ent) (scopes-of (now sc)) used × (length (now sc) ≡ 96) ⌝ }
+// What a name stands for, as `scope::param_number` answers.
+fn print_number(n: u64)
+    requires { ⌜ n ≤ 4294967296 ⌝ }
 {
-    print_param(scope::get_in_block_params(b, ent, sc, used, 0));
-    print_param(scope::get_in_block_params(b, ent, sc, used, 24));
-    print_param(scope::get_in_block_params(b, ent, sc, used, 48));
+    if n == 0 {
+        print_param(Param::Nothing);
+    } else {
+        print_value(value::decode((n - 1) as u32));
+    }
+}
+
+// Three names in the first scopes.
+fn print_names(b: &[u8], ent: &[u64], scopes: [Scope; 32], used: usize)
+    requires { ⌜ (length (now b) ≤ 65536)
+        × (Holds string (bits (now b)) 0 × Holds string (bits (now b)) 24 × Holds string (bits (now b)) 48)
+        × (used ≤ 32)
+        × AllReadable (now b) (now ent) scopes used ⌝ }
+{
+    print_number(scope::param_number(b, ent, scopes, used, 0));
+    print_number(scope::param_number(b, ent, scopes, used, 24));
+    print_number(scope::param_number(b, ent, scopes, used, 48));
     print(b"\n");
 }
 
-// The local variables of one level.
-fn print_locals(b: &[u8], sc: &[u64], used: usize, level: usize)
-    requires { ⌜ (used ≤ 32) × (length (now sc) ≡ 96) ⌝ }
-{
-    print_param(scope::local_value(b, sc, used, level, 72));
-    print_param(scope::local_value(b, sc, used, level, 128));
-    print_param(scope::local_value(b, sc, used, level, 176));
-    print_param(scope::local_value(b, sc, used, level, 232));
-    print_param(scope::local_value(b, sc, used, level, 272));
+// The local variables of a scope.
+fn print_locals(b: &[u8], c: Scope) {
+    print_param(scope::local_variable(b, c, 72));
+    print_param(scope::local_variable(b, c, 128));
+    print_param(scope::local_variable(b, c, 176));
+    print_param(scope::local_variable(b, c, 232));
+    print_param(scope::local_variable(b, c, 272));
     print(b"\n");
 }
 
@@ -71,27 +81,6 @@ fn print_base(c: Scope) {
     print_place(b"entry ", c.inline as usize);
     print_place(b"count ", c.count as usize);
     print(b"\n");
-}
-
-// The local variables of four scopes, and of one beyond.
-fn print_levels(b: &[u8], sc: &[u64])
-    requires { ⌜ length (now sc) ≡ 96 ⌝ }
-{
-    print_locals(b, sc, 4, 0);
-    print_locals(b, sc, 4, 1);
-    print_locals(b, sc, 4, 2);
-    print_locals(b, sc, 4, 3);
-    print_locals(b, sc, 4, 4);
-}
-
-// Scopes by their levels.
-fn print_fronts(sc: &[u64])
-    requires { ⌜ length (now sc) ≡ 96 ⌝ }
-{
-    print_base(scope::get_or_front(sc, 4, 0));
-    print_base(scope::get_or_front(sc, 4, 1));
-    print_base(scope::get_or_front(sc, 4, 3));
-    print_base(scope::get_or_front(sc, 4, 4));
 }
 
 // Names of a turn over an object with two names, a and b, over the plan's place 6, with @key a text of the bundle.
@@ -110,9 +99,7 @@ fn print_two() {
         locals: 6,
         block: 0,
     };
-    let mut sc: [u64; 96] = [0; 96];
-    scope::put_scope(&mut sc, 0, two);
-    print_names(b, &ent, &sc, 1);
+    print_names(b, &ent, scope::put_scope(scope::begin(), 0, two), 1);
 }
 
 // Names of a partial whose hash has a for the number of a turn, and c for the plan's place 9, whose path is forgotten.
@@ -131,9 +118,7 @@ fn print_hash() {
         locals: 0,
         block: 0,
     };
-    let mut sc: [u64; 96] = [0; 96];
-    scope::put_scope(&mut sc, 0, hash);
-    print_names(b, &ent, &sc, 1);
+    print_names(b, &ent, scope::put_scope(scope::begin(), 0, hash), 1);
 }
 
 fn main() {
@@ -153,12 +138,20 @@ fn main() {
         true,
         true,
     );
-    let mut sc: [u64; 96] = [0; 96];
-    scope::put_scope(&mut sc, 0, root);
-    scope::put_scope(&mut sc, 1, one);
-    scope::put_scope(&mut sc, 2, two);
-    scope::put_scope(&mut sc, 3, scope::with_locals(scope::child(6, 2), two));
-    print_levels(b, &sc);
-    print_fronts(&sc);
+    let front = scope::with_locals(scope::child(6, 2), two);
+    // the newest first, and one that is not yet open
+    print_locals(b, front);
+    print_locals(b, two);
+    print_locals(b, one);
+    print_locals(b, root);
+    let begun = scope::begin();
+    print_locals(b, begun[4]);
+    // as they are put on the stack, and where one is put twice
+    let scopes = scope::put_scope(scope::put_scope(begun, 2, two), 3, front);
+    print_base(scopes[3]);
+    print_base(scopes[2]);
+    print_base(scopes[0]);
+    let more = scope::put_scope(scopes, 4, front);
+    print_base(more[4]);
     print_base(scope::with_count(two, 2));
 }

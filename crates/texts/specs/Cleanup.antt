@@ -7,6 +7,7 @@ use native.Mathlib.Omega.{arith}
 use lib.ListN.{length, getD, take, drop, length-drop}
 use lib.Seq.{length-take-le, take-take, drop-drop}
 use Rattle.rules.specs.Bytes.{Bytes, pick}
+use Rattle.rules.specs.Block.{Block}
 use Rattle.rules.specs.State as rules
 use Rattle.rules.specs.State.{entries-in, blocks, first-context, first-partials, rest, peek-partial-block, text-size, Res, ok, _after_}
 use Rattle.rules.specs.Partial.{cleanup}
@@ -16,10 +17,11 @@ use Rattle.scope.specs.declared.Scope.{Scope}
 use Rattle.scope.specs.Scopes.{blank, context-of, blocks-of}
 use Rattle.scope.specs.Standing.{ScopesStand}
 use Rattle.scope.specs.Made.{with-count}
-use Rattle.scope.specs.StackLaws.{pop-stands, blocks-kept}
+use Rattle.scope.specs.NameBits.{covered-kept}
+use Rattle.scope.specs.StackLaws.{blocks-kept, scopes-kept}
 use Rattle.state.specs.World.{World, over, outputs-of, front, top, text-on, stack-of, sizes-of, abs, Ready, Sizes, Grows, Goes, Draws}
 use Rattle.state.specs.Laws.{sizes-trans}
-use Rattle.state.specs.Steps.{sizes-under, blocks-alike, blocks-abs}
+use Rattle.state.specs.Steps.{sizes-under, blocks-alike, blocks-abs, stack-under}
 use Rattle.state.specs.Scoped.{tight}
 use Rattle.texts.specs.Setters.{cleaned}
 use Rattle.texts.specs.Included.{Included}
@@ -59,7 +61,7 @@ module _ (s b u : Bytes) (w w₅ w₆ : World) (r : Ready s b w) (h : Included s
   under i lt = g .beneath i (omega (arith, h .used)) ∙ h .beneath i lt
 
   newest : front (cleaned-up w w₆) ≡ front w
-  newest = under (m - 1) (omega (arith, r .one))
+  newest = refl
 
   block-is : c .block ≡ front w₅ .block
   block-is = ap (λ (x : Scope). x .block) (g .newest)
@@ -108,27 +110,28 @@ module _ (s b u : Bytes) (w w₅ w₆ : World) (r : Ready s b w) (h : Included s
   unfolding abs
   abs-cleanup =
       let a = abs s b w₆ in
-      let e : w₆ .rc .used - 1 ≡ suc (m - 1) = omega (arith, used-is, r .one) in
+      let e : w₆ .rc .used - 1 ≡ m = omega (arith, used-is, r .one) in
+      let f : m ≡ suc (m - 1) = omega (arith, r .one) in
+      let k : List Scope = w .rc .scopes in
+      let beneath : blocks-of s b (w₆ .ent) l (w₆ .rc .used - 1) ≡ blocks-of s b (w₆ .ent) k (suc (m - 1)) = ap (blocks-of s b (w₆ .ent) l) e ∙ blocks-alike s b (w₆ .ent) k l m under ∙ ap (blocks-of s b (w₆ .ent) k) f in
+      let stack = stack-is ∙ stack-under (w₆ .texts) k l m (w .rc .writer .high) under in
       let room : hi - w₆ .rc .writer .low + text-size (peek-partial-block (stack-of (w₆ .texts) l (w₆ .rc .used) hi)) ≡ w .rc .writer .high - w₆ .rc .writer .low =
       omega (arith, size-is, high-is, g .ready .sound .low-fits) in
-      let made : ℕ → List (Option Bytes) → ℕ → Option Bytes → rules.RenderContext = λ k t x i. record {
-        kept = record { block = first-context (context-of s b (w₆ .ent) c) (blocks-of s b (w₆ .ent) l k); blocks-beneath = rest (blocks-of s b (w₆ .ent) l k); partial-block-stack = t; indent-string = i; disable-escape = a .kept .disable-escape; out = a .kept .out };
-        seen = record { block-partials = first-partials (a .seen .block-partials) (blocks-of s b (w₆ .ent) l k); current-template = abs s b w .seen .current-template; marks = a .seen .marks; room = record { page-room = a .seen .room .page-room; texts-room = x } };
+      let made : List Block → List (Option Bytes) → ℕ → Option Bytes → rules.RenderContext = λ q t x i. record {
+        kept = record { block = first-context (context-of s b (w₆ .ent) c) q; blocks-beneath = rest q; partial-block-stack = t; indent-string = i; disable-escape = a .kept .disable-escape; out = a .kept .out };
+        seen = record { block-partials = first-partials (a .seen .block-partials) q; current-template = abs s b w .seen .current-template; marks = a .seen .marks; room = record { page-room = a .seen .room .page-room; texts-room = x } };
       } in
-      ap₂ (λ (k : ℕ) (t : List (Option Bytes)). made k t (a .seen .room .texts-room + text-size (peek-partial-block (a .kept .partial-block-stack))) (abs s b w .kept .indent-string)) e stack-is
-      ∙ ap₂ (made (suc (m - 1)) (stack-of (w₆ .texts) l m (w .rc .writer .high))) room (ap (λ (x : Bytes). pick (w .rc .writer .«has_indent») (some x) none) (sym indent-is))
+      ap₂ (λ (q : List Block) (t : List (Option Bytes)). made q t (a .seen .room .texts-room + text-size (peek-partial-block (a .kept .partial-block-stack))) (abs s b w .kept .indent-string)) beneath stack
+      ∙ ap₂ (made (blocks-of s b (w₆ .ent) k (suc (m - 1))) (stack-of (w₆ .texts) k m (w .rc .writer .high))) room (ap (λ (x : Bytes). pick (w .rc .writer .«has_indent») (some x) none) (sym indent-is))
 
   blocks-is : blocks (abs s b (cleaned-up w w₆)) ≡ blocks (abs s b w)
   blocks-is =
       blocks-abs s b (cleaned-up w w₆) (r .one)
-      ∙ blocks-alike s b (w₆ .ent) (w .rc .scopes) l m under
       ∙ sym (blocks-kept s b (w .ent) (w₆ .ent) (w .rc .scopes) m (top w) agree (r .scopes))
       ∙ sym (blocks-abs s b w (r .one))
 
-  stand : ScopesStand s b (w₆ .ent) l m (top (cleaned-up w w₆))
-  stand =
-      tight s b (w₆ .ent) l m (getD l m blank .inline) (r .one)
-      (pop-stands s b (w₆ .ent) l m (top w₆) (subst (λ (k : ℕ). ScopesStand s b (w₆ .ent) l k (top w₆)) used-is (g .ready .scopes)))
+  stand : ScopesStand s b (w₆ .ent) (w .rc .scopes) m (top w)
+  stand = let x = h .sizes .ent in let y = g .sizes .ent in scopes-kept s b (w .ent) (w₆ .ent) (w .rc .scopes) m (top w) agree (r .scopes) (omega (arith, x, y, r .scopes .entries))
 
   sound : Sound (outputs-of (cleaned-up w w₆))
   sound = record { goes = g .ready .sound .goes; written-fits = g .ready .sound .written-fits; low-fits = omega (arith, g .ready .sound .low-fits, high-is); high-fits = omega (arith, high-is, all-fit) }
@@ -159,7 +162,7 @@ module _ (s b u : Bytes) (w w₅ w₆ : World) (r : Ready s b w) (h : Included s
       let z : Sizes w w₆ = sizes-trans w w₅ w₆ (h .sizes) (g .sizes) in
       record {
         ready = record {
-          sized = q .sized;
+          sized = r .sized;
           one = r .one;
           most = r .most;
           fine = q .fine;
@@ -167,11 +170,12 @@ module _ (s b u : Bytes) (w w₅ w₆ : World) (r : Ready s b w) (h : Included s
           nameless = q .nameless;
           sound = sound;
           scopes = stand;
+          covered = covered-kept s b (w .ent) (w₆ .ent) (w .rc .names) (w .rc .scopes) m (top w) agree (r .scopes) (r .covered);
           total = r .total ∙ ap entries-in (sym blocks-is);
           few = r .few;
-          enough = subst (λ (x : Scope). x .inline + x .count ≤ w .rc .total) (sym newest) (r .enough);
+          enough = r .enough;
           table = q .table;
-          texts = let x = z .texts in omega (arith, x, sizes-is, r .texts);
+          texts = let x = z .texts in omega (arith, x, r .texts);
           high = r .high;
           indent = r .indent;
           absent = r .absent;
@@ -179,8 +183,8 @@ module _ (s b u : Bytes) (w w₅ w₆ : World) (r : Ready s b w) (h : Included s
           template = r .template;
         };
         used = refl;
-        beneath = λ i lt. under i (omega arith);
-        newest = newest ∙ ap (with-count (front w)) (ap (λ (x : Scope). x .count) (sym newest));
+        beneath = λ i lt. refl;
+        newest = refl;
         agree = record { same = λ i lt. agree .same i (omega arith) };
         grows = grown;
         indent = indent-is;

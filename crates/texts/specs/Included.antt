@@ -5,6 +5,8 @@ use mathlib.Core.List.{List, [], _∷_, append-nil}
 use mathlib.Core.Option.{Option, none, some}
 use mathlib.Core.Path.{_≡_, refl, sym, ap, ap₂, _∙_, subst}
 use native.Mathlib.Omega.{arith}
+use lib.Dec.{eqb}
+use borrow.Author.Tests.{eqb-true, eqb-false}
 use lib.ListN.{length, getD, take, drop, set, length-set}
 use lib.Seq.{slice, slice-empty, length-slice, length-take-le, take-add, drop-at, drop-drop, getD-set-same, getD-set-other}
 use Rattle.rules.specs.Bytes.{Bytes, pick}
@@ -17,6 +19,8 @@ use Rattle.scope.specs.declared.Scope.{Scope}
 use Rattle.scope.specs.Scopes.{blank, params-by, context-of, partials-of, blocks-of}
 use Rattle.scope.specs.Standing.{ScopeStands, ScopesStand}
 use Rattle.scope.specs.StackLaws.{names-move, push-stands, pop-stands}
+use Rattle.scope.specs.Names.{param-by}
+use Rattle.scope.specs.NameBits.{Covers}
 use Rattle.state.specs.Setters.{with-writer, turned}
 use Rattle.state.specs.World.{World, world, outputs-of, front, top, text-on, stack-of, sizes-of, abs, Ready, Sizes, Grows}
 use Rattle.state.specs.Steps.{stack-under, sizes-under, blocks-alike}
@@ -71,6 +75,16 @@ pub so-far-text : (k : ℕ) (o : Outputs) → o .writer .«block_text» ≡ true
 so-far-text k o e = ap (λ (y : Bool). pick y (slice k (o .writer .low) (o .texts)) (take (o .writer .written) (o .page))) e
 
 -- where nothing was written
+-- a block text leaves a scope's block names
+covers-block : (m : ℕ) (b : Bytes) (ent : List ℕ) (c : Scope) (k n : ℕ) → Covers m b ent c → Covers m b ent (with-block c k n)
+covers-block m b ent c k n h = record { clear = λ t x. same-by t (c .kind) ∙ h .clear t x }
+  where
+    same-by : (t : Bytes) (i : ℕ) → param-by b ent (with-block c k n) t i ≡ param-by b ent c t i
+    same-by t zero = refl
+    same-by t (suc zero) = refl
+    same-by t (suc (suc zero)) = refl
+    same-by t (suc (suc (suc i))) = refl
+
 module _ (o o′ : Outputs) (g : Grows [] o o′) where
   low-held : o′ .writer .low ≡ o .writer .low
   low-held = go (o .writer .«block_text») refl
@@ -160,6 +174,13 @@ module _ (s b : Bytes) (w : World) (r : Ready s b w) (k n : ℕ) (q : Writer) (t
       (subst (λ (i : ℕ). ScopesStand s b (w .ent) (set l m c) i (top w)) (sym e)
       (push-stands s b (w .ent) l c m (front w .inline) (top w) under lt (with-block-stands s b (w .ent) (front w) k n (r .scopes .each m (omega (arith, r .one)))) (omega arith) (omega arith) (r .scopes .entries)))
 
+  at-all : (P : Scope → Type 0) → ((i : ℕ) → i < w .rc .used → P (getD l i blank)) → P c → (i : ℕ) → i < w .rc .used → P (getD (set l m c) i blank)
+  at-all P f y i h = go (eqb i m) refl
+    where
+      go : (t : Bool) → eqb i m ≡ t → P (getD (set l m c) i blank)
+      go true z = subst P (sym (ap (λ (j : ℕ). getD (set l m c) j blank) (eqb-true i m z) ∙ given-front)) y
+      go false z = let x = eqb-false i m z in subst P (sym (given-under i (omega arith))) (f i h)
+
   pub ready-given : q .high ≤ 16384 → Ready s b given
   ready-given bounded = record {
     sized = length-set l m c ∙ r .sized;
@@ -170,6 +191,7 @@ module _ (s b : Bytes) (w : World) (r : Ready s b w) (k n : ℕ) (q : Writer) (t
     nameless = r .nameless;
     sound = sound;
     scopes = stand;
+    covered = at-all (Covers (w .rc .names) b (w .ent)) (r .covered) (covers-block (w .rc .names) b (w .ent) (front w) k n (r .covered m (omega (arith, r .one))));
     total = r .total ∙ ap entries (sym abs-given);
     few = r .few;
     enough = subst (λ (x : Scope). x .inline + x .count ≤ w .rc .total) (sym given-front) (r .enough);

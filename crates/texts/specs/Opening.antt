@@ -53,7 +53,7 @@ module _ (s b : Bytes) (w : World) where
   unfolding abs
   ready-begun r =
       let sound : Sound (outputs-of (text-begun w)) = record { goes = r .sound .goes; written-fits = r .sound .written-fits; low-fits = r .sound .low-fits; high-fits = r .sound .high-fits } in
-      record { sized = r .sized; one = r .one; most = r .most; fine = r .fine; nowhere = r .nowhere; nameless = r .nameless; sound = sound; scopes = r .scopes; total = r .total; few = r .few; enough = r .enough; table = r .table; texts = r .texts; high = r .high; indent = r .indent; absent = r .absent; buffer = r .buffer; template = r .template }
+      record { sized = r .sized; one = r .one; most = r .most; fine = r .fine; nowhere = r .nowhere; nameless = r .nameless; sound = sound; scopes = r .scopes; covered = r .covered; total = r .total; few = r .few; enough = r .enough; table = r .table; texts = r .texts; high = r .high; indent = r .indent; absent = r .absent; buffer = r .buffer; template = r .template }
 
 -- the stack beneath a scope that has no text yet
 plain-stack : (s b : Bytes) (w : World) → 1 ≤ w .rc .used → front w .block ≡ 0 → front w .text ≡ 0
@@ -237,7 +237,7 @@ module _ (s b : Bytes) (w₄ : World) (has : Bool) (len : ℕ) (i′ : Bytes) wh
       let r = h .ready in
       let sound : Sound (outputs-of (indent-set w₄ has len i′)) = record { goes = r .sound .goes; written-fits = r .sound .written-fits; low-fits = r .sound .low-fits; high-fits = r .sound .high-fits } in
       record {
-        ready = record { sized = r .sized; one = r .one; most = r .most; fine = r .fine; nowhere = r .nowhere; nameless = r .nameless; sound = sound; scopes = r .scopes; total = r .total; few = r .few; enough = r .enough; table = r .table; texts = r .texts; high = r .high; indent = few; absent = absent; buffer = rw same-length (r .buffer); template = r .template };
+        ready = record { sized = r .sized; one = r .one; most = r .most; fine = r .fine; nowhere = r .nowhere; nameless = r .nameless; sound = sound; scopes = r .scopes; covered = r .covered; total = r .total; few = r .few; enough = r .enough; table = r .table; texts = r .texts; high = r .high; indent = few; absent = absent; buffer = rw same-length (r .buffer); template = r .template };
         used = h .used;
         beneath = h .beneath;
         above = h .above;

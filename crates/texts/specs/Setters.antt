@@ -25,8 +25,13 @@ newest c = getD (c .scopes) (c .used - 1) blank
 abbrev pub text-place : RenderContext → ℕ → ℕ
 text-place c begin = c .writer .high - (c .writer .low - begin)
 
+-- the text is among the finished ones
+abbrev pub text-moved : RenderContext → ℕ → Bool → RenderContext
+text-moved c begin block = with-writer c (with-texts (c .writer) begin (text-place c begin) block)
+
+-- and the newest scope has it
 abbrev pub text-closed : RenderContext → ℕ → Bool → RenderContext
-text-closed c begin block = turned (with-writer c (with-texts (c .writer) begin (text-place c begin) block)) (with-block (newest c) 2 (c .writer .low - begin))
+text-closed c begin block = turned (text-moved c begin block) (with-block (newest c) 2 (c .writer .low - begin))
 
 abbrev pub without-text : RenderContext → RenderContext
 without-text c = turned c (with-block (newest c) 1 (newest c .text))
@@ -40,7 +45,7 @@ indented c has len = with-writer c (with-indent (c .writer) has len)
 -- the scopes, entries, template, finished texts and indent of before
 abbrev pub cleaned : RenderContext → RenderContext → RenderContext
 cleaned c before = record {
-  scopes = c .scopes;
+  scopes = before .scopes;
   used = before .used;
   writer = with-texts (with-indent (c .writer) (before .writer .«has_indent») (before .writer .indent)) (c .writer .low) (before .writer .high) (c .writer .«block_text»);
   total = before .total;
@@ -48,6 +53,7 @@ cleaned c before = record {
   named = c .named;
   line = c .line;
   column = c .column;
+  names = before .names;
   bad = c .bad;
   placed = c .placed;
   «disable_escape» = c .«disable_escape»;

@@ -120,6 +120,7 @@ ready-written s b v w o r g = record {
   nameless = r .nameless;
   sound = g .sound;
   scopes = r .scopes;
+  covered = r .covered;
   total = r .total ∙ sym (ap entries (abs-written s b v w o g));
   few = r .few;
   enough = r .enough;

@@ -26,6 +26,7 @@ ghost use Rattle.meaning.specs.Standing.{Stands};
 ghost use Rattle.meaning.specs.Forms.{Known};
 ghost use Rattle.meaning.specs.Means.{Means};
 ghost use Rattle.print.specs.Printed.{printed};
+ghost use Rattle.scope.specs.declared.Scope.{Scope};
 ghost use Rattle.state.specs.Context.{whole};
 ghost use Rattle.state.specs.World.{world};
 ghost use Rattle.writing.specs.Writes.{Wrote, Writes};
@@ -44,7 +45,9 @@ pub fn write_packed(
     n: usize,
 ) -> Writer
     requires { ⌜ p + 8 * n < 2 ^ 64 ⌝ }
-    ensures { λ r. ⌜ outputs r (now (page .exit)) (now (texts .exit)) ≡ fed (now (indent .entry)) (bytes-at (bits (now (b .entry))) p n) (outputs w (now (page .entry)) (now (texts .entry))) ⌝ }
+    ensures { λ r. ⌜ outputs r (now (page .exit)) (now (texts .exit))
+        ≡ fed (now (indent .entry)) (bytes-at (bits (now (b .entry))) p n)
+        (outputs w (now (page .entry)) (now (texts .entry))) ⌝ }
 {
     if w.block_text {
         return direct::write_packed(texts, indent, w, b, p, n);
@@ -62,8 +65,15 @@ pub fn raw_string(
     rc: RenderContext,
 ) -> RenderContext
     requires { ⌜ (length (now b) ≤ 65536) × Holds string (bits (now b)) p ⌝ }
-    ensures { λ r. ⌜ ((l : List ℕ) → Wrote (whole rc l) (whole r l) (now (page .exit)) (now (texts .exit)) (fed (now (indent .entry)) (text-at (bits (now (b .entry))) p) (outputs (rc .writer) (now (page .entry)) (now (texts .entry))))) ⌝ }
-    ensures { λ r. ⌜ ((l : List ℕ) (s : Bytes) (ent : List ℕ) → Writes s (now (b .entry)) (world (whole rc l) (now (page .entry)) (now (texts .entry)) (now (indent .entry)) ent) (world (whole r l) (now (page .exit)) (now (texts .exit)) (now (indent .entry)) ent) (indent-aware-write (text-at (bits (now (b .entry))) p))) ⌝ }
+    ensures { λ r. ⌜ ((l : List Scope)
+        → Wrote (whole rc l) (whole r l) (now (page .exit)) (now (texts .exit))
+        (fed (now (indent .entry)) (text-at (bits (now (b .entry))) p)
+        (outputs (rc .writer) (now (page .entry)) (now (texts .entry))))) ⌝ }
+    ensures { λ r. ⌜ ((l : List Scope) (s : Bytes) (ent : List ℕ)
+        → Writes s (now (b .entry))
+        (world (whole rc l) (now (page .entry)) (now (texts .entry)) (now (indent .entry)) ent)
+        (world (whole r l) (now (page .exit)) (now (texts .exit)) (now (indent .entry)) ent)
+        (indent-aware-write (text-at (bits (now (b .entry))) p))) ⌝ }
 {
     let t = parts::text_at(b, p);
     state::wrote(
@@ -85,7 +95,10 @@ fn feed_value(
     escape: bool,
 ) -> Writer
     requires { ⌜ Accepted (now s) (now tab) × (length (now b) ≤ 65536) × Known (now s) (now b) v ⌝ }
-    ensures { λ r. ⌜ Means (now (s .entry)) (now (b .entry)) v (λ j. outputs r (now (page .exit)) (now (texts .exit)) ≡ on (printed (now (indent .entry)) escape (render j)) (outputs w (now (page .entry)) (now (texts .entry)))) ⌝ }
+    ensures { λ r. ⌜ Means (now (s .entry)) (now (b .entry)) v
+        (λ j. outputs r (now (page .exit)) (now (texts .exit))
+        ≡ on (printed (now (indent .entry)) escape (render j))
+        (outputs w (now (page .entry)) (now (texts .entry)))) ⌝ }
 {
     if w.block_text {
         return print::write_value(texts, indent, w, s, tab, b, v, escape);
@@ -95,7 +108,8 @@ fn feed_value(
 
 // Whether lent bytes go to the page at once.
 fn is_plain(w: Writer, len: usize, v: &[u8], escape: bool) -> bool
-    ensures { λ r. ⌜ (r ≡ true → (w .«block_text» ≡ false) × (takes w len (length (now (v .entry))) ≡ true) × (calm (w .«has_indent») (now (v .entry)) ≡ true) × (escaped escape (now (v .entry)) ≡ now (v .entry))) ⌝ }
+    ensures { λ r. ⌜ (r ≡ true → (w .«block_text» ≡ false) × (takes w len (length (now (v .entry))) ≡ true)
+        × (calm (w .«has_indent») (now (v .entry)) ≡ true) × (escaped escape (now (v .entry)) ≡ now (v .entry))) ⌝ }
 {
     if w.block_text {
         return false;
@@ -115,7 +129,9 @@ fn any_bytes(
     v: &[u8],
     escape: bool,
 ) -> Writer
-    ensures { λ r. ⌜ outputs r (now (page .exit)) (now (texts .exit)) ≡ fed (now (indent .entry)) (escaped escape (now (v .entry))) (outputs w (now (page .entry)) (now (texts .entry))) ⌝ }
+    ensures { λ r. ⌜ outputs r (now (page .exit)) (now (texts .exit))
+        ≡ fed (now (indent .entry)) (escaped escape (now (v .entry)))
+        (outputs w (now (page .entry)) (now (texts .entry))) ⌝ }
 {
     if w.block_text {
         return direct::write_bytes(texts, indent, w, v, escape);
@@ -132,7 +148,9 @@ fn write_bytes(
     v: &[u8],
     escape: bool,
 ) -> Writer
-    ensures { λ r. ⌜ outputs r (now (page .exit)) (now (texts .exit)) ≡ fed (now (indent .entry)) (escaped escape (now (v .entry))) (outputs w (now (page .entry)) (now (texts .entry))) ⌝ }
+    ensures { λ r. ⌜ outputs r (now (page .exit)) (now (texts .exit))
+        ≡ fed (now (indent .entry)) (escaped escape (now (v .entry)))
+        (outputs w (now (page .entry)) (now (texts .entry))) ⌝ }
 {
     if is_plain(w, page.len(), v, escape) {
         return direct::put_bytes(page, w, v);
@@ -149,7 +167,9 @@ fn write_number(
     n: u64,
     escape: bool,
 ) -> Writer
-    ensures { λ r. ⌜ outputs r (now (page .exit)) (now (texts .exit)) ≡ fed (now (indent .entry)) (escaped escape (render (jpos n))) (outputs w (now (page .entry)) (now (texts .entry))) ⌝ }
+    ensures { λ r. ⌜ outputs r (now (page .exit)) (now (texts .exit))
+        ≡ fed (now (indent .entry)) (escaped escape (render (jpos n)))
+        (outputs w (now (page .entry)) (now (texts .entry))) ⌝ }
 {
     let mut buf = [0u8; 20];
     let e = decimal::write_digits(&mut buf, 0, n);
@@ -169,7 +189,10 @@ fn other_value(
     escape: bool,
 ) -> Writer
     requires { ⌜ Accepted (now s) (now tab) × (length (now b) ≤ 65536) × Known (now s) (now b) v ⌝ }
-    ensures { λ r. ⌜ Means (now (s .entry)) (now (b .entry)) v (λ j. outputs r (now (page .exit)) (now (texts .exit)) ≡ fed (now (indent .entry)) (escaped escape (render j)) (outputs w (now (page .entry)) (now (texts .entry)))) ⌝ }
+    ensures { λ r. ⌜ Means (now (s .entry)) (now (b .entry)) v
+        (λ j. outputs r (now (page .exit)) (now (texts .exit))
+        ≡ fed (now (indent .entry)) (escaped escape (render j))
+        (outputs w (now (page .entry)) (now (texts .entry)))) ⌝ }
 {
     if let Value::Index(n) = v {
         return write_number(page, texts, indent, w, n as u64, escape);
@@ -191,7 +214,10 @@ pub fn write_value(
     escape: bool,
 ) -> Writer
     requires { ⌜ Accepted (now s) (now tab) × (length (now b) ≤ 65536) × Known (now s) (now b) v ⌝ }
-    ensures { λ r. ⌜ Means (now (s .entry)) (now (b .entry)) v (λ j. outputs r (now (page .exit)) (now (texts .exit)) ≡ fed (now (indent .entry)) (escaped escape (render j)) (outputs w (now (page .entry)) (now (texts .entry)))) ⌝ }
+    ensures { λ r. ⌜ Means (now (s .entry)) (now (b .entry)) v
+        (λ j. outputs r (now (page .exit)) (now (texts .exit))
+        ≡ fed (now (indent .entry)) (escaped escape (render j))
+        (outputs w (now (page .entry)) (now (texts .entry)))) ⌝ }
 {
     let p = print::value_span(s, tab, v);
     let at = p.start;
@@ -214,8 +240,15 @@ pub fn value(
     rc: RenderContext,
 ) -> RenderContext
     requires { ⌜ Accepted (now s) (now tab) × (length (now b) ≤ 65536) × Known (now s) (now b) v ⌝ }
-    ensures { λ r. ⌜ Means (now (s .entry)) (now (b .entry)) v (λ j. (l : List ℕ) → Wrote (whole rc l) (whole r l) (now (page .exit)) (now (texts .exit)) (fed (now (indent .entry)) (escaped (not (rc .«disable_escape»)) (render j)) (outputs (rc .writer) (now (page .entry)) (now (texts .entry))))) ⌝ }
-    ensures { λ r. ⌜ ((l : List ℕ) (ent : List ℕ) (t : ℕ) → Stands (now (s .entry)) (now (b .entry)) ent t v → Writes (now (s .entry)) (now (b .entry)) (world (whole rc l) (now (page .entry)) (now (texts .entry)) (now (indent .entry)) ent) (world (whole r l) (now (page .exit)) (now (texts .exit)) (now (indent .entry)) ent) (λ x. indent-aware-write (do-escape x (render (json-of (now (s .entry)) (now (b .entry)) ent v))) x)) ⌝ }
+    ensures { λ r. ⌜ Means (now (s .entry)) (now (b .entry)) v (λ j. (l : List Scope)
+        → Wrote (whole rc l) (whole r l) (now (page .exit)) (now (texts .exit))
+        (fed (now (indent .entry)) (escaped (not (rc .«disable_escape»)) (render j))
+        (outputs (rc .writer) (now (page .entry)) (now (texts .entry))))) ⌝ }
+    ensures { λ r. ⌜ ((l : List Scope) (ent : List ℕ) (t : ℕ) → Stands (now (s .entry)) (now (b .entry)) ent t v
+        → Writes (now (s .entry)) (now (b .entry))
+        (world (whole rc l) (now (page .entry)) (now (texts .entry)) (now (indent .entry)) ent)
+        (world (whole r l) (now (page .exit)) (now (texts .exit)) (now (indent .entry)) ent)
+        (λ x. indent-aware-write (do-escape x (render (json-of (now (s .entry)) (now (b .entry)) ent v))) x)) ⌝ }
 {
     let escape = !rc.disable_escape;
     state::wrote(
@@ -233,8 +266,14 @@ pub fn partial_block_text(
     n: usize,
 ) -> RenderContext
     requires { ⌜ (rc .writer .high ≤ from) × (from + n ≤ length (now texts)) ⌝ }
-    ensures { λ r. ⌜ ((l : List ℕ) → Wrote (whole rc l) (whole r l) (now (page .exit)) (now (texts .exit)) (on (all-put (take n (drop from (now (texts .entry))))) (outputs (rc .writer) (now (page .entry)) (now (texts .entry))))) ⌝ }
-    ensures { λ r. ⌜ ((l : List ℕ) (s b indent : Bytes) (ent : List ℕ) → Writes s b (world (whole rc l) (now (page .entry)) (now (texts .entry)) indent ent) (world (whole r l) (now (page .exit)) (now (texts .exit)) indent ent) (write (take n (drop from (now (texts .entry)))))) ⌝ }
+    ensures { λ r. ⌜ ((l : List Scope)
+        → Wrote (whole rc l) (whole r l) (now (page .exit)) (now (texts .exit))
+        (on (all-put (take n (drop from (now (texts .entry)))))
+        (outputs (rc .writer) (now (page .entry)) (now (texts .entry))))) ⌝ }
+    ensures { λ r. ⌜ ((l : List Scope) (s b indent : Bytes) (ent : List ℕ)
+        → Writes s b (world (whole rc l) (now (page .entry)) (now (texts .entry)) indent ent)
+        (world (whole r l) (now (page .exit)) (now (texts .exit)) indent ent)
+        (write (take n (drop from (now (texts .entry)))))) ⌝ }
 {
     let w = rc.writer;
     let q = output::write_text(page, texts, w, from, n);

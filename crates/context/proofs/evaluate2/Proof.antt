@@ -1,35 +1,21 @@
 -- `context::evaluate2` meets its contract.
-use native.Mathlib.Omega.{arith}
-use mathlib.Core.Path.{sym, ap, _∙_, subst}
-use Rattle.context.specs.declared.Evaluated.the-variants.{Is}
-use Rattle.context.specs.Evaluated.{Evaluates, evaluated-of, some-evaluated}
+use mathlib.Core.Path.{sym, subst}
+use lib.ListN.{getD}
+use Rattle.scope.specs.Scopes.{blank}
+use Rattle.scope.specs.NameBits.{covers-full}
+use Rattle.context.specs.Evaluated.{Evaluates}
 use borrow.Author.Needs.{needs}
 use Rattle.context.proofs.evaluate2.Statement.{statement}
 use Rattle.context.proofs.evaluate2.Tie as tie
 
-evaluate-number-requires : tie.Need-evaluate-number-requires
-evaluate-number-requires c κs = c .before .before .before .before .before .pre
+evaluate-far-requires : tie.Need-evaluate-far-requires
+evaluate-far-requires c κs = let z = c .before .before .before .before in (z .pre .0, z .pre .1, z .pre .2, z .pre .3, z .pre .4, z .pre .5, λ i lt. covers-full (z .args .b .now) (z .args .ent .now) (getD (z .args .scopes) i blank))
+
+answer-of-requires : tie.Need-answer-of-requires
+answer-of-requires c κs = search needs
 
 returns : tie.Need-returns
-returns c =
-    let a = c .before .before .before .before .before .before .before .args in
-    λ g st t hp hr hb S. subst (Evaluates (a .s .now) (a .b .now) (a .ent .now) t _) (ap evaluated-of (c .if1 .taken)) (c .before .evaluate-number .ensures .1 g st t hp hr hb S)
-
-sub-decode : tie.Need-sub-decode
-sub-decode c = omega (arith, c .if1 .left)
-
-cast-decode : tie.Need-cast-decode
-cast-decode c = omega (arith, c .before .evaluate-number .ensures .0)
-
-decode-requires : tie.Need-decode-requires
-decode-requires c κs = search needs
-
-returns-2 : tie.Need-returns-2
-returns-2 c =
-    let a = c .before .before .before .before .before .before .before .before .args in
-    λ g st t hp hr hb S. subst (Evaluates (a .s .now) (a .b .now) (a .ent .now) t _) (some-evaluated (c .before .before .evaluate-number .result) (c .before .if1 .left) ∙ ap Is (sym (c .decode .ensures))) (c .before .before .evaluate-number .ensures .1 g st t hp hr hb S)
+returns c = let a = c .before .before .before .before .before .before .args in λ g st t hp hr hb S. subst (Evaluates (a .s .now) (a .b .now) (a .ent .now) t _) (sym (c .answer-of .ensures)) (c .before .evaluate-far .ensures .1 g st t hp hr hb S)
 
 pub evaluate2-spec : {M : Type 1} → statement M
-evaluate2-spec =
-    tie.close
-    (tie.spec evaluate-number-requires returns sub-decode cast-decode decode-requires returns-2)
+evaluate2-spec = tie.close (tie.spec evaluate-far-requires answer-of-requires returns)

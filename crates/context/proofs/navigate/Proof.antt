@@ -19,123 +19,100 @@ use Rattle.meaning.specs.Standing.{Stands, stands-plain}
 use Rattle.scope.specs.Names.{resolved}
 use Rattle.scope.specs.Scopes.{blocks-of}
 use Rattle.scope.specs.Standing.{ScopesStand}
-use Rattle.scope.specs.NamesLaws.{all-readable}
-use Rattle.scope.specs.Words.{scopes-of}
 use Prim.Native.Nat.{ℕ, _-_, _/_}
 use native.Mathlib.Omega.{arith}
 use Rattle.context.specs.declared.Evaluated.{Evaluated}
 use Rattle.context.specs.Evaluated.{Evaluates, Walked, numbered, evaluated-of}
-use Rattle.context.specs.Near.{scopes-near}
 use Rattle.context.specs.Numbers.{pathless-number}
-use Rattle.context.proofs.Numbers.{past-one, missing-told}
+use Rattle.context.proofs.Numbers.{past-one, nothing-told}
 use Rattle.context.proofs.Climbing.{navigated}
 use Rattle.context.proofs.Starting.{each-true}
+use mathlib.Core.List.{List}
+use Rattle.scope.specs.declared.Scope.{Scope}
+use Rattle.context.specs.Start.{started, Starts}
 use borrow.Author.Needs.{needs}
 use Rattle.context.proofs.navigate.Statement.{statement}
 use Rattle.context.proofs.navigate.Tie as tie
 
-begin-requires : tie.Need-begin-requires
-begin-requires c κs =
-    let a = c .before .before .before .before .before .args in
-    let z = c .before .before .before .before .before .pre in
-    (z .1, z .2, z .3, all-readable (a .s .now) (a .b .now) (a .ent .now) (scopes-of (a .sc .now)) (a .used) (z .4 .0) (z .4 .1), z .5, z .6)
-
 is-lone-name-requires : tie.Need-is-lone-name-requires
-is-lone-name-requires c κs = (c .before .before .before .before .before .before .before .pre .1, c .before .before .before .before .before .before .before .pre .5)
+is-lone-name-requires c κs = search needs
 
 alone-number-requires : tie.Need-alone-number-requires
 alone-number-requires c κs =
-    let a = c .before .before .before .before .before .before .before .before .before .before .before .args in
-    let z = c .before .before .before .before .before .before .before .before .before .before .before .pre in
-    let S = c .before .before .before .before .before .begin .ensures in
-    let v = c .before .before .before .before .before .begin .result .value in
-    let y = stands-plain (a .s .now) (a .b .now) (a .ent .now) (z .4 .0) (Context (v / 16)) refl (subst (Stands (a .s .now) (a .b .now) (a .ent .now) (z .4 .0)) (context-number v (c .if3 .taken)) (S .at (a .s .now) (z .4 .0) (z .4 .1) .stands)) in
-    (z .0, z .1, y .0, y .1, S .holds, S .lone (sym (c .before .before .before .is-lone-name .ensures) ∙ c .before .before .if2 .taken))
+    let z = c .before .before .before .before .before .before .before .before in
+    let a = z .args in
+    let K = z .pre .2 in
+    let S = K .starts in
+    let y = stands-plain (a .s .now) (a .b .now) (a .ent .now) (K .near .top) (Context (a .value / 16)) refl (subst (Stands (a .s .now) (a .b .now) (a .ent .now) (K .near .top)) (context-number (a .value) (c .if3 .taken)) (S .at (a .s .now) (K .near .top) (K .near .stand) .stands)) in
+    (z .pre .0, z .pre .1, y .0, y .1, S .holds, S .lone (sym (c .before .before .is-lone-name .ensures) ∙ c .before .if2 .taken))
 
 returns : tie.Need-returns
 returns c =
-    let s = c .before .before .before .before .before .before .before .before .before .before .before .before .args .s .now in
-    let b = c .before .before .before .before .before .before .before .before .before .before .before .before .args .b .now in
-    let ent = c .before .before .before .before .before .before .before .before .before .before .before .before .args .ent .now in
-    let used = c .before .before .before .before .before .before .before .before .before .before .before .before .args .used in
-    let segs = segments-at (c .before .before .before .before .before .before .before .before .before .before .before .before .args .n) (bits b) (c .before .before .before .before .before .before .before .before .before .before .before .before .args .p) in
-    let l = scopes-of (c .before .before .before .before .before .before .before .before .before .before .before .before .args .sc .now) in
-    let from = c .before .before .before .before .before .before .begin .result in
-    let e = ap₂ (λ (x y : Bool). x && y) (c .before .before .before .before .before .if1 .taken) (sym (c .before .before .before .before .is-lone-name .ensures) ∙ c .before .before .before .if2 .taken) in (
+    let a = c .before .before .before .before .before .before .before .before .before .args in
+    let s = a .s .now in
+    let b = a .b .now in
+    let ent = a .ent .now in
+    let segs = segments-at (a .n) (bits b) (a .p) in
+    let e = ap₂ (λ (x y : Bool). x && y) (c .before .before .before .before .if1 .taken) (sym (c .before .before .before .is-lone-name .ensures) ∙ c .before .before .if2 .taken) in (
       c .alone-number .ensures .0,
-      λ t st.
+      λ l used t S st.
           subst (λ (y : Got ScopedJson). Evaluates s b ent t y (evaluated-of (c .alone-number .result)))
           (sym (ap (λ (f : Bool). follow (json-at s 0) f (parse-json-visitor segs (blocks-of s b ent l used))) e
-          ∙ c .before .before .before .before .before .before .begin .ensures .at s t st .leads (json-at s 0) true
-          ∙ ap (λ (w : Value). follow (json-at s 0) true (resolved s b ent w (merge-json-path (segments-at (from .left) (bits b) (from .place))))) (context-number (from .value) (c .before .if3 .taken))))
+          ∙ S .at s t st .leads (json-at s 0) true
+          ∙ ap (λ (w : Value). follow (json-at s 0) true (resolved s b ent w (merge-json-path (segments-at (a .left) (bits b) (a .place))))) (context-number (a .value) (c .before .if3 .taken))))
           (c .alone-number .ensures .1 t),
     )
 
 quickly-requires : tie.Need-quickly-requires
 quickly-requires c κs =
-    let a = c .before .before .before .before .before .before .before .args in
-    let z = c .before .before .before .before .before .before .before .pre in
-    let S = c .before .begin .ensures in
-    (z .0, z .1, record { used = z .4 .0; room = z .4 .1 .entries; stands = S .at (a .s .now) (z .4 .0) (z .4 .1) .stands }, S .holds)
+    let z = c .before .before .before .before .before in
+    let a = z .args in
+    let K = z .pre .2 in
+    (z .pre .0, z .pre .1, record { used = K .near .top; room = K .near .stand .entries; stands = K .starts .at (a .s .now) (K .near .top) (K .near .stand) .stands }, K .starts .holds)
 
 slow-number-requires : tie.Need-slow-number-requires
 slow-number-requires c κs =
-    let a = c .before .before .before .before .before .before .before .before .before .args in
-    let z = c .before .before .before .before .before .before .before .before .before .pre in
-    let S = c .before .before .before .begin .ensures in
-    let N = scopes-near (a .s .now) (a .b .now) (a .ent .now) (a .sc .now) (a .used) (z .4 .0) (z .2) (z .3) (z .4 .1) in
-    let A = S .at (a .s .now) (N .top) (N .stand) in (
-      z .0,
-      z .1,
-      record { used = N .top; room = N .stand .entries; stands = A .stands },
-      S .holds,
-      record { top = N .top; near = N .near; stands = A .stands; present = A .present },
-    )
+    let z = c .before .before .before .before .before .before .before in
+    let a = z .args in
+    let K = z .pre .2 in
+    let A = K .starts .at (a .s .now) (K .near .top) (K .near .stand) in
+    (z .pre .0, z .pre .1, record { used = K .near .top; room = K .near .stand .entries; stands = A .stands }, K .starts .holds, record { top = K .near .top; near = K .near .near; stands = A .stands; present = A .present })
 
 -- where the path leads, if not by recursive lookup
-plainly : (c : tie.Joined1) (y : Evaluated)
-    → Walked (c .before .before .before .before .before .before .before .args .s .now) (c .before .before .before .before .before .before .before .args .b .now) (c .before .before .before .before .before .before .before .args .ent .now) (decoded (c .before .begin .result .value)) (c .before .begin .result .place) (c .before .begin .result .left) y
-    → (t : ℕ) → ScopesStand (c .before .before .before .before .before .before .before .args .s .now) (c .before .before .before .before .before .before .before .args .b .now) (c .before .before .before .before .before .before .before .args .ent .now) (scopes-of (c .before .before .before .before .before .before .before .args .sc .now)) (c .before .before .before .before .before .before .before .args .used) t
-    → Evaluates (c .before .before .before .before .before .before .before .args .s .now) (c .before .before .before .before .before .before .before .args .b .now) (c .before .before .before .before .before .before .before .args .ent .now) t (navigate (json-at (c .before .before .before .before .before .before .before .args .s .now) 0) (segments-at (c .before .before .before .before .before .before .before .args .n) (bits (c .before .before .before .before .before .before .before .args .b .now)) (c .before .before .before .before .before .before .before .args .p)) (blocks-of (c .before .before .before .before .before .before .before .args .s .now) (c .before .before .before .before .before .before .before .args .b .now) (c .before .before .before .before .before .before .before .args .ent .now) (scopes-of (c .before .before .before .before .before .before .before .args .sc .now)) (c .before .before .before .before .before .before .before .args .used)) (c .before .before .before .before .before .before .before .args .recursive)) y
-plainly c =
-    let a = c .before .before .before .before .before .before .before .args in
-    let from = c .before .begin .result in
+plainly : (c : tie.Joined1) (y : Evaluated) → Walked (c .before .before .before .before .before .args .s .now) (c .before .before .before .before .before .args .b .now) (c .before .before .before .before .before .args .ent .now) (decoded (c .before .before .before .before .before .args .value)) (c .before .before .before .before .before .args .place) (c .before .before .before .before .before .args .left) y
+    → (l : List Scope) (used t : ℕ) → Starts (c .before .before .before .before .before .args .b .now) (c .before .before .before .before .before .args .ent .now) l used (c .before .before .before .before .before .args .p) (c .before .before .before .before .before .args .n) (started (c .before .before .before .before .before .args .value) (c .before .before .before .before .before .args .place) (c .before .before .before .before .before .args .left)) → ScopesStand (c .before .before .before .before .before .args .s .now) (c .before .before .before .before .before .args .b .now) (c .before .before .before .before .before .args .ent .now) l used t
+    → Evaluates (c .before .before .before .before .before .args .s .now) (c .before .before .before .before .before .args .b .now) (c .before .before .before .before .before .args .ent .now) t (navigate (json-at (c .before .before .before .before .before .args .s .now) 0) (segments-at (c .before .before .before .before .before .args .n) (bits (c .before .before .before .before .before .args .b .now)) (c .before .before .before .before .before .args .p)) (blocks-of (c .before .before .before .before .before .args .s .now) (c .before .before .before .before .before .args .b .now) (c .before .before .before .before .before .args .ent .now) l used) (c .before .before .before .before .before .args .recursive)) y
+plainly c y W l used t S st =
+    let a = c .before .before .before .before .before .args in
     let segs = segments-at (a .n) (bits (a .b .now)) (a .p) in
-    let k : (a .recursive && is-lone-name segs) ≡ true → context-place (decoded (from .value)) ≡ none =
+    let k : (a .recursive && is-lone-name segs) ≡ true → context-place (decoded (a .value)) ≡ none =
     λ e.
     let each = each-true (a .recursive) (is-lone-name segs) e in
-    ⊎-elim (λ w. pathless-number (from .value) (w .4 .left))
+    ⊎-elim (λ w. pathless-number (a .value) (w .3 .left))
     (⊎-elim (λ w. differ (sym (each .1) ∙ sym (w .1 .ensures) ∙ w .2 .left)) (λ w. differ (sym (each .0) ∙ w .left)))
     (c .if1 .came) in
-    navigated (a .s .now) (a .b .now) (a .ent .now) (a .tab .now) (c .before .before .before .before .before .before .before .pre .0) (scopes-of (a .sc .now)) (a .used) (a .p) (a .n) (a .recursive) from (c .before .begin .ensures) k
+    navigated (a .s .now) (a .b .now) (a .ent .now) (a .tab .now) (c .before .before .before .before .before .pre .0) l used (a .p) (a .n) (a .recursive) (started (a .value) (a .place) (a .left)) S k y W t st
 
 returns-2 : tie.Need-returns-2
 returns-2 c = (c .slow-number .ensures .0, plainly (c .before .before .before) (evaluated-of (c .slow-number .result)) (c .slow-number .ensures .1))
 
 returns-3 : tie.Need-returns-3
 returns-3 c =
-    let a = c .before .before .before .before .before .before .before .before .before .before .args in
-    let from = c .before .before .before .before .begin .result in (
-      omega arith,
-      plainly (c .before .before .before) (evaluated-of 1) (subst (Walked (a .s .now) (a .b .now) (a .ent .now) (decoded (from .value)) (from .place) (from .left)) (ap numbered (c .if5 .taken) ∙ sym missing-told) (c .before .before .quickly .ensures .told (c .before .if4 .left))),
-    )
+    let a = c .before .before .before .before .before .before .before .before .args in
+    (omega arith, plainly (c .before .before .before) (evaluated-of 1) (subst (Walked (a .s .now) (a .b .now) (a .ent .now) (decoded (a .value)) (a .place) (a .left)) (ap numbered (c .if5 .taken) ∙ sym nothing-told) (c .before .before .quickly .ensures .told (c .before .if4 .left))))
 
 sub-result : tie.Need-sub-result
 sub-result c = omega (arith, c .before .if4 .left)
 
 returns-4 : tie.Need-returns-4
 returns-4 c =
-    let a = c .before .before .before .before .before .before .before .before .before .before .args in
-    let from = c .before .before .before .before .begin .result in (
-      omega (arith, c .before .before .quickly .ensures .small),
-      plainly (c .before .before .before) (evaluated-of (c .before .before .quickly .result - 1)) (subst (Walked (a .s .now) (a .b .now) (a .ent .now) (decoded (from .value)) (from .place) (from .left)) (past-one (c .before .before .quickly .result) (c .before .if4 .left) (c .if5 .left)) (c .before .before .quickly .ensures .told (c .before .if4 .left))),
-    )
+    let a = c .before .before .before .before .before .before .before .before .args in
+    (omega (arith, c .before .before .quickly .ensures .small), plainly (c .before .before .before) (evaluated-of (c .before .before .quickly .result - 1)) (subst (Walked (a .s .now) (a .b .now) (a .ent .now) (decoded (a .value)) (a .place) (a .left)) (past-one (c .before .before .quickly .result) (c .before .if4 .left) (c .if5 .left)) (c .before .before .quickly .ensures .told (c .before .if4 .left))))
 
 pub navigate-spec : {M : Type 1} → statement M
 navigate-spec =
     tie.close
     (tie.spec
-    begin-requires
     is-lone-name-requires
     alone-number-requires
     returns

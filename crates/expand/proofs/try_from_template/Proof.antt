@@ -28,9 +28,9 @@ enum-known-x-2 c = search needs
 
 path-value-requires : tie.Need-path-value-requires
 path-value-requires c κs =
-    let z = c .before .before .before .before .before .before .before .before .before in
+    let z = c .before .before .before .before .before .before .before .before in
     let x = short-read (z .args .d) (bits (z .args .b .now)) (bits-binary (z .args .b .now)) (z .args .p) (z .pre .5) _ (sym (c .before .x2 .given .1) ∙ c .before .before .before .short-at .ensures) in
-    (z .pre .0, z .pre .1, z .pre .2, z .pre .3, z .pre .4, x .2, z .pre .6)
+    (z .pre .0, z .pre .1, z .pre .2, z .pre .3, z .pre .4, x .2)
 
 with-one-requires : tie.Need-with-one-requires
 with-one-requires c κs = search needs
@@ -40,17 +40,17 @@ enum-known-x-3 c = search needs
 
 expand-all-requires : tie.Need-expand-all-requires
 expand-all-requires c κs =
-    let z = c .before .before .before .before .before .before .before .before .before in
+    let z = c .before .before .before .before .before .before .before .before in
     let y = short-read (z .args .d) (bits (z .args .b .now)) (bits-binary (z .args .b .now)) (z .args .p) (z .pre .5) _ (sym (c .before .x3 .given .1) ∙ c .before .before .before .short-at .ensures) in
     let x = call-read (z .args .d) (bits (z .args .b .now)) (z .args .p) (z .pre .5) _ (y .0) in
-    (z .pre .0, z .pre .1, z .pre .2, z .pre .3, z .pre .4, few-params (z .args .d) (bits (z .args .b .now)) (z .args .p) _ (bits-binary (z .args .b .now)) (y .0), x .params, z .pre .6)
+    (z .pre .0, z .pre .1, z .pre .2, z .pre .3, z .pre .4, few-params (z .args .d) (bits (z .args .b .now)) (z .args .p) _ (bits-binary (z .args .b .now)) (y .0), x .params)
 
 expand-hash-requires : tie.Need-expand-hash-requires
 expand-hash-requires c κs =
-    let z = c .before .before .before .before .before .before .before .before .before .before in
+    let z = c .before .before .before .before .before .before .before .before .before in
     let y = short-read (z .args .d) (bits (z .args .b .now)) (bits-binary (z .args .b .now)) (z .args .p) (z .pre .5) _ (sym (c .before .before .x3 .given .1) ∙ c .before .before .before .before .short-at .ensures) in
     let x = call-read (z .args .d) (bits (z .args .b .now)) (z .args .p) (z .pre .5) _ (y .0) in
-    (z .pre .0, z .pre .1, z .pre .2, z .pre .3, z .pre .4, few-pairs (z .args .d) (bits (z .args .b .now)) (z .args .p) _ (bits-binary (z .args .b .now)) (y .0), x .pairs, z .pre .6)
+    (z .pre .0, z .pre .1, z .pre .2, z .pre .3, z .pre .4, few-pairs (z .args .d) (bits (z .args .b .now)) (z .args .p) _ (bits-binary (z .args .b .now)) (y .0), x .pairs)
 
 gathered-requires : tie.Need-gathered-requires
 gathered-requires c κs = search needs
@@ -63,21 +63,21 @@ from-template-requires c κs = search needs
 
 returns : tie.Need-returns
 returns c =
-    let z = c .before .before .before .before .before .before .before .before .before .before in
+    let z = c .before .before .before .before .before .before .before .before .before in
     let x = short-read (z .args .d) (bits (z .args .b .now)) (bits-binary (z .args .b .now)) (z .args .p) (z .pre .5) _ (sym (c .before .before .x .given .1) ∙ c .before .before .before .before .short-at .ensures) in
     λ g st t h. subst (IsTemplate (z .args .s .now) (z .args .b .now) (z .args .ent .now) t _) (sym (c .bare .ensures))
     (subst (λ (y : template.Call). IsTemplate (z .args .s .now) (z .args .b .now) (z .args .ent .now) t (rules.try-from-template g st y) (bare (c .before .before .x .given .0 .0))) (sym (x .0)) (bare-given (z .args .s .now) (z .args .b .now) (z .args .ent .now) t _ (x .1) g st))
 
 returns-2 : tie.Need-returns-2
 returns-2 c =
-    let z = c .before .before .before .before .before .before .before .before .before .before .before in
+    let z = c .before .before .before .before .before .before .before .before .before .before in
     let x = short-read (z .args .d) (bits (z .args .b .now)) (bits-binary (z .args .b .now)) (z .args .p) (z .pre .5) _ (sym (c .before .before .before .x2 .given .1) ∙ c .before .before .before .before .before .short-at .ensures) in
     λ g st t h. subst (IsTemplate (z .args .s .now) (z .args .b .now) (z .args .ent .now) t _) (sym (c .with-one .ensures))
     (subst (λ (y : template.Call). IsTemplate (z .args .s .now) (z .args .b .now) (z .args .ent .now) t (rules.try-from-template g st y) (with-one (c .before .before .before .x2 .given .0 .0) (c .before .path-value .result))) (sym (x .0)) (one-given (z .args .s .now) (z .args .b .now) (z .args .ent .now) t _ (x .1) g st _ (c .before .path-value .result) (c .before .path-value .ensures g st t h)))
 
 returns-3 : tie.Need-returns-3
 returns-3 c =
-    let z = c .before .before .before .before .before .before .before .before .before .before .before .before in
+    let z = c .before .before .before .before .before .before .before .before .before .before .before in
     let y = short-read (z .args .d) (bits (z .args .b .now)) (bits-binary (z .args .b .now)) (z .args .p) (z .pre .5) _ (sym (c .before .before .before .before .x3 .given .1) ∙ c .before .before .before .before .before .before .short-at .ensures) in
     let x = call-read (z .args .d) (bits (z .args .b .now)) (z .args .p) (z .pre .5) _ (y .0) in
     λ g st t h. subst (IsTemplate (z .args .s .now) (z .args .b .now) (z .args .ent .now) t _) (sym (c .gathered .ensures))

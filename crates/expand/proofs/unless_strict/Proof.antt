@@ -1,10 +1,9 @@
 -- `expand::unless_strict` meets its contract.
-use borrow.Author.Needs.{needs}
 use Rattle.expand.proofs.unless_strict.Statement.{statement}
 use Rattle.expand.proofs.unless_strict.Tie as tie
 
 returns : tie.Need-returns
-returns c = search needs
+returns c = rw (c .if1 .taken)
 
 returns-2 : tie.Need-returns-2
 returns-2 c = rw (c .if1 .left)

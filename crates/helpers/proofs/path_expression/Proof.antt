@@ -15,7 +15,7 @@ field-requires c κs = search needs
 
 returns : tie.Need-returns
 returns c =
-    let a = c .before .before .before .before .before .before .before .before .args in
+    let a = c .before .before .before .before .before .before .before .args in
     λ g st t d p ibw h H W. path-called (a .s .now) (a .b .now) (a .ent .now) t g st ibw d p (a .q) H W _ (c .before .field .result) (c .before .before .skip-path .ensures) (c .before .field .ensures) (c .if1 .taken)
 
 bare-path-requires : tie.Need-bare-path-requires
@@ -23,7 +23,7 @@ bare-path-requires c κs = search needs
 
 returns-2 : tie.Need-returns-2
 returns-2 c =
-    let a = c .before .before .before .before .before .before .before .before .before .args in
+    let a = c .before .before .before .before .before .before .before .before .args in
     λ g st t d p ibw h H W. c .bare-path .ensures g st t d p ibw h H W
     (sym (ap (field (bits (a .b .now)) 8) (c .before .before .before .skip-path .ensures)) ∙ sym (c .before .before .field .ensures) ∙ c .before .if1 .left)
 

@@ -21,10 +21,10 @@ returns-2 : tie.Need-returns-2
 returns-2 c = sym (ap₂ with-body (c .before .before .before .if1 .left) (c .before .x .given .1))
 
 returns-3 : tie.Need-returns-3
-returns-3 c = search needs
+returns-3 c = sym (ap₂ with-body (c .before .before .if1 .left) (c .enum-told .given .1))
 
 returns-4 : tie.Need-returns-4
-returns-4 c = search needs
+returns-4 c = sym (ap₂ with-body (c .before .before .if1 .left) (c .enum-told2 .given .1))
 
 pub with-body-spec : {M : Type 1} → statement M
 with-body-spec =

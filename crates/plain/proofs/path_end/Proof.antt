@@ -6,10 +6,6 @@ use Rattle.plain.specs.Reading.{raw-fits, name-ends, local-ends}
 use borrow.Author.Needs.{needs}
 use Rattle.plain.proofs.path_end.Statement.{statement}
 use Rattle.plain.proofs.path_end.Tie as tie
-use Rattle.plain.proofs.path_end.Reads as reads
-use Rattle.plain.proofs.path_end.Lts as lts
-use Rattle.bits.proofs.field.Reads as field-reads
-use Rattle.plain.proofs.far_end.Reads as far-end-reads
 
 add-q : tie.Need-add-q
 add-q c = let z = c .before in let B = bits (z .args .b .now) in omega (arith, raw-fits B (bits-binary (z .args .b .now)) (z .args .p) (z .pre .1) (z .args .m) (z .pre .2), z .pre .0, bits-size (z .args .b .now))

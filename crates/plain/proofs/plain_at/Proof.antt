@@ -1,53 +1,73 @@
 -- `plain::plain_at` meets its contract.
+use mathlib.Core.Logic.{⊎-elim}
 use native.Mathlib.Omega.{arith}
-use mathlib.Core.Logic.{⊎-elim, inl, inr}
-use mathlib.Core.Path.{refl}
-use Prim.Native.Nat.{ℕ, _+_}
-use Rattle.rules.specs.Bits.{bits}
 use Rattle.rules.specs.BundleLaws.{bits-size, bits-binary}
-use Rattle.rules.specs.Bundle.{path}
-use Rattle.parts.specs.HoldsLaws.{string-in}
-use Rattle.parts.specs.Parts.{path-raw}
+use Rattle.rules.specs.Bits.{bits}
 use Rattle.template.specs.Content.{element-fits}
-use mathlib.Core.Bool.{true, false}
-use borrow.Author.Tests.{lt-leb, le-leb}
-use Rattle.plain.specs.Reading.{raw-count, text-read, path-kind, path-there, path-read, form-text, form-other, form-path}
+use Rattle.plain.specs.Reading.{raw-count, text-read, other-read, kind-here, expression-read, no-path, path-there, more-there, path-behind, path-read}
 use borrow.Author.Needs.{needs}
 use Rattle.plain.proofs.plain_at.Statement.{statement}
 use Rattle.plain.proofs.plain_at.Tie as tie
-use Rattle.plain.proofs.plain_at.Reads as reads
-use Rattle.plain.proofs.plain_at.Lts as lts
-use Rattle.bits.proofs.field.Reads as field-reads
-use Rattle.plain.proofs.path_end.Reads as path-end-reads
 
 field-requires : tie.Need-field-requires
 field-requires c κs = search needs
 
 returns : tie.Need-returns
-returns c = let z = (c .before .before .before) in (text-read (z .args .d) (bits (z .args .b .now)) (bits-binary (z .args .b .now)) (z .args .p) (z .pre .1) ((c .before) .field .result) ((c .before) .field .ensures) (c .if1 .taken), form-text (z .args .d) (bits (z .args .b .now)) (bits-binary (z .args .b .now)) (z .args .p) (z .pre .1) ((c .before) .field .result) ((c .before) .field .ensures) (c .if1 .taken))
+returns c =
+    let z = c .before .before .before in
+    let b = z .args .b .now in
+    text-read (z .args .d) (bits b) (bits-binary b) (z .args .p) (z .pre .1) (c .before .field .result) (c .before .field .ensures) (c .if1 .taken)
 
 returns-2 : tie.Need-returns-2
-returns-2 c = let z = (c .before .before .before .before .before) in (tt, form-other (z .args .d) (bits (z .args .b .now)) (bits-binary (z .args .b .now)) (z .args .p) (z .pre .1) ((c .before .before .before) .field .result) ((c .before .before .before) .field .ensures) (omega (arith, (c .before .before) .if1 .left)) ((c .before) .if2 .taken) (c .if3 .taken))
+returns-2 c =
+    let z = c .before .before .before .before in
+    let b = z .args .b .now in
+    other-read (z .args .d) (bits b) (bits-binary b) (z .args .p) (z .pre .1) (c .before .before .field .result) (c .before .before .field .ensures) (c .if2 .taken)
 
-add-path-end : tie.Need-add-path-end
-add-path-end c = let z = (c .before .before .before .before) in omega (arith, z .pre .0, element-fits 16 (z .args .d) (bits (z .args .b .now)) (z .args .p) (z .pre .1), bits-size (z .args .b .now))
+add-v : tie.Need-add-v
+add-v c =
+    let z = c .before .before .before .before .before in
+    omega (arith, z .pre .0, element-fits 16 (z .args .d) (bits (z .args .b .now)) (z .args .p) (z .pre .1), bits-size (z .args .b .now))
 
 path-end-requires : tie.Need-path-end-requires
-path-end-requires c κs = let z = (c .before .before .before .before) in (z .pre .0, path-there (z .args .d) (bits (z .args .b .now)) (bits-binary (z .args .b .now)) (z .args .p) (z .pre .1) ((c .before .before) .field .result) ((c .before .before) .field .ensures) _ (path-kind (z .args .d) (bits (z .args .b .now)) (bits-binary (z .args .b .now)) (z .args .p) (z .pre .1) ((c .before .before) .field .result) ((c .before .before) .field .ensures) _ refl (⊎-elim (λ w. inr (w .1 .left)) (λ w. inl (w .left)) (c .if2 .came))), raw-count (z .args .d) (bits (z .args .b .now)) (bits-binary (z .args .b .now)) (z .args .p) (z .pre .1) ((c .before .before) .field .result) ((c .before .before) .field .ensures))
+path-end-requires c κs =
+    let z = c .before .before .before .before .before in
+    let b = z .args .b .now in
+    let f = c .before .before .before .field in
+    let K = kind-here (z .args .d) (bits b) (bits-binary b) (z .args .p) (z .pre .1) (f .result) (f .ensures) (c .before .before .if1 .left) (omega (arith, c .before .if2 .left)) in
+    (z .pre .0, path-there (z .args .d) (bits b) (bits-binary b) (z .args .p) (z .pre .1) (f .result) (f .ensures) _ K (c .if3 .taken), raw-count (z .args .d) (bits b) (bits-binary b) (z .args .p) (z .pre .1) (f .result) (f .ensures))
 
 field-requires-2 : tie.Need-field-requires-2
 field-requires-2 c κs = search needs
 
+add-t17 : tie.Need-add-t17
+add-t17 c =
+    let z = c .before .before .before .before .before .before .before .before in
+    let b = z .args .b .now in
+    let f = c .before .before .before .before .before .before .field in
+    let K = kind-here (z .args .d) (bits b) (bits-binary b) (z .args .p) (z .pre .1) (f .result) (f .ensures) (c .before .before .before .before .before .if1 .left) (omega (arith, c .before .before .before .before .if2 .left)) in
+    omega (arith, z .pre .0, bits-size b, path-behind (z .args .d) (bits b) (bits-binary b) (z .args .p) (z .pre .1) (f .result) (f .ensures) _ K (c .before .before .before .if3 .taken) (c .before .before .path-end .result) (c .before .field2 .result) (c .before .before .path-end .ensures) (c .before .field2 .ensures) (c .if4 .taken))
+
 returns-3 : tie.Need-returns-3
 returns-3 c =
-    let z = (c .before .before .before .before .before .before .before) in
-    (tt, form-path (z .args .d) (bits (z .args .b .now)) (bits-binary (z .args .b .now)) (z .args .p) (z .pre .1) ((c .before .before .before .before .before) .field .result) ((c .before .before .before .before .before) .field .ensures) (omega (arith, (c .before .before .before .before) .if1 .left)) (⊎-elim (λ w. inr (w .1 .left)) (λ w. inl (w .left)) ((c .before .before .before) .if2 .came)) ((c .before .before) .path-end .result) ((c .before) .field2 .result) ((c .before .before) .path-end .ensures) ((c .before) .field2 .ensures) false (lt-leb ((c .before) .field2 .result) 1 (c .if4 .taken)))
+    let z = c .before .before .before .before .before .before .before .before in
+    let b = z .args .b .now in
+    let f = c .before .before .before .before .before .before .field in
+    let K = kind-here (z .args .d) (bits b) (bits-binary b) (z .args .p) (z .pre .1) (f .result) (f .ensures) (c .before .before .before .before .before .if1 .left) (omega (arith, c .before .before .before .before .if2 .left)) in
+    path-read (z .args .d) (bits b) (bits-binary b) (z .args .p) (z .pre .1) (f .result) (f .ensures) _ K (c .before .before .before .if3 .taken) (c .before .before .path-end .result) (c .before .field2 .result) (c .before .before .path-end .ensures) (c .before .field2 .ensures) (c .if4 .taken)
 
 returns-4 : tie.Need-returns-4
 returns-4 c =
-    let z = (c .before .before .before .before .before .before .before) in
-    let K = path-kind (z .args .d) (bits (z .args .b .now)) (bits-binary (z .args .b .now)) (z .args .p) (z .pre .1) ((c .before .before .before .before .before) .field .result) ((c .before .before .before .before .before) .field .ensures) _ refl (⊎-elim (λ w. inr (w .1 .left)) (λ w. inl (w .left)) ((c .before .before .before) .if2 .came)) in
-    (path-read (z .args .d) (bits (z .args .b .now)) (bits-binary (z .args .b .now)) (z .args .p) (z .pre .1) ((c .before .before .before .before .before) .field .result) ((c .before .before .before .before .before) .field .ensures) _ K ((c .before .before) .path-end .result) ((c .before) .field2 .result) ((c .before .before) .path-end .ensures) ((c .before) .field2 .ensures) (omega (arith, c .if4 .left)), form-path (z .args .d) (bits (z .args .b .now)) (bits-binary (z .args .b .now)) (z .args .p) (z .pre .1) ((c .before .before .before .before .before) .field .result) ((c .before .before .before .before .before) .field .ensures) (omega (arith, (c .before .before .before .before) .if1 .left)) (⊎-elim (λ w. inr (w .1 .left)) (λ w. inl (w .left)) ((c .before .before .before) .if2 .came)) ((c .before .before) .path-end .result) ((c .before) .field2 .result) ((c .before .before) .path-end .ensures) ((c .before) .field2 .ensures) true (le-leb ((c .before) .field2 .result) 1 (omega (arith, c .if4 .left))))
+    let z = c .before .before .before .before .before in
+    let b = z .args .b .now in
+    let f = c .before .before .before .field in
+    let K = kind-here (z .args .d) (bits b) (bits-binary b) (z .args .p) (z .pre .1) (f .result) (f .ensures) (c .before .before .if1 .left) (omega (arith, c .before .if2 .left)) in (
+      expression-read (z .args .d) (bits b) (bits-binary b) (z .args .p) (z .pre .1) (f .result) (f .ensures) _ K,
+      ⊎-elim
+          (λ w. more-there (z .args .d) (bits b) (bits-binary b) (z .args .p) (z .pre .1) (f .result) (f .ensures) _ K (w .0 .taken) (w .1 .result) (w .2 .result) (w .1 .ensures) (w .2 .ensures) (omega (arith, w .3 .left)))
+          (λ w. no-path (z .args .d) (bits b) (bits-binary b) (z .args .p) (z .pre .1) (f .result) (f .ensures) _ K (w .left))
+          (c .if3 .came),
+    )
 
 pub plain-at-spec : {M : Type 1} → statement M
 plain-at-spec =
@@ -56,8 +76,9 @@ plain-at-spec =
     field-requires
     returns
     returns-2
-    add-path-end
+    add-v
     path-end-requires
     field-requires-2
+    add-t17
     returns-3
     returns-4)

@@ -1,24 +1,16 @@
 -- `plain::put_bytes` meets its contract.
-use Prim.Native.Nat.{ℕ, _+_, _-_, _*_, _/_, _%_}
-use mathlib.Core.Bool.{Bool, true, false}
-use mathlib.Core.Path.{_≡_, refl, sym, ap, _∙_}
+use Prim.Native.Nat.{_/_, _%_}
+use mathlib.Core.Bool.{Bool, true}
+use mathlib.Core.Path.{refl, sym, ap, _∙_}
 use native.Mathlib.Omega.{arith}
-use lib.ListN.{length, take, drop, length-take, length-drop}
-use Rattle.rules.specs.Bytes.{Bytes, pick}
-use Rattle.rules.specs.Bits.{bits}
-use Rattle.rules.specs.BundleLaws.{bits-binary}
-use Rattle.rules.specs.Value.{render}
+use lib.ListN.{length}
+use Rattle.rules.specs.Bytes.{pick}
 use Rattle.output.specs.Writer.{place-of}
-use Rattle.output.specs.Outputs.{outputs}
 use Rattle.output.proofs.Outputs.{on-texts, on-page}
-use Rattle.support.specs.Feed.{escaped, fed}
 use Rattle.direct.specs.Direct.{behind, set-bytes, written-text, plain-means, none-set, bytes-set}
 use borrow.Author.Needs.{needs}
 use Rattle.plain.proofs.put_bytes.Statement.{statement}
 use Rattle.plain.proofs.put_bytes.Tie as tie
-use Rattle.plain.proofs.put_bytes.Reads as reads
-use Rattle.plain.proofs.put_bytes.Lts as lts
-use Rattle.direct.proofs.set_bytes.Reads as set-bytes-reads
 
 set-bytes-requires : tie.Need-set-bytes-requires
 set-bytes-requires c κs = (c .before .before .before .before .before) .pre .0

@@ -1,6 +1,6 @@
 -- `plain::put_number` meets its contract.
-use Prim.Native.Nat.{ℕ, _+_, _-_, _*_, _/_, _%_}
-use mathlib.Core.Bool.{Bool, true, false}
+use Prim.Native.Nat.{_-_, _/_, _%_}
+use mathlib.Core.Bool.{true, false}
 use mathlib.Core.Path.{_≡_, refl, sym, ap, _∙_}
 use native.Mathlib.Omega.{arith}
 use lib.ListN.{length, take, drop, length-take, length-drop}
@@ -9,13 +9,13 @@ use Rattle.rules.specs.Bytes.{Bytes, run}
 use Rattle.rules.specs.Value.{render}
 use Rattle.output.specs.Outputs.{outputs}
 use Rattle.support.specs.Feed.{escaped, fed}
-use Rattle.places.specs.Nodes.{short}
-use Rattle.print.proofs.Spans.{span-within, span-means}
 use Rattle.support.specs.Runs.{quiet-byte}
-use Rattle.print.proofs.Calm.{calm-is, calm-means}
-use Rattle.value.specs.Numbers.{decoded}
-use Rattle.print.specs.Span.{calm-value}
 use Rattle.direct.specs.Direct.{behind}
+use Rattle.places.specs.Nodes.{short}
+use Rattle.value.specs.Numbers.{decoded}
+use Rattle.print.proofs.Spans.{span-within, span-means}
+use Rattle.print.proofs.Calm.{calm-is, calm-means}
+use Rattle.print.specs.Span.{calm-value}
 use Rattle.plain.specs.Put.{either-escaped, number-by}
 use borrow.Author.Needs.{needs}
 use Rattle.plain.proofs.put_number.Statement.{statement}

@@ -1,26 +1,20 @@
 -- `plain::put_text` meets its contract.
-use Prim.Native.Nat.{ℕ, _+_, _-_, _*_, _/_, _%_}
-use mathlib.Core.Bool.{Bool, true, false}
-use mathlib.Core.Path.{_≡_, refl, sym, ap, _∙_}
+use Prim.Native.Nat.{_-_}
+use mathlib.Core.Bool.{Bool}
+use mathlib.Core.Path.{refl, sym, ap, _∙_}
 use native.Mathlib.Omega.{arith}
-use lib.ListN.{length, take, drop, length-take, length-drop}
-use borrow.Author.Tests.{not-false}
+use lib.ListN.{length}
 use Rattle.rules.specs.Bytes.{Bytes, pick}
 use Rattle.rules.specs.Bits.{bits}
 use Rattle.rules.specs.BundleLaws.{bits-binary}
-use Rattle.rules.specs.Value.{render}
 use Rattle.output.specs.Writer.{place-of}
 use Rattle.output.specs.Outputs.{outputs}
 use Rattle.output.proofs.Outputs.{on-texts, on-page}
-use Rattle.support.specs.Feed.{escaped, fed}
+use Rattle.support.specs.Feed.{fed}
 use Rattle.direct.specs.Direct.{behind, set-short, written-text, short-bytes, short-packed, none-set, short-set}
 use borrow.Author.Needs.{needs}
 use Rattle.plain.proofs.put_text.Statement.{statement}
 use Rattle.plain.proofs.put_text.Tie as tie
-use Rattle.plain.proofs.put_text.Reads as reads
-use Rattle.plain.proofs.put_text.Lts as lts
-use Rattle.bits.proofs.field.Reads as field-reads
-use Rattle.direct.proofs.set_short.Reads as set-short-reads
 
 field-requires : tie.Need-field-requires
 field-requires c κs = search needs

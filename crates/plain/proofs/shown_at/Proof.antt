@@ -1,29 +1,28 @@
 -- `plain::shown_at` meets its contract.
+use Prim.Native.Nat.{_+_, _<_}
+use mathlib.Core.Bool.{Bool, _&&_}
+use mathlib.Core.Path.{refl, sym, ap, _∙_, subst}
 use native.Mathlib.Omega.{arith}
-use mathlib.Core.Bool.{Bool, true, false, _&&_}
-use mathlib.Core.Logic.{inl, inr}
-use mathlib.Core.Path.{_≡_, refl, sym, ap, _∙_, subst}
-use Prim.Native.Nat.{ℕ, _+_, _-_, _<_}
+use borrow.Author.Tests.{eq-eqb}
 use Rattle.rules.specs.Bits.{bits}
-use Rattle.rules.specs.BundleLaws.{bits-size}
+use Rattle.rules.specs.BundleLaws.{bits-size, bits-binary}
+use Rattle.rules.specs.Registry.{get-helper}
+use Rattle.layout.specs.Text.{text-at}
+use Rattle.parts.specs.Says.{path-at}
 use Rattle.template.specs.Content.{element-fits}
-use Rattle.scope.specs.Words.{scopes-of}
-use Rattle.value.specs.Numbers.{decoded}
-use Rattle.helpers.specs.declared.Shows.{Shows}
-use Rattle.helpers.specs.declared.Shows.the-variants as shows
-use Rattle.helpers.specs.Does.{shows-of, shows-helper, shows-bad, shows-nothing, shows-value}
-use Rattle.plain.specs.Plain.{PathIs, PlainIs, is-plain, ShowsAt}
-use Rattle.plain.specs.Laws.{both-true}
+use Rattle.context.specs.Start.{needs-all}
+use Rattle.helpers.specs.Does.{has, shows-of, shows-helper, shows-bad, shows-nothing, shows-value}
+use Rattle.plain.specs.Plain.{PathIs, PlainIs, ShowsAt, other, disabled, helper, far}
+use Rattle.plain.specs.Reading.{lookup-read}
+use Rattle.plain.specs.Laws.{both-true, path-shows, path-html, call-html, not-first}
+use Rattle.plain.specs.Lookups.{lookup-told}
+use Rattle.plain.specs.declared.Plain.the-variants.{Call}
 use borrow.Author.Needs.{needs}
 use Rattle.plain.proofs.shown_at.Statement.{statement}
 use Rattle.plain.proofs.shown_at.Tie as tie
-use Rattle.plain.proofs.shown_at.Reads as reads
-use Rattle.plain.proofs.shown_at.Lts as lts
-use Rattle.helpers.proofs.bare_number.Reads as bare-number-reads
-use Rattle.plain.proofs.plain_at.Reads as plain-at-reads
 
 plain-at-requires : tie.Need-plain-at-requires
-plain-at-requires c κs = let z = (c .before .before .before .before .before) in (z .pre .1, z .pre .5)
+plain-at-requires c κs = search needs
 
 enum-known-n : tie.Need-enum-known-n
 enum-known-n c = search needs
@@ -33,131 +32,123 @@ enum-known-html c = search needs
 
 returns : tie.Need-returns
 returns c =
-    let z = (c .before .before .before .before .before .before .before .before .before .before) in
-    let a = z .args in
-    let h = (c .before .before) .html .given .0 .0 in
-    let e = (c .before .before) .html .given .0 .1 .0 in
-    let P : PathIs (a .d) (bits (a .b .now)) (a .p) h e = subst (PlainIs (a .d) (bits (a .b .now)) (a .p)) ((c .before .before) .html .given .1) ((c .before .before .before .before) .plain-at .ensures .0) in
+    let a = c .before .before .before .before .before .before .before .before .before .args in
+    let h = c .before .before .html .given .0 .0 in
+    let v = c .before .before .html .given .0 .1 .0 in
+    let n = c .before .before .html .given .0 .1 .1 .0 in
+    let P : PathIs (a .d) (bits (a .b .now)) (a .p) h v n = subst (PlainIs (a .d) (bits (a .b .now)) (a .p)) (c .before .before .html .given .1) (c .before .before .before .before .plain-at .ensures) in
     let k = both-true h (a .disable-escape) (c .if1 .taken) in
-    inr (inl (record { path-end = e; is = subst (λ (t : Bool). PathIs (a .d) (bits (a .b .now)) (a .p) t e) (k .0) P; disabled = k .1 }))
-
-add-bare-number : tie.Need-add-bare-number
-add-bare-number c = let z = (c .before .before .before .before .before .before .before .before .before .before) in omega (arith, z .pre .1, element-fits 16 (z .args .d) (bits (z .args .b .now)) (z .args .p) (z .pre .5), bits-size (z .args .b .now))
+    disabled (path-html (a .d) (bits (a .b .now)) (a .p) h v n (k .0) P) (k .1)
 
 bare-number-requires : tie.Need-bare-number-requires
 bare-number-requires c κs =
-    let z = (c .before .before .before .before .before .before .before .before .before .before) in
-    let a = z .args in
-    let P : PathIs (a .d) (bits (a .b .now)) (a .p) ((c .before .before) .html .given .0 .0) ((c .before .before) .html .given .0 .1 .0) = subst (PlainIs (a .d) (bits (a .b .now)) (a .p)) ((c .before .before) .html .given .1) ((c .before .before .before .before) .plain-at .ensures .0) in
-    (z .pre .0, z .pre .1, z .pre .2, z .pre .3, z .pre .4, P .leads, z .pre .6)
+    let a = c .before .before .before .before .before .before .before .before .before .args in
+    let h = c .before .before .html .given .0 .0 in
+    let v = c .before .before .html .given .0 .1 .0 in
+    let n = c .before .before .html .given .0 .1 .1 .0 in
+    let P : PathIs (a .d) (bits (a .b .now)) (a .p) h v n = subst (PlainIs (a .d) (bits (a .b .now)) (a .p)) (c .before .before .html .given .1) (c .before .before .before .before .plain-at .ensures) in
+    (c .before .before .before .before .before .before .before .before .before .pre .0, c .before .before .before .before .before .before .before .before .before .pre .1, c .before .before .before .before .before .before .before .before .before .pre .2, P .leads)
 
 returns-2 : tie.Need-returns-2
 returns-2 c =
-    let z = (c .before .before .before .before .before .before .before .before .before .before .before .before) in
-    let a = z .args in
-    let h = (c .before .before .before .before) .html .given .0 .0 in
-    let e = (c .before .before .before .before) .html .given .0 .1 .0 in
-    let P : PathIs (a .d) (bits (a .b .now)) (a .p) h e = subst (PlainIs (a .d) (bits (a .b .now)) (a .p)) ((c .before .before .before .before) .html .given .1) ((c .before .before .before .before .before .before) .plain-at .ensures .0) in
-    let f = (c .before) .bare-number in
-    let Is : Shows → Type 0 = ShowsAt (a .s .now) (a .b .now) (a .ent .now) (scopes-of (a .sc .now)) (a .used) (a .disable-escape) (a .options) (a .d) (a .p) h (e + 9) in
-    let A : Is (shows-of (f .result)) =
-    record {
-      path-end = e;
-      is = P;
-      behind = refl;
-      escapes = λ k. sym (ap (λ (x : Bool). x && a .disable-escape) k) ∙ (c .before .before) .if1 .left;
-      shows = λ g st t ibw i. f .ensures .1 g st t (a .d) (a .p + 4) ibw i (P .call) (P .named) (P .bare);
-    } in
-    inr (inr (h, e + 9, subst Is (ap shows-of (c .if2 .taken) ∙ shows-helper) A))
-
-cast-t19 : tie.Need-cast-t19
-cast-t19 c = omega (arith, c .if3 .taken)
+    let a = c .before .before .before .before .before .before .before .before .before .before .before .args in
+    let h = c .before .before .before .before .html .given .0 .0 in
+    let v = c .before .before .before .before .html .given .0 .1 .0 in
+    let n = c .before .before .before .before .html .given .0 .1 .1 .0 in
+    let P : PathIs (a .d) (bits (a .b .now)) (a .p) h v n = subst (PlainIs (a .d) (bits (a .b .now)) (a .p)) (c .before .before .before .before .html .given .1) (c .before .before .before .before .before .before .plain-at .ensures) in
+    let f = c .before .bare-number in
+    helper h n (subst (ShowsAt (a .s .now) (a .b .now) (a .ent .now) (a .front) (a .names) (a .disable-escape) (a .options) (a .d) (a .p) h n) (ap shows-of (c .if2 .taken) ∙ shows-helper) (path-shows (a .s .now) (a .b .now) (a .ent .now) (a .front) (a .names) (a .disable-escape) (a .options) (a .d) (a .p) h v n P (c .before .before .if1 .left) (shows-of (f .result)) (f .ensures .1 (λ z. omega (arith, z, c .if2 .taken)))))
 
 returns-3 : tie.Need-returns-3
 returns-3 c =
-    let z = (c .before .before .before .before .before .before .before .before .before .before .before .before .before) in
-    let a = z .args in
-    let h = (c .before .before .before .before .before) .html .given .0 .0 in
-    let e = (c .before .before .before .before .before) .html .given .0 .1 .0 in
-    let P : PathIs (a .d) (bits (a .b .now)) (a .p) h e = subst (PlainIs (a .d) (bits (a .b .now)) (a .p)) ((c .before .before .before .before .before) .html .given .1) ((c .before .before .before .before .before .before .before) .plain-at .ensures .0) in
-    let f = (c .before .before) .bare-number in
-    let Is : Shows → Type 0 = ShowsAt (a .s .now) (a .b .now) (a .ent .now) (scopes-of (a .sc .now)) (a .used) (a .disable-escape) (a .options) (a .d) (a .p) h (e + 9) in
-    let A : Is (shows-of (f .result)) =
-    record {
-      path-end = e;
-      is = P;
-      behind = refl;
-      escapes = λ k. sym (ap (λ (x : Bool). x && a .disable-escape) k) ∙ (c .before .before .before) .if1 .left;
-      shows = λ g st t ibw i. f .ensures .1 g st t (a .d) (a .p + 4) ibw i (P .call) (P .named) (P .bare);
-    } in
-    (h, e + 9, subst Is (shows-bad (f .result) ((c .before) .if2 .left) (c .if3 .taken)) A)
+    let a = c .before .before .before .before .before .before .before .before .before .before .before .before .args in
+    let h = c .before .before .before .before .before .html .given .0 .0 in
+    let v = c .before .before .before .before .before .html .given .0 .1 .0 in
+    let n = c .before .before .before .before .before .html .given .0 .1 .1 .0 in
+    let P : PathIs (a .d) (bits (a .b .now)) (a .p) h v n = subst (PlainIs (a .d) (bits (a .b .now)) (a .p)) (c .before .before .before .before .before .html .given .1) (c .before .before .before .before .before .before .before .plain-at .ensures) in
+    far h v n P
+    (not-first (has (get-helper (text-at (bits (a .b .now)) v))) (needs-all (a .b .now) (a .ent .now) (a .front) (a .names) (path-at (bits (a .b .now)) v))
+    (sym (eq-eqb _ _ (c .if3 .taken)) ∙ c .before .before .bare-number .ensures .2))
 
-add-t20 : tie.Need-add-t20
-add-t20 c =
-    let z = (c .before .before .before .before .before .before .before .before .before .before .before .before .before .before) in
-    let a = z .args in
-    let P : PathIs (a .d) (bits (a .b .now)) (a .p) ((c .before .before .before .before .before .before) .html .given .0 .0) ((c .before .before .before .before .before .before) .html .given .0 .1 .0) = subst (PlainIs (a .d) (bits (a .b .now)) (a .p)) ((c .before .before .before .before .before .before) .html .given .1) ((c .before .before .before .before .before .before .before .before) .plain-at .ensures .0) in
-    omega (arith, z .pre .1, P .fits, bits-size (a .b .now))
+cast-t20 : tie.Need-cast-t20
+cast-t20 c = omega (arith, c .if4 .taken)
 
 returns-4 : tie.Need-returns-4
 returns-4 c =
-    let z = (c .before .before .before .before .before .before .before .before .before .before .before .before .before .before) in
-    let a = z .args in
-    let h = (c .before .before .before .before .before .before) .html .given .0 .0 in
-    let e = (c .before .before .before .before .before .before) .html .given .0 .1 .0 in
-    let P : PathIs (a .d) (bits (a .b .now)) (a .p) h e = subst (PlainIs (a .d) (bits (a .b .now)) (a .p)) ((c .before .before .before .before .before .before) .html .given .1) ((c .before .before .before .before .before .before .before .before) .plain-at .ensures .0) in
-    let f = (c .before .before .before) .bare-number in
-    let Is : Shows → Type 0 = ShowsAt (a .s .now) (a .b .now) (a .ent .now) (scopes-of (a .sc .now)) (a .used) (a .disable-escape) (a .options) (a .d) (a .p) h (e + 9) in
-    let A : Is (shows-of (f .result)) =
-    record {
-      path-end = e;
-      is = P;
-      behind = refl;
-      escapes = λ k. sym (ap (λ (x : Bool). x && a .disable-escape) k) ∙ (c .before .before .before .before) .if1 .left;
-      shows = λ g st t ibw i. f .ensures .1 g st t (a .d) (a .p + 4) ibw i (P .call) (P .named) (P .bare);
-    } in
-    (h, subst Is (ap shows-of (c .if4 .taken) ∙ shows-nothing) A)
+    let a = c .before .before .before .before .before .before .before .before .before .before .before .before .before .args in
+    let h = c .before .before .before .before .before .before .html .given .0 .0 in
+    let v = c .before .before .before .before .before .before .html .given .0 .1 .0 in
+    let n = c .before .before .before .before .before .before .html .given .0 .1 .1 .0 in
+    let P : PathIs (a .d) (bits (a .b .now)) (a .p) h v n = subst (PlainIs (a .d) (bits (a .b .now)) (a .p)) (c .before .before .before .before .before .before .html .given .1) (c .before .before .before .before .before .before .before .before .plain-at .ensures) in
+    let f = c .before .before .before .bare-number in
+    (h, n, subst (ShowsAt (a .s .now) (a .b .now) (a .ent .now) (a .front) (a .names) (a .disable-escape) (a .options) (a .d) (a .p) h n) (shows-bad (f .result) (c .before .before .if2 .left) (c .if4 .taken)) (path-shows (a .s .now) (a .b .now) (a .ent .now) (a .front) (a .names) (a .disable-escape) (a .options) (a .d) (a .p) h v n P (c .before .before .before .before .if1 .left) (shows-of (f .result)) (f .ensures .1 (c .before .if3 .left))))
+
+returns-5 : tie.Need-returns-5
+returns-5 c =
+    let a = c .before .before .before .before .before .before .before .before .before .before .before .before .before .before .args in
+    let h = c .before .before .before .before .before .before .before .html .given .0 .0 in
+    let v = c .before .before .before .before .before .before .before .html .given .0 .1 .0 in
+    let n = c .before .before .before .before .before .before .before .html .given .0 .1 .1 .0 in
+    let P : PathIs (a .d) (bits (a .b .now)) (a .p) h v n = subst (PlainIs (a .d) (bits (a .b .now)) (a .p)) (c .before .before .before .before .before .before .before .html .given .1) (c .before .before .before .before .before .before .before .before .before .plain-at .ensures) in
+    let f = c .before .before .before .before .bare-number in
+    (h, subst (ShowsAt (a .s .now) (a .b .now) (a .ent .now) (a .front) (a .names) (a .disable-escape) (a .options) (a .d) (a .p) h n) (ap shows-of (c .if5 .taken) ∙ shows-nothing) (path-shows (a .s .now) (a .b .now) (a .ent .now) (a .front) (a .names) (a .disable-escape) (a .options) (a .d) (a .p) h v n P (c .before .before .before .before .before .if1 .left) (shows-of (f .result)) (f .ensures .1 (c .before .before .if3 .left))))
 
 sub-t21 : tie.Need-sub-t21
-sub-t21 c = omega (arith, (c .before) .if3 .left, c .if4 .left)
+sub-t21 c = omega (arith, c .before .if4 .left, c .if5 .left)
 
 cast-t22 : tie.Need-cast-t22
-cast-t22 c = omega (arith, (c .before) .if3 .left, c .if4 .left, (c .before .before .before) .bare-number .ensures .0)
+cast-t22 c = omega (arith, c .before .if4 .left, c .if5 .left, c .before .before .if3 .left, c .before .before .before .before .bare-number .ensures .0)
 
-add-t18 : tie.Need-add-t18
-add-t18 c =
-    let z = (c .before .before .before .before .before .before .before .before .before .before .before .before .before .before) in
-    let a = z .args in
-    let P : PathIs (a .d) (bits (a .b .now)) (a .p) ((c .before .before .before .before .before .before) .html .given .0 .0) ((c .before .before .before .before .before .before) .html .given .0 .1 .0) = subst (PlainIs (a .d) (bits (a .b .now)) (a .p)) ((c .before .before .before .before .before .before) .html .given .1) ((c .before .before .before .before .before .before .before .before) .plain-at .ensures .0) in
-    omega (arith, z .pre .1, P .fits, bits-size (a .b .now))
+enum-known-html-2 : tie.Need-enum-known-html-2
+enum-known-html-2 c = search needs
+
+returns-6 : tie.Need-returns-6
+returns-6 c =
+    let a = c .before .before .before .before .before .before .before .before .before .args in
+    let h = c .before .before .html2 .given .0 .0 in
+    let Q : PlainIs (a .d) (bits (a .b .now)) (a .p) (Call h) = subst (PlainIs (a .d) (bits (a .b .now)) (a .p)) (c .before .before .html2 .given .1) (c .before .before .before .before .plain-at .ensures) in
+    let k = both-true h (a .disable-escape) (c .if6 .taken) in
+    disabled (call-html (a .d) (bits (a .b .now)) (a .p) h (k .0) (Q .0)) (k .1)
+
+add-lookup-shown : tie.Need-add-lookup-shown
+add-lookup-shown c =
+    let z = c .before .before .before .before .before .before .before .before .before in
+    omega (arith, z .pre .1, element-fits 16 (z .args .d) (bits (z .args .b .now)) (z .args .p) (z .pre .3), bits-size (z .args .b .now))
+
+lookup-shown-requires : tie.Need-lookup-shown-requires
+lookup-shown-requires c κs =
+    let a = c .before .before .before .before .before .before .before .before .before .args in
+    let h = c .before .before .html2 .given .0 .0 in
+    let Q : PlainIs (a .d) (bits (a .b .now)) (a .p) (Call h) = subst (PlainIs (a .d) (bits (a .b .now)) (a .p)) (c .before .before .html2 .given .1) (c .before .before .before .before .plain-at .ensures) in
+    (c .before .before .before .before .before .before .before .before .before .pre .0, c .before .before .before .before .before .before .before .before .before .pre .1, c .before .before .before .before .before .before .before .before .before .pre .2, Q .0 .call)
 
 enum-told : tie.Need-enum-told
 enum-told c = search needs
 
-returns-5 : tie.Need-returns-5
-returns-5 c = let z = (c .before .before .before .before .before .before .before .before .before) in subst (PlainIs (z .args .d) (bits (z .args .b .now)) (z .args .p)) ((c .before) .n .given .1) ((c .before .before .before) .plain-at .ensures .0)
-
-returns-6 : tie.Need-returns-6
-returns-6 c =
-    let z = (c .before .before .before .before .before .before .before .before .before .before .before .before .before .before) in
-    let a = z .args in
-    let h = (c .before .before .before .before .before .before) .html .given .0 .0 in
-    let e = (c .before .before .before .before .before .before) .html .given .0 .1 .0 in
-    let P : PathIs (a .d) (bits (a .b .now)) (a .p) h e = subst (PlainIs (a .d) (bits (a .b .now)) (a .p)) ((c .before .before .before .before .before .before) .html .given .1) ((c .before .before .before .before .before .before .before .before) .plain-at .ensures .0) in
-    let f = (c .before .before .before) .bare-number in
-    let Is : Shows → Type 0 = ShowsAt (a .s .now) (a .b .now) (a .ent .now) (scopes-of (a .sc .now)) (a .used) (a .disable-escape) (a .options) (a .d) (a .p) h (e + 9) in
-    let A : Is (shows-of (f .result)) =
-    record {
-      path-end = e;
-      is = P;
-      behind = refl;
-      escapes = λ k. sym (ap (λ (x : Bool). x && a .disable-escape) k) ∙ (c .before .before .before .before) .if1 .left;
-      shows = λ g st t ibw i. f .ensures .1 g st t (a .d) (a .p + 4) ibw i (P .call) (P .named) (P .bare);
-    } in
-    let gt : 255 < f .result = omega (arith, (c .before) .if3 .left, c .if4 .left) in subst Is (shows-value (f .result) gt) A
-
 returns-7 : tie.Need-returns-7
-returns-7 c = inl (sym ((c .before .before) .plain-at .ensures .1) ∙ ap is-plain (c .enum-told .given .1))
+returns-7 c = let a = c .before .before .before .before .before .before .before .before .args in subst (PlainIs (a .d) (bits (a .b .now)) (a .p)) (c .before .n .given .1) (c .before .before .before .plain-at .ensures)
+
+returns-8 : tie.Need-returns-8
+returns-8 c =
+    let a = c .before .before .before .before .before .before .before .before .before .before .before .before .before .before .args in
+    let h = c .before .before .before .before .before .before .before .html .given .0 .0 in
+    let v = c .before .before .before .before .before .before .before .html .given .0 .1 .0 in
+    let n = c .before .before .before .before .before .before .before .html .given .0 .1 .1 .0 in
+    let P : PathIs (a .d) (bits (a .b .now)) (a .p) h v n = subst (PlainIs (a .d) (bits (a .b .now)) (a .p)) (c .before .before .before .before .before .before .before .html .given .1) (c .before .before .before .before .before .before .before .before .before .plain-at .ensures) in
+    let f = c .before .before .before .before .bare-number in
+    let gt : 255 < f .result = omega (arith, c .before .if4 .left, c .if5 .left) in
+    subst (ShowsAt (a .s .now) (a .b .now) (a .ent .now) (a .front) (a .names) (a .disable-escape) (a .options) (a .d) (a .p) h n) (shows-value (f .result) gt) (path-shows (a .s .now) (a .b .now) (a .ent .now) (a .front) (a .names) (a .disable-escape) (a .options) (a .d) (a .p) h v n P (c .before .before .before .before .before .if1 .left) (shows-of (f .result)) (f .ensures .1 (c .before .before .if3 .left)))
+
+returns-9 : tie.Need-returns-9
+returns-9 c =
+    let a = c .before .before .before .before .before .before .before .before .before .before .args in
+    let h = c .before .before .before .html2 .given .0 .0 in
+    let Q : PlainIs (a .d) (bits (a .b .now)) (a .p) (Call h) = subst (PlainIs (a .d) (bits (a .b .now)) (a .p)) (c .before .before .before .html2 .given .1) (c .before .before .before .before .before .plain-at .ensures) in
+    lookup-told (a .s .now) (a .b .now) (a .ent .now) (a .front) (a .names) (a .disable-escape) (a .options) (a .d) (a .p) h (Q .0) (Q .1) (λ k. sym (ap (λ (t : Bool). t && a .disable-escape) k) ∙ c .before .if6 .left)
+    (lookup-read (a .d) (bits (a .b .now)) (bits-binary (a .b .now)) (a .p + 4) (Q .0 .call) _ refl) (c .lookup-shown .result) (c .lookup-shown .ensures)
+
+returns-10 : tie.Need-returns-10
+returns-10 c = let a = c .before .before .before .before .before .before .before .args in other (subst (PlainIs (a .d) (bits (a .b .now)) (a .p)) (c .enum-told .given .1) (c .before .before .plain-at .ensures))
 
 pub shown-at-spec : {M : Type 1} → statement M
 shown-at-spec =
@@ -167,17 +158,20 @@ shown-at-spec =
     enum-known-n
     enum-known-html
     returns
-    add-bare-number
     bare-number-requires
     returns-2
-    cast-t19
     returns-3
-    add-t20
+    cast-t20
     returns-4
+    returns-5
     sub-t21
     cast-t22
-    add-t18
-    enum-told
-    returns-5
+    enum-known-html-2
     returns-6
-    returns-7)
+    add-lookup-shown
+    lookup-shown-requires
+    enum-told
+    returns-7
+    returns-8
+    returns-9
+    returns-10)

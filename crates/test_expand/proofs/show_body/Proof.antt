@@ -19,22 +19,22 @@ abbrev μ-loop : tie.MeasureT-loop
 μ-loop s tab b ent list used options p d count cur₀ i₀ cur i = count - i
 
 body-at-requires : tie.Need-body-at-requires Inv-loop μ-loop
-body-at-requires c κs = let z = (c .before .before .before .before .before) in let b = z .args .b .now in let h = z .pre in omega (arith, h .1, body-read 16 (z .args .d) (bits b) (z .args .p) (h .5) _ refl .fits, bits-size b)
+body-at-requires c κs = let z = c .before .before .before .before in let b = z .args .b .now in let h = z .pre in omega (arith, h .1, body-read 16 (z .args .d) (bits b) (z .args .p) (h .5) _ refl .fits, bits-size b)
 
 loop-holds : tie.Need-loop-holds Inv-loop μ-loop
-loop-holds c = let z = (c .before .before .before .before .before .before) in let b = z .args .b .now in let h = z .pre in body-begin 16 (z .args .d) (bits b) (z .args .p) (h .5) _ (c .body-at .ensures) .0
+loop-holds c = let z = c .before .before .before .before .before in let b = z .args .b .now in let h = z .pre in body-begin 16 (z .args .d) (bits b) (z .args .p) (h .5) _ (c .body-at .ensures) .0
 
 sub-element-at : tie.Need-sub-element-at Inv-loop μ-loop
-sub-element-at c = let z = (c .before .before .before .before .before .before .before .before) in let b = z .args .b .now in let h = z .pre in omega (arith, body-deep 16 (z .args .d) (bits b) (z .args .p) (h .5))
+sub-element-at c = let z = c .before .before .before .before .before .before .before in let b = z .args .b .now in let h = z .pre in omega (arith, body-deep 16 (z .args .d) (bits b) (z .args .p) (h .5))
 
 element-at-requires : tie.Need-element-at-requires Inv-loop μ-loop
-element-at-requires c κs = let z = (c .before .before .before .before .before .before .before .before) in let b = z .args .b .now in let h = z .pre in (h .1, omega arith, element-here 16 (z .args .d - 1) (bits b) _ _ _ _ ((c .before) .loop .inv) (omega arith))
+element-at-requires c κs = let z = c .before .before .before .before .before .before .before in let b = z .args .b .now in let h = z .pre in (h .1, omega arith, element-here 16 (z .args .d - 1) (bits b) _ _ _ _ ((c .before) .loop .inv) (omega arith))
 
 sub-show-element : tie.Need-sub-show-element Inv-loop μ-loop
-sub-show-element c = let z = (c .before .before .before .before .before .before .before .before .before) in let b = z .args .b .now in let h = z .pre in omega (arith, body-deep 16 (z .args .d) (bits b) (z .args .p) (h .5))
+sub-show-element c = let z = c .before .before .before .before .before .before .before .before in let b = z .args .b .now in let h = z .pre in omega (arith, body-deep 16 (z .args .d) (bits b) (z .args .p) (h .5))
 
 show-element-requires : tie.Need-show-element-requires Inv-loop μ-loop
-show-element-requires c κs = let z = (c .before .before .before .before .before .before .before .before .before) in let b = z .args .b .now in let h = z .pre in (h .0, h .1, h .2, h .3, h .4, element-read 16 (z .args .d - 1) (bits b) _ (element-here 16 (z .args .d - 1) (bits b) _ _ _ _ ((c .before .before) .loop .inv) (omega arith)) _ (c .element-at .ensures) .parts, c .before .before .before .before .before .before .before .before .before .pre .6)
+show-element-requires c κs = let z = c .before .before .before .before .before .before .before .before in let b = z .args .b .now in let h = z .pre in (h .0, h .1, h .2, h .3, h .4, element-read 16 (z .args .d - 1) (bits b) _ (element-here 16 (z .args .d - 1) (bits b) _ _ _ _ ((c .before .before) .loop .inv) (omega arith)) _ (c .element-at .ensures) .parts)
 
 add-i : tie.Need-add-i Inv-loop μ-loop
 add-i c = search needs
@@ -43,7 +43,7 @@ loop-less : tie.Need-loop-less Inv-loop μ-loop
 loop-less c = search needs
 
 loop-again : tie.Need-loop-again Inv-loop μ-loop
-loop-again c = let z = (c .before .before .before .before .before .before .before .before .before .before) in let b = z .args .b .now in let h = z .pre in elements-again 16 (z .args .d - 1) (bits b) _ _ _ _ ((c .before .before .before) .loop .inv) (omega arith) _ ((c .before) .element-at .ensures)
+loop-again c = let z = c .before .before .before .before .before .before .before .before .before in let b = z .args .b .now in let h = z .pre in elements-again 16 (z .args .d - 1) (bits b) _ _ _ _ ((c .before .before .before) .loop .inv) (omega arith) _ ((c .before) .element-at .ensures)
 
 returns : tie.Need-returns Inv-loop μ-loop
 returns c = search needs

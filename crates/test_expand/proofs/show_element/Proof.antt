@@ -13,10 +13,10 @@ returns : tie.Need-returns
 returns c = search needs
 
 show-name-requires : tie.Need-show-name-requires
-show-name-requires c κs = let z = (c .before .before .before .before .before .before .before .before) in let b = z .args .b .now in let h = z .pre in (h .0, h .1, h .2, h .3, h .4, call-stands (z .args .d) (bits b) _ (subst (ElementHolds 16 (z .args .d) (bits b)) ((c .before) .e .given .1) (h .5)) .name, c .before .before .before .before .before .before .before .before .pre .6)
+show-name-requires c κs = let z = c .before .before .before .before .before .before .before in let b = z .args .b .now in let h = z .pre in (h .0, h .1, h .2, h .3, h .4, call-stands (z .args .d) (bits b) _ (subst (ElementHolds 16 (z .args .d) (bits b)) ((c .before) .e .given .1) (h .5)) .name)
 
 show-call-requires : tie.Need-show-call-requires
-show-call-requires c κs = let z = (c .before .before .before .before .before .before .before .before .before) in let b = z .args .b .now in let h = z .pre in (h .0, h .1, h .2, h .3, h .4, subst (ElementHolds 16 (z .args .d) (bits b)) ((c .before .before) .e .given .1) (h .5), c .before .before .before .before .before .before .before .before .before .pre .6)
+show-call-requires c κs = let z = c .before .before .before .before .before .before .before .before in let b = z .args .b .now in let h = z .pre in (h .0, h .1, h .2, h .3, h .4, subst (ElementHolds 16 (z .args .d) (bits b)) ((c .before .before) .e .given .1) (h .5))
 
 slice-aggregate-print : tie.Need-slice-aggregate-print
 slice-aggregate-print c = search needs

@@ -1,3 +1,4 @@
+use Rattle.scope.specs.declared.Scope.{Scope}
 use Rattle.state.specs.Context.{whole}
 use mathlib.Core.List.{List}
 use Prim.Native.Nat.{ℕ}
@@ -30,7 +31,7 @@ returns c =
     let page = f .last .0 in
     let texts = f .last .1 .0 in
     let v = take (a .n) (drop (a .from) (a .texts .now)) in
-    let w : (l : List ℕ) → Wrote (whole (a .rc) l) (whole (c .wrote .result) l) page texts (on (all-put v) (outputs (a .rc .writer) (a .page .now) (a .texts .now))) =
+    let w : (l : List Scope) → Wrote (whole (a .rc) l) (whole (c .wrote .result) l) page texts (on (all-put v) (outputs (a .rc .writer) (a .page .now) (a .texts .now))) =
     λ l. wrote-by (whole (a .rc) l) (whole (c .wrote .result) l) (f .result) page texts (on (all-put v) (outputs (a .rc .writer) (a .page .now) (a .texts .now))) (f .ensures) (c .wrote .ensures l) in
     (w, λ l s b i ent r. draws-put s b (world (whole (a .rc) l) (a .page .now) (a .texts .now) i ent) (whole (c .wrote .result) l) page texts r v (w l))
 

@@ -1,3 +1,4 @@
+use Rattle.scope.specs.declared.Scope.{Scope}
 use Rattle.state.specs.Context.{whole}
 use mathlib.Core.List.{List}
 use Prim.Native.Nat.{ℕ, _+_, _*_, _≤_}
@@ -68,7 +69,7 @@ returns c =
     let texts = f .last .1 .0 in
     let z = bits (a .b .now) in
     let e : bytes-at z (t .result .first) (t .result .count) ≡ text-at z (a .p) = ap (λ (x : Text). bytes-at z (x .first) (x .count)) (t .ensures) in
-    let w : (l : List ℕ) → Wrote (whole (a .rc) l) (whole (c .wrote .result) l) page texts (fed (a .indent .now) (text-at z (a .p)) (outputs (a .rc .writer) (a .page .now) (a .texts .now))) =
+    let w : (l : List Scope) → Wrote (whole (a .rc) l) (whole (c .wrote .result) l) page texts (fed (a .indent .now) (text-at z (a .p)) (outputs (a .rc .writer) (a .page .now) (a .texts .now))) =
     λ l. wrote-by (whole (a .rc) l) (whole (c .wrote .result) l) (f .result) page texts (fed (a .indent .now) (text-at z (a .p)) (outputs (a .rc .writer) (a .page .now) (a .texts .now)))
     (f .ensures ∙ ap (λ (v : Bytes). fed (a .indent .now) v (outputs (a .rc .writer) (a .page .now) (a .texts .now))) e) (c .wrote .ensures l) in
     (w, λ l s ent r. draws-fed s (a .b .now) (world (whole (a .rc) l) (a .page .now) (a .texts .now) (a .indent .now) ent) (whole (c .wrote .result) l) page texts r (text-at z (a .p)) (w l))

@@ -1,3 +1,4 @@
+use Rattle.scope.specs.declared.Scope.{Scope}
 use Rattle.state.specs.Context.{whole}
 use mathlib.Core.List.{List}
 use Prim.Native.Nat.{ℕ}
@@ -49,7 +50,7 @@ returns c =
     let e = not (a .rc .«disable_escape») in
     let m = means-so (a .s .now) (a .b .now) (a .v)
     (λ j. outputs (f .result) page texts ≡ fed i (escaped e (render j)) (outputs (a .rc .writer) (a .page .now) (a .texts .now)))
-    (λ j. (l : List ℕ) → Wrote (whole (a .rc) l) (whole r l) page texts (fed i (escaped e (render j)) (outputs (a .rc .writer) (a .page .now) (a .texts .now))))
+    (λ j. (l : List Scope) → Wrote (whole (a .rc) l) (whole r l) page texts (fed i (escaped e (render j)) (outputs (a .rc .writer) (a .page .now) (a .texts .now))))
     (λ j h l. wrote-by (whole (a .rc) l) (whole r l) (f .result) page texts (fed i (escaped e (render j)) (outputs (a .rc .writer) (a .page .now) (a .texts .now))) h (c .wrote .ensures l))
     (f .ensures) in (
       m,

@@ -1,3 +1,5 @@
+use lib.ListN.{replicate}
+use Rattle.scope.specs.Scopes.{blank}
 use Rattle.rules.specs.Layout.{field}
 use mathlib.Core.Path.{refl, sym, subst}
 use Prim.Native.Nat.{ℕ, _≤_}
@@ -9,13 +11,10 @@ use borrow.Author.Needs.{needs}
 use Rattle.handlebars.proofs.draw.draw.Statement.{statement}
 use Rattle.handlebars.proofs.draw.draw.Tie as tie
 
-slice-aggregate-render-template : tie.Need-slice-aggregate-render-template
-slice-aggregate-render-template c = search needs
-
 render-template-requires : tie.Need-render-template-requires
 render-template-requires c κs =
-    let z = c .before .before .before .before .before .before .before .before .before .before .before .before .before in
-    (record { plan = z .pre .2; small = z .pre .0 .small; bundle = z .pre .0 .templates; listed = subst (λ (n : ℕ). field (bits (z .args .b .now)) 8 8 ≤ n) (sym (z .pre .1 .0)) (few-templates (bits (z .args .b .now)) (z .pre .0 .templates)); indexed = z .pre .1 .1 }, z .pre .3, z .pre .4, z .pre .5, z .pre .6, z .pre .7, refl)
+    let z = c .before .before .before .before .before .before .before .before .before .before .before .before in
+    (record { plan = z .pre .2; small = z .pre .0 .small; bundle = z .pre .0 .templates; listed = subst (λ (n : ℕ). field (bits (z .args .b .now)) 8 8 ≤ n) (sym (z .pre .1 .0)) (few-templates (bits (z .args .b .now)) (z .pre .0 .templates)); indexed = z .pre .1 .1 }, z .pre .3, z .pre .4, z .pre .5, z .pre .6, z .pre .7)
 
 answered-requires : tie.Need-answered-requires
 answered-requires c κs = search needs
@@ -34,13 +33,12 @@ same-length-4 c = search needs
 
 returns : tie.Need-returns
 unfolding render-call
-returns c = shown _ _ _ _ _ _ _ _ _ _ _ _ (c .before .before .before .before .before .before .before .before .before .before .render-template .ensures) _ (c .answered .ensures (c .before .before .before .before .before .before .before .before .before .before .render-template .last .1 .1 .1 .1 .1 .1 .1 .1 .0))
+returns c = shown _ _ _ _ _ _ _ _ _ _ _ _ (c .before .before .before .before .before .before .before .before .before .render-template .ensures) _ (c .answered .ensures (replicate 32 blank))
 
 pub draw-spec : {M : Type 1} → statement M
 draw-spec =
     tie.close
     (tie.spec
-    slice-aggregate-render-template
     render-template-requires
     answered-requires
     same-length

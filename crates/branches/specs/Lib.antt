@@ -1,4 +1,0 @@
-pub mod Short
-pub mod Drawn
-pub mod Reading
-pub mod Laws

@@ -1,4 +1,0 @@
-pub mod Drawn
-pub mod Looked
-pub mod Reading
-pub mod Laws
