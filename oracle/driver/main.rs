@@ -24,7 +24,7 @@ usage: oracle/compare [--lib FILE] [--valgrind] [COMMAND] [FLAGS]      without a
   check_plan     handlebars_check_plan on generated plans
   render         handlebars_render and handlebars_template_name on generated cases
   speed          MB/s of handlebars_check_plan, beside serde_json; sheets/s of handlebars_render, beside the Rust
-  stack          checks with 256 KiB of stack, the deepest drawings with 2 MiB; then with less
+  stack          checks with 256 KiB of stack, the deepest drawings with 4 MiB; then with less
 flags: --profiles A,B or A:N,B:M (check_bundle: rich,limits,damaged,sheets; check_plan: json too; render: marks,nest too)
        --seed S (1)   --count N, for each profile without its own (10000)   --rounds R, of speed (11)
        --save DIR, for the cases that differ (a folder `handlebars-compare` for temporary files)

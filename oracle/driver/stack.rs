@@ -12,7 +12,7 @@ use crate::wanted;
 type Verdict = Result<bool, String>;
 
 /// The stack that the deepest drawings may take, and the steps in which less is tried.
-const MOST: usize = 2 << 10;
+const MOST: usize = 4 << 10;
 const STEP: usize = 16;
 
 pub fn stack() -> Verdict {
