@@ -1,4 +1,4 @@
-use Rattle.layout.specs.Verdict.{verdict-number}
+use Rattle.layout.specs.Verdict.{verdict-number, answer-verdict}
 use mathlib.Core.Path.{_∙_, ap, sym}
 use borrow.Author.Needs.{needs}
 use Rattle.handlebars.proofs.handlebars_check_bundle.Statement.{statement}
@@ -20,16 +20,16 @@ enum-told-4 : tie.Need-enum-told-4
 enum-told-4 c = search needs
 
 returns : tie.Need-returns
-returns c = ap verdict-number (sym (c .enum-told .given .1) ∙ c .before .before .check-bundle .ensures)
+returns c = ap verdict-number (sym (c .enum-told .given .1)) ∙ c .before .before .check-bundle .ensures ∙ sym (answer-verdict _)
 
 returns-2 : tie.Need-returns-2
-returns-2 c = ap verdict-number (sym (c .enum-told2 .given .1) ∙ c .before .before .check-bundle .ensures)
+returns-2 c = ap verdict-number (sym (c .enum-told2 .given .1)) ∙ c .before .before .check-bundle .ensures ∙ sym (answer-verdict _)
 
 returns-3 : tie.Need-returns-3
-returns-3 c = ap verdict-number (sym (c .enum-told3 .given .1) ∙ c .before .before .check-bundle .ensures)
+returns-3 c = ap verdict-number (sym (c .enum-told3 .given .1)) ∙ c .before .before .check-bundle .ensures ∙ sym (answer-verdict _)
 
 returns-4 : tie.Need-returns-4
-returns-4 c = ap verdict-number (sym (c .enum-told4 .given .1) ∙ c .before .before .check-bundle .ensures)
+returns-4 c = ap verdict-number (sym (c .enum-told4 .given .1)) ∙ c .before .before .check-bundle .ensures ∙ sym (answer-verdict _)
 
 pub handlebars-check-bundle-spec : {M : Type 1} → statement M
 handlebars-check-bundle-spec =

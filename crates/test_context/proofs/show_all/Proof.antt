@@ -1,3 +1,4 @@
+use Rattle.layout.specs.Verdict.{accepts}
 use mathlib.Core.Path.{sym, _∙_}
 use native.Mathlib.Omega.{arith}
 use borrow.Author.Needs.{needs}
@@ -18,13 +19,13 @@ returns : tie.Need-returns
 returns c = search needs
 
 show-main-requires : tie.Need-show-main-requires
-show-main-requires c κs = ((c .before .before .before .before .before .before) .pre, sym ((c .before .before) .check-bundle .ensures) ∙ c .enum-told .given .1, omega arith, omega arith)
+show-main-requires c κs = ((c .before .before .before .before .before .before) .pre, accepts _ _ ((c .before .before) .check-bundle .ensures) (c .enum-told .given .1), omega arith, omega arith)
 
 show-main-requires-2 : tie.Need-show-main-requires-2
-show-main-requires-2 c κs = ((c .before .before .before .before .before .before .before) .pre, sym ((c .before .before .before) .check-bundle .ensures) ∙ (c .before) .enum-told .given .1, omega arith, omega arith)
+show-main-requires-2 c κs = ((c .before .before .before .before .before .before .before) .pre, accepts _ _ ((c .before .before .before) .check-bundle .ensures) ((c .before) .enum-told .given .1), omega arith, omega arith)
 
 show-main-requires-3 : tie.Need-show-main-requires-3
-show-main-requires-3 c κs = ((c .before .before .before .before .before .before .before .before) .pre, sym ((c .before .before .before .before) .check-bundle .ensures) ∙ (c .before .before) .enum-told .given .1, omega arith, omega arith)
+show-main-requires-3 c κs = ((c .before .before .before .before .before .before .before .before) .pre, accepts _ _ ((c .before .before .before .before) .check-bundle .ensures) ((c .before .before) .enum-told .given .1), omega arith, omega arith)
 
 returns-2 : tie.Need-returns-2
 returns-2 c = search needs
