@@ -1,6 +1,8 @@
 // partial.rs and render.rs: a partial up to the body that it draws. Its marks are set, its scope is opened, and its indent is set.
 // s is the plan with its places tab, b the bundle with the places of its templates; ent holds the entries of open partials, indent the indent in force;
 // d is the number of depths left for the call and the body of the element.
+#![tactic(auto)]
+
 ghost use Rattle.std.specs.Prelude.{◌||◌, ◌≡◌, List, ◌≤◌, length};
 ghost use Rattle.rules.specs.Bits.{bits};
 ghost use Rattle.rules.specs.Bundle.{string, body, param, call_of};
@@ -76,7 +78,7 @@ pub fn end_text(
 }
 
 // What is left to be drawn of a partial.
-#[derive(Drop)]
+#[derive(Clone, Copy)]
 pub enum Next {
     // nothing: the context is the one behind it
     Done,
@@ -89,7 +91,7 @@ pub enum Next {
 }
 
 // top is the newest scope: where none was opened, the one in front of the partial.
-#[derive(Drop)]
+#[derive(Clone, Copy)]
 pub struct Begun {
     pub rc: RenderContext,
     pub top: Scope,

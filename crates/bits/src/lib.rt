@@ -1,6 +1,8 @@
 // Fields of up to 64 bits at any bit of a bundle, the most significant bit first, and packed strings.
 // Past the bundle's end every bit is 0, as the definition has it, so a place needs no bound. A width is one of the layout's, at most 64.
 // Where a string's end has to fit a usize, it does: a bundle has at most 65,536 bytes.
+#![tactic(auto)]
+
 ghost use Rattle.std.specs.Prelude.{◌≡◌, ◌+◌, ◌*◌, ◌^◌, ◌≤◌, ◌<◌, min, length};
 ghost use Rattle.rules.specs.Bytes.{same, before};
 ghost use Rattle.rules.specs.Bits.{bits};

@@ -1,4 +1,6 @@
 // helpers/helper_each.rs, helpers/helper_with.rs and helpers/block_util.rs: the scopes that `each` and `with` open.
+#![tactic(auto)]
+
 ghost use Rattle.std.specs.Prelude.{◌≡◌, ◌+◌, ◌≤◌, ◌<◌, eqb, length};
 ghost use Rattle.rules.specs.Bits.{bits};
 ghost use Rattle.value.specs.Numbers.{Fits, encoded};

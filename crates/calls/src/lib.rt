@@ -1,5 +1,7 @@
 // Readers of the calls of an accepted bundle: parameters, which may be calls again, and hash pairs. Nothing is checked again.
 // d is the number of depths left, a parameter's own included. What a reader requires stands where the laws of specs/ say (`Holds`).
+#![tactic(auto)]
+
 ghost use Rattle.std.specs.Prelude.{◌≡◌, ◌≤◌, length};
 ghost use Rattle.rules.specs.Bits.{bits};
 ghost use Rattle.rules.specs.Bundle.{param, params, pairs, call_of};
@@ -8,7 +10,7 @@ ghost use Rattle.calls.specs.Calls.{param_view, behind_view, call_view};
 ghost use Rattle.calls.specs.Shorts.{short_view};
 
 // Where the content of a parameter stands.
-#[derive(Drop)]
+#[derive(Clone, Copy)]
 pub enum Parameter {
     // its string
     Name(usize),
@@ -37,7 +39,7 @@ pub fn param_at(b: &[u8], p: usize) -> Parameter
 }
 
 // The place behind the parameter at p.
-#[cycle(skip_call_skip_pairs_skip_param_skip_params)]
+#[cycle(skipping)]
 pub fn skip_param(b: &[u8], p: usize, d: usize) -> usize
     requires { (length b.now ≤ 65536) × Holds (param d) (bits b.now) p }
     ensures { result ≡ end (param d) (bits b.now) p }
@@ -57,7 +59,7 @@ pub fn skip_param(b: &[u8], p: usize, d: usize) -> usize
 }
 
 // The place behind the count and parameters at p.
-#[cycle(skip_call_skip_pairs_skip_param_skip_params)]
+#[cycle(skipping)]
 fn skip_params(b: &[u8], p: usize, d: usize) -> usize
     requires { (length b.now ≤ 65536) × Holds (params (param d)) (bits b.now) p }
     ensures { result ≡ end (params (param d)) (bits b.now) p }
@@ -73,7 +75,7 @@ fn skip_params(b: &[u8], p: usize, d: usize) -> usize
 }
 
 // The place behind the count and hash pairs at p.
-#[cycle(skip_call_skip_pairs_skip_param_skip_params)]
+#[cycle(skipping)]
 fn skip_pairs(b: &[u8], p: usize, d: usize) -> usize
     requires { (length b.now ≤ 65536) × Holds (pairs (param d)) (bits b.now) p }
     ensures { result ≡ end (pairs (param d)) (bits b.now) p }
@@ -89,7 +91,7 @@ fn skip_pairs(b: &[u8], p: usize, d: usize) -> usize
 }
 
 // The place behind the call at p.
-#[cycle(skip_call_skip_pairs_skip_param_skip_params)]
+#[cycle(skipping)]
 pub fn skip_call(b: &[u8], p: usize, d: usize) -> usize
     requires { (length b.now ≤ 65536) × Holds (call_of (param d)) (bits b.now) p }
     ensures { result ≡ end (call_of (param d)) (bits b.now) p }
@@ -103,7 +105,7 @@ pub fn skip_call(b: &[u8], p: usize, d: usize) -> usize
 }
 
 // A call's name is the parameter at its place.
-#[derive(Drop)]
+#[derive(Clone, Copy)]
 pub struct Call {
     // how many parameters, and the first
     pub params: u64,
@@ -135,7 +137,7 @@ pub fn call_at(b: &[u8], p: usize, d: usize) -> Call
 }
 
 // A call, by its name: most are short, and have one that is a string.
-#[derive(Drop)]
+#[derive(Clone, Copy)]
 pub enum Short {
     // a name alone: its string
     Bare(usize),

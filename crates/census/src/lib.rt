@@ -1,5 +1,7 @@
 // A small client of the readers: how many elements of a kind a bundle has, in all bodies at every depth.
 // It goes through the bundle as the renderer does, body by body, and is proved equal to the same count over the decoded templates.
+#![tactic(auto)]
+
 ghost use Rattle.std.specs.Prelude.{◌≡◌, ◌≤◌, ◌<◌, length};
 ghost use Rattle.rules.specs.Bits.{bits};
 ghost use Rattle.rules.specs.Bundle.{body, bundle};
@@ -27,7 +29,7 @@ fn bump(kind: u64, k: u64, n: u64) -> u64
 }
 
 // The elements of the body at p, whose own depth d counts, on top of n.
-#[cycle(count_body_count_element_count_maybe)]
+#[cycle(counting)]
 fn count_body(b: &[u8], p: usize, w: usize, d: usize, kind: u64, n: u64) -> u64
     requires { (length b.now ≤ 65536) × (w ≤ 64) × Holds (body w d) (bits b.now) p }
     ensures { result ≡ count_body kind (template_at w d (bits b.now) p) n }
@@ -47,7 +49,7 @@ fn count_body(b: &[u8], p: usize, w: usize, d: usize, kind: u64, n: u64) -> u64
     sum
 }
 
-#[cycle(count_body_count_element_count_maybe)]
+#[cycle(counting)]
 fn count_maybe(b: &[u8], m: Maybe, w: usize, d: usize, kind: u64, n: u64) -> u64
     requires { (length b.now ≤ 65536) × (w ≤ 64) × MaybeHolds (body w d) (bits b.now) m }
     ensures { result ≡ count_maybe kind (body_says w d (bits b.now) m) n }
@@ -59,7 +61,7 @@ fn count_maybe(b: &[u8], m: Maybe, w: usize, d: usize, kind: u64, n: u64) -> u64
 }
 
 // An element and what stands in it.
-#[cycle(count_body_count_element_count_maybe)]
+#[cycle(counting)]
 fn count_element(b: &[u8], e: Element, w: usize, d: usize, kind: u64, n: u64) -> u64
     requires { (length b.now ≤ 65536) × (w ≤ 64) × ElementHolds w d (bits b.now) e }
     ensures { result ≡ count_element kind (element_says w d (bits b.now) e) n }

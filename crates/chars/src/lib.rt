@@ -1,4 +1,6 @@
 // The characters of a text, one by one and without a copy: each is a value.
+#![tactic(auto)]
+
 ghost use Rattle.std.specs.Prelude.{◌≡◌, ◌≤◌, ◌<◌, length};
 ghost use Rattle.std.proofs.Math.ListN.{get_elem?};
 ghost use Rattle.rules.specs.Context.{chars};
@@ -10,13 +12,13 @@ use text::Text;
 use value::Value;
 
 // The first character, and the text behind it.
-#[derive(Drop)]
+#[derive(Clone, Copy)]
 pub enum Next {
     Char(Value, Text),
     End,
 }
 
-#[derive(Drop)]
+#[derive(Clone, Copy)]
 pub enum Nth {
     Is(Value),
     Nothing,

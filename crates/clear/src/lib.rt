@@ -1,4 +1,6 @@
 // Zeroes lent buffers, whole or from a place on: the same two functions for each width, each width in a file of its own.
+#![tactic(auto)]
+
 mod of_u16;
 mod of_u32;
 mod of_u64;

@@ -1,4 +1,6 @@
 // context.rs: where a path leads, from the open scopes on. Nothing is copied: a path is followed segment by segment in the bundle.
+#![tactic(auto)]
+
 ghost use Rattle.std.specs.Prelude.{true, false, ◌≡◌, List, ◌++◌, ℕ, ◌-◌, ◌/◌, ◌≤◌, ◌<◌, eqb, length};
 ghost use Rattle.rules.specs.Path.{merge_json_path};
 ghost use Rattle.rules.specs.Bits.{bits};
@@ -31,7 +33,7 @@ use scope::{Param, Scope};
 use value::Value;
 
 // What a path leads to. A value that it leads to is not missing.
-#[derive(Drop)]
+#[derive(Clone, Copy)]
 pub enum Evaluated {
     Is(Value),
     Nothing,
@@ -39,7 +41,7 @@ pub enum Evaluated {
 }
 
 // One segment on: the value there, and the next segment.
-#[derive(Drop)]
+#[derive(Clone, Copy)]
 enum Step {
     On(Value, usize),
     Nothing,
@@ -122,7 +124,7 @@ fn walk(s: &[u8], tab: &[u64], b: &[u8], ent: &[u64], v: Value, p: usize, n: usi
 }
 
 // Where a path starts: a value as `value::encode` makes it, and the segments to follow from it, so many. far: where only the front is known, and that does not tell.
-#[derive(Drop)]
+#[derive(Clone, Copy)]
 struct Start {
     value: u32,
     place: usize,

@@ -1,5 +1,7 @@
 // Whole numbers in decimal: the digits of any u64, into a lent slice or one by one, and `parse::<usize>`
 // as a machine that is fed one byte at a time.
+#![tactic(auto)]
+
 ghost use Rattle.std.specs.Prelude.{◌≡◌, ◌+◌, ◌/◌, ◌%◌, ◌^◌, ◌<◌, length};
 ghost use Rattle.rules.specs.Bytes.{digits, byte_at};
 ghost use Rattle.rules.specs.Context.{parse_usize};
@@ -95,7 +97,7 @@ pub fn write_digits(out: &mut [u8], at: usize, n: u64) -> usize
 }
 
 // What the bytes fed so far are: none, a plus, a number, or refused whatever follows.
-#[derive(Drop)]
+#[derive(Clone, Copy)]
 pub enum Parse {
     Empty,
     Plus,
@@ -103,7 +105,7 @@ pub enum Parse {
     Refused,
 }
 
-#[derive(Drop)]
+#[derive(Clone, Copy)]
 pub enum Parsed {
     Is(u64),
     Refused,

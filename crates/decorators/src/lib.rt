@@ -1,5 +1,7 @@
 // decorators/mod.rs and decorators/inline.rs: what a decorator element is about to do.
 // s is the plan, b the bundle, ent holds the entries of open partials.
+#![tactic(auto)]
+
 ghost use Rattle.std.specs.Prelude.{◌≡◌, ℕ, ◌+◌, ◌*◌, ◌≤◌, ◌<◌, length};
 ghost use Rattle.std.proofs.Math.Option.{none, some};
 ghost use Rattle.std.proofs.lemmas.List.Edits.{sets};
@@ -81,14 +83,14 @@ pub fn append_indent(indent: &mut [u8], b: &[u8], len: usize, at: Maybe) -> usiz
 // Inline partials
 
 // Among those of a scope.
-#[derive(Drop)]
+#[derive(Clone, Copy)]
 pub enum Local {
     // its entry
     At(usize),
     Nothing,
 }
 
-#[derive(Drop)]
+#[derive(Clone, Copy)]
 pub enum Inlined {
     // the paper's number of the refusal
     Bad(u8),

@@ -1,5 +1,7 @@
 // A text that goes to the output in force as it is: no indent comes inside it, no byte of it is escaped, and it fits. It is stored at once,
 // where `support` would feed it. Most texts of a sheet are such, and short, so that what is done for each of them counts.
+#![tactic(auto)]
+
 ghost use Rattle.std.specs.Prelude.{true, false, ◌∷◌, ◌≡◌, ℕ, ◌+◌, ◌-◌, ◌*◌, ◌^◌, ◌<◌, ◌≤◌, length, get_or};
 ghost use Rattle.std.proofs.lemmas.List.Edits.{sets};
 ghost use Rattle.rules.specs.Bytes.{Bytes};

@@ -1,4 +1,6 @@
 // The entries of open partials, in the lent table: hash pairs with their values, and inline partials. meaning/specs/Entries says how one is kept.
+#![tactic(auto)]
+
 ghost use Rattle.std.specs.Prelude.{◌≡◌, ◌+◌, ◌*◌, ◌<◌, length};
 ghost use Rattle.meaning.specs.Entries.{low, high, place};
 ghost use Rattle.entries.specs.Stored.{stored};

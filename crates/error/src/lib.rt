@@ -1,4 +1,5 @@
 // error.rs: the paper's number of each refusal.
+#![tactic(auto)]
 
 // Checks in front of a call, in their order
 pub const SCRATCH_TOO_SHORT: u8 = 1;

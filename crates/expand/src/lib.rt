@@ -1,5 +1,7 @@
 // render.rs: `Parameter`, `Helper::try_from_template` and `call_helper_for_value`. What a parameter stands for is worked out in the bundle, as it is called.
 // d is the number of depths left, a parameter's own included; s is the plan, ent holds the entries of open partials.
+#![tactic(auto)]
+
 ghost use Rattle.std.specs.Prelude.{true, false, ◌≡◌, List, ℕ, ◌+◌, ◌≤◌, ◌<◌, eqb, length};
 ghost use Rattle.rules.specs.Bytes.{pick, same};
 ghost use Rattle.rules.specs.Bits.{bits};
@@ -33,7 +35,7 @@ use scope::Scope;
 use text::{Step, Text};
 use value::Value;
 
-#[derive(Drop)]
+#[derive(Clone, Copy)]
 pub struct Options {
     pub strict: bool,
     pub recursive_lookup: bool,
@@ -42,14 +44,14 @@ pub struct Options {
 }
 
 // A value, or the paper's number of the refusal.
-#[derive(Drop)]
+#[derive(Clone, Copy)]
 pub enum Got {
     Is(Value),
     Bad(u8),
 }
 
 // What `Helper::try_from_template` works out.
-#[derive(Drop)]
+#[derive(Clone, Copy)]
 pub struct Expanded {
     // the name is what this prints
     pub name: Value,
@@ -63,14 +65,14 @@ pub struct Expanded {
     pub bad: u8,
 }
 
-#[derive(Drop)]
+#[derive(Clone, Copy)]
 struct Params {
     first: Value,
     second: Value,
     bad: u8,
 }
 
-#[derive(Drop)]
+#[derive(Clone, Copy)]
 struct Hash {
     zero: bool,
     bad: u8,
@@ -78,7 +80,7 @@ struct Hash {
 
 // Helpers, called for their value
 
-#[derive(Drop)]
+#[derive(Clone, Copy)]
 pub enum HelperDef {
     Each,
     With,
@@ -484,7 +486,7 @@ fn first_of(x: u8, y: u8) -> u8
 
 // The cycle
 
-#[cycle(expand_expand_all_expand_as_name_expand_hash_from_template)]
+#[cycle(expansion)]
 fn expand_all(
     s: &[u8],
     tab: &[u64],
@@ -522,7 +524,7 @@ fn expand_all(
     joined(r, rest)
 }
 
-#[cycle(expand_expand_all_expand_as_name_expand_hash_from_template)]
+#[cycle(expansion)]
 fn expand_hash(
     s: &[u8],
     tab: &[u64],
@@ -560,7 +562,7 @@ fn expand_hash(
 }
 
 // What the call at p works out, part by part.
-#[cycle(expand_expand_all_expand_as_name_expand_hash_from_template)]
+#[cycle(expansion)]
 fn from_template(
     s: &[u8],
     tab: &[u64],
@@ -587,7 +589,7 @@ fn from_template(
 }
 
 // The value of the parameter at p.
-#[cycle(expand_expand_all_expand_as_name_expand_hash_from_template)]
+#[cycle(expansion)]
 pub fn expand(
     s: &[u8],
     tab: &[u64],
@@ -619,7 +621,7 @@ pub fn expand(
 }
 
 // The name that the parameter at p is: what the value prints.
-#[cycle(expand_expand_all_expand_as_name_expand_hash_from_template)]
+#[cycle(expansion)]
 pub fn expand_as_name(
     s: &[u8],
     tab: &[u64],

@@ -1,6 +1,8 @@
 // render.rs: `Expression` and `HtmlExpression`. An expression draws no body, so these are leaves of the drawing.
 // s is the plan with its places tab, b the bundle; ent holds the entries of open partials, indent the indent in force; d is the number of depths left
 // for the call.
+#![tactic(auto)]
+
 ghost use Rattle.std.specs.Prelude.{List, ◌≡◌, ℕ, ◌≤◌, length};
 ghost use Rattle.rules.specs.Bits.{bits};
 ghost use Rattle.rules.specs.Bundle.{param, call_of};

@@ -1,4 +1,6 @@
 // The library: what C and Rust callers get. include/handlebars.h declares it.
+#![tactic(auto)]
+
 ghost use Rattle.std.specs.Prelude.{[], ◌∷◌, ◌≡◌, length};
 ghost use Rattle.layout.specs.Verdict.{verdict, verdict_number};
 ghost use Rattle.handlebars.specs.Checks.{plan_number, plan_table};
@@ -23,7 +25,7 @@ pub const VALUES: usize = 4096;
 
 // What a call answers; include/handlebars.h has the same struct.
 #[repr(C)]
-#[derive(Drop)]
+#[derive(Clone, Copy)]
 pub struct Answer {
     // 0, or the number of the refusal
     pub number: u32,

@@ -20,7 +20,7 @@ const TEXTS: usize = 16384;
 
 const INDENT: usize = 256;
 
-#[derive(Drop)]
+#[derive(Clone, Copy)]
 pub enum Start {
     // the places of the template's name and of its body
     At(usize, usize),

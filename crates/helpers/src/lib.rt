@@ -1,5 +1,7 @@
 // helpers/*.rs, and render.rs for an expression: what is about to be drawn, worked out before anything is.
 // s is the plan, b the bundle, ent holds the entries of open partials, and used scopes are open.
+#![tactic(auto)]
+
 ghost use Rattle.std.specs.Prelude.{false, ◌≡◌, List, ℕ, ◌≤◌, ◌<◌, eqb, length};
 ghost use Rattle.std.proofs.Math.Option.{none, some};
 ghost use Rattle.rules.specs.Bytes.{pick};
@@ -39,7 +41,7 @@ use scope::Scope;
 use value::Value;
 
 // What a helper does.
-#[derive(Drop)]
+#[derive(Clone, Copy)]
 pub enum Does {
     // the paper's number of the refusal
     Bad(u8),
@@ -356,7 +358,7 @@ pub fn call_two(
 // Expressions
 
 // What an expression does.
-#[derive(Drop)]
+#[derive(Clone, Copy)]
 pub enum Shows {
     // the paper's number of the refusal
     Bad(u8),

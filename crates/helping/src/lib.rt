@@ -1,6 +1,8 @@
 // helpers/*.rs and render.rs: a helper up to the body that it draws. What it does is decided, its marks are set, and the scope of `with` is opened.
 // s is the plan with its places tab, b the bundle; ent holds the entries of open partials, indent the indent in force; d is the number of depths left
 // for the call and the bodies of the element.
+#![tactic(auto)]
+
 ghost use Rattle.std.specs.Prelude.{◌≡◌, List, ℕ, ◌+◌, ◌-◌, ◌≤◌, ◌<◌, length};
 ghost use Rattle.rules.specs.Bits.{bits};
 ghost use Rattle.rules.specs.Bundle.{string, body, param, call_of, block_names};
@@ -35,7 +37,7 @@ use state::RenderContext;
 use value::Value;
 
 // A call whose name is a string, with no hash and few parameters: most are such.
-#[derive(Drop)]
+#[derive(Clone, Copy)]
 enum Few {
     // the path that is the only one
     One(usize),
@@ -166,7 +168,7 @@ fn decide_two(
 }
 
 // What a helper does, if the front tells.
-#[derive(Drop)]
+#[derive(Clone, Copy)]
 pub enum Near {
     Is(Does),
     Far,
@@ -278,7 +280,7 @@ pub fn begin_helper(rc: RenderContext, before: bool) -> RenderContext
 }
 
 // What is left to be drawn of a helper.
-#[derive(Drop)]
+#[derive(Clone, Copy)]
 pub enum Next {
     // nothing: the context is the one behind it
     Done,
@@ -290,7 +292,7 @@ pub enum Next {
     Turns(Value, usize),
 }
 
-#[derive(Drop)]
+#[derive(Clone, Copy)]
 pub struct Begun {
     pub rc: RenderContext,
     // the newest scope: the one that was opened, else the front

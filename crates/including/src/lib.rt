@@ -1,5 +1,7 @@
 // partial.rs: what a partial works out before it is drawn. The hash is merged into the context: its pairs become entries of the lent table.
 // d is the number of depths left for the values of the hash; s is the plan, ent holds the entries of open partials, t is behind those in use.
+#![tactic(auto)]
+
 ghost use Rattle.std.specs.Prelude.{◌≡◌, List, ℕ, ◌+◌, ◌*◌, ◌≤◌, ◌<◌, eqb, length};
 ghost use Rattle.rules.specs.Bytes.{pick};
 ghost use Rattle.rules.specs.Bits.{bits};

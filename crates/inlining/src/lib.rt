@@ -1,5 +1,7 @@
 // render.rs: `eval_decorator`. It draws nothing; the newest scope may have an inline partial more behind it, or another body under a name that
 // it has. s is the plan, b the bundle, ent holds the entries of open partials.
+#![tactic(auto)]
+
 ghost use Rattle.std.specs.Prelude.{List, ◌≡◌, ◌+◌, ◌≤◌, length};
 ghost use Rattle.rules.specs.Bits.{bits};
 ghost use Rattle.rules.specs.Bundle as bundle;

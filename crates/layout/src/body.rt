@@ -8,7 +8,7 @@ use super::part::BROKEN;
 use super::{call, part};
 
 // A bit, and a body if it is 1.
-#[cycle(body_element_maybe_body)]
+#[cycle(bodies)]
 fn maybe_body(b: &[u8], p: usize, w: usize, d: usize) -> usize
     requires { length b.now ≤ 65536 }
     ensures { place_by result ≡ past maybe_context (maybe_body (body w d)) (bits b.now) (place_by p) }
@@ -25,7 +25,7 @@ fn maybe_body(b: &[u8], p: usize, w: usize, d: usize) -> usize
 }
 
 // Kind (4) and what it holds; d depths are left for parameters and bodies in it.
-#[cycle(body_element_maybe_body)]
+#[cycle(bodies)]
 fn element(b: &[u8], p: usize, w: usize, d: usize) -> usize
     requires { length b.now ≤ 65536 }
     ensures { place_by result
@@ -67,7 +67,7 @@ fn element(b: &[u8], p: usize, w: usize, d: usize) -> usize
 }
 
 // Body: element count (12), each: line (w), column (w), element; d depths are left, its own included.
-#[cycle(body_element_maybe_body)]
+#[cycle(bodies)]
 pub fn body(b: &[u8], p: usize, w: usize, d: usize) -> usize
     requires { length b.now ≤ 65536 }
     ensures { place_by result ≡ past body_context (body w d) (bits b.now) (place_by p) }

@@ -23,7 +23,7 @@ fn may_follow(b: &[u8], i: usize, prev: usize, at: usize) -> bool
 }
 
 // Parameter (2): 0 Name, 1 Path, 2 Literal, 3 Subexpression; d depths are left, its own included.
-#[cycle(call_pairs_param_params)]
+#[cycle(calls)]
 fn param(b: &[u8], p: usize, d: usize) -> usize
     requires { length b.now ≤ 65536 }
     ensures { place_by result ≡ after (param d) (bits b.now) (place_by p) }
@@ -49,7 +49,7 @@ fn param(b: &[u8], p: usize, d: usize) -> usize
 }
 
 // Count (4) and parameters.
-#[cycle(call_pairs_param_params)]
+#[cycle(calls)]
 fn params(b: &[u8], p: usize, d: usize) -> usize
     requires { length b.now ≤ 65536 }
     ensures { place_by result ≡ after (params (param d)) (bits b.now) (place_by p) }
@@ -65,7 +65,7 @@ fn params(b: &[u8], p: usize, d: usize) -> usize
 }
 
 // Count (4) and hash pairs, keys strictly ascending by bytes.
-#[cycle(call_pairs_param_params)]
+#[cycle(calls)]
 fn pairs(b: &[u8], p: usize, d: usize) -> usize
     requires { length b.now ≤ 65536 }
     ensures { place_by result ≡ after (pairs (param d)) (bits b.now) (place_by p) }
@@ -94,7 +94,7 @@ fn pairs(b: &[u8], p: usize, d: usize) -> usize
 }
 
 // Call: name (a parameter), parameters, hash pairs.
-#[cycle(call_pairs_param_params)]
+#[cycle(calls)]
 pub fn call(b: &[u8], p: usize, d: usize) -> usize
     requires { length b.now ≤ 65536 }
     ensures { place_by result ≡ after (call_of (param d)) (bits b.now) (place_by p) }

@@ -4,6 +4,8 @@
 // It goes from call to call as one number: twice the bit, two more, and one for the mark; below 2 it is broken. (An enum would be stored
 // in pieces and read back whole at each call, and the load would wait for the stores.)
 // They all require what check 2 has found: at most 65,536 bytes.
+#![tactic(auto)]
+
 ghost use Rattle.std.specs.Prelude.{Bool, ◌≡◌, ℕ, ◌≤◌, ◌<◌, length, get_or, replicate};
 ghost use Rattle.rules.specs.Bytes.{same};
 ghost use Rattle.rules.specs.Bits.{bits};
@@ -99,7 +101,7 @@ fn templates(b: &[u8], p: usize, w: usize, places: &mut [u32]) -> usize
 }
 
 // What the checks 2, 3 and 4 answer; `verdict-number` in specs/Verdict is the paper's number of each.
-#[derive(Drop)]
+#[derive(Clone, Copy)]
 pub enum Verdict {
     Accepted,
     TooLong,

@@ -1,4 +1,6 @@
 // context.rs and helpers/helper_lookup.rs: what a value has under a name or an index.
+#![tactic(auto)]
+
 ghost use Rattle.std.specs.Prelude.{◌≡◌, ◌+◌, ◌*◌, ◌≤◌, ◌<◌, length};
 ghost use Rattle.std.proofs.Math.Option.{none, some};
 ghost use Rattle.std.proofs.Math.ListN.{get_elem?};
@@ -93,20 +95,20 @@ const PAIR: u64 = 1 << 32;
 
 const PAIR_TO_VALUE: u64 = PAIR - VALUE;
 
-#[derive(Drop)]
+#[derive(Clone, Copy)]
 pub enum Found {
     Is(Value),
     Nothing,
 }
 
-#[derive(Drop)]
+#[derive(Clone, Copy)]
 pub enum Got {
     Is(Value),
     Nothing,
     BadIndex,
 }
 
-#[derive(Drop)]
+#[derive(Clone, Copy)]
 enum Reached {
     At(usize),
     Nothing,

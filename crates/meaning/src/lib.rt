@@ -1,4 +1,6 @@
 // json/value.rs: what a value is, and whether it is true.
+#![tactic(auto)]
+
 ghost use Rattle.std.specs.Prelude.{◌≡◌, ◌≤◌, ◌<◌, length};
 ghost use Rattle.rules.specs.Bits.{bits};
 ghost use Rattle.rules.specs.Bundle.{string, literal};
@@ -16,7 +18,7 @@ use places::Kind;
 use text::{Step, Text};
 use value::Value;
 
-#[derive(Drop)]
+#[derive(Clone, Copy)]
 pub enum Form {
     Null,
     Boolean(bool),

@@ -1,4 +1,6 @@
 // The members of a value that is taken as an object: how many there are, and one by one by ascending name.
+#![tactic(auto)]
+
 ghost use Rattle.std.specs.Prelude.{◌≡◌, ◌+◌, ◌*◌, ◌≤◌, ◌<◌, length};
 ghost use Rattle.rules.specs.Bytes.{before};
 ghost use Rattle.rules.specs.Bits.{bits};
@@ -30,7 +32,7 @@ use text::Text;
 use value::Value;
 
 // The name and the value of a member; the value has no path.
-#[derive(Drop)]
+#[derive(Clone, Copy)]
 pub enum Member {
     Is(Value, Value),
     Nothing,

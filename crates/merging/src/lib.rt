@@ -1,1 +1,2 @@
 // Theorems about the merged object of a partial: see specs/.
+#![tactic(auto)]

@@ -1,4 +1,6 @@
 // What is derived from a fixed name is computed from its bytes. (The compiler works it out where the name is fixed.)
+#![tactic(auto)]
+
 ghost use Rattle.std.specs.Prelude.{◌≡◌, ◌<◌, length};
 ghost use Rattle.names.specs.Head.{head_of};
 

@@ -1,12 +1,14 @@
 // partial.rs: the scope of a partial is opened, with the hash of its call merged into its context.
 // s is the plan with its places tab, b the bundle; ent holds the entries of open partials; d is the number of depths left for the call.
+#![tactic(auto)]
+
 ghost use Rattle.opening.specs.Opens.{Openable, Opens};
 
 use error::{ENTRIES_LIMIT, SCOPES_LIMIT};
 use scope::Scope;
 use value::Value;
 
-#[derive(Drop)]
+#[derive(Clone, Copy)]
 pub enum Opened {
     // the paper's number of the refusal
     Bad(u8),

@@ -1,5 +1,7 @@
 // output.rs: writing into the page or a block text. A writer goes by value; the caller lends the output in force alone:
 // the page, or, where the writer says so, the buffer of the block texts.
+#![tactic(auto)]
+
 ghost use Rattle.std.specs.Prelude.{true, ◌≡◌, ◌+◌, ◌-◌, ◌*◌, ◌^◌, ◌≤◌, ◌<◌, length, take, drop};
 ghost use Rattle.std.proofs.lemmas.List.Edits.{sets};
 ghost use Rattle.std.proofs.Math.Seq.{slice};
@@ -12,7 +14,7 @@ ghost use Rattle.output.specs.Outputs.{outputs, on};
 // The block texts share a buffer of this length.
 pub const TEXTS: usize = 16384;
 
-#[derive(Drop)]
+#[derive(Clone, Copy)]
 pub struct Writer {
     // the bytes of the page that are taken
     pub written: usize,

@@ -1,5 +1,7 @@
 // partial.rs: which partial a name stands for. The name is what a value prints.
 // s is the plan, b the bundle, places are those of its templates, ent holds the entries of open partials.
+#![tactic(auto)]
+
 ghost use Rattle.std.specs.Prelude.{◌≡◌, ℕ, ◌-◌, ◌≤◌, ◌<◌, length};
 ghost use Rattle.rules.specs.Bits.{bits};
 ghost use Rattle.rules.specs.Layout.{field};
@@ -23,7 +25,7 @@ use decorators::Local;
 use scope::Scope;
 use value::Value;
 
-#[derive(Drop)]
+#[derive(Clone, Copy)]
 pub enum Found {
     // an inline partial: its body, and the depths that it has left
     Inline(usize, usize),

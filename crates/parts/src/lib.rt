@@ -1,6 +1,8 @@
 // Readers of the parts of an accepted bundle that hold neither a call nor a body, and the way past each of them.
 // Nothing is checked again: a string is passed by its count, without a look at its bytes.
 // Every caller has a bundle that `layout::check_bundle` accepted, so that the parts stand where the laws of specs/ say.
+#![tactic(auto)]
+
 ghost use Rattle.std.specs.Prelude.{◌≡◌, ◌≤◌, length};
 ghost use Rattle.rules.specs.Bytes.{same};
 ghost use Rattle.rules.specs.Bits.{bits};
@@ -19,7 +21,7 @@ pub fn skip_string(b: &[u8], p: usize) -> usize
 }
 
 // The string at p: how many bytes, and the bit where they start.
-#[derive(Drop)]
+#[derive(Clone, Copy)]
 pub struct Text {
     pub count: usize,
     pub first: usize,
@@ -44,7 +46,7 @@ pub fn text_is(b: &[u8], p: usize, t: &[u8]) -> bool
     bits::same_bytes(b, p + 16, n, t)
 }
 
-#[derive(Drop)]
+#[derive(Clone, Copy)]
 pub enum Segment {
     // its string, and the next segment
     Named(usize, usize),
@@ -97,7 +99,7 @@ fn skip_row(b: &[u8], p: usize, n: u64) -> usize
 }
 
 // A path's raw string stands at its place.
-#[derive(Drop)]
+#[derive(Clone, Copy)]
 pub enum Path {
     // how many segments, and the first
     Relative(u64, usize),
@@ -140,7 +142,7 @@ pub fn skip_path(b: &[u8], p: usize) -> usize
     skip_string(b, q + 9)
 }
 
-#[derive(Drop)]
+#[derive(Clone, Copy)]
 pub enum Literal {
     Null,
     Boolean(bool),
@@ -191,7 +193,7 @@ pub fn skip_literal(b: &[u8], p: usize) -> usize
     skip_string(b, q)
 }
 
-#[derive(Drop)]
+#[derive(Clone, Copy)]
 pub enum BlockParam {
     None,
     // the strings
@@ -231,7 +233,7 @@ pub fn skip_block_names(b: &[u8], p: usize) -> usize
 }
 
 // What may follow a bit: an indent or a body.
-#[derive(Drop)]
+#[derive(Clone, Copy)]
 pub enum Maybe {
     At(usize),
     Nothing,

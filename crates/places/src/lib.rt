@@ -1,5 +1,7 @@
 // The values of an accepted plan by their numbers (its places). Each function takes the plan's text and the table that the reader left.
 // What it answers is said by places; the laws of specs/ say what that means for the rules' values and paths.
+#![tactic(auto)]
+
 ghost use Rattle.std.specs.Prelude.{◌≡◌, true, ◌&&◌, ℕ, suc, ◌+◌, ◌*◌, ◌/◌, ◌%◌, ◌^◌, ◌<◌, ◌≤◌, length, take, replicate};
 ghost use Rattle.std.proofs.Math.ListN.{get_elem?};
 ghost use Rattle.std.proofs.Math.Option.{some};
@@ -20,13 +22,13 @@ ghost use Rattle.places.specs.Children.{is_object, end_at, behind, around};
 use saying::{Name, Ordering};
 
 // A place, or none.
-#[derive(Drop)]
+#[derive(Clone, Copy)]
 pub enum Found {
     At(usize),
     Nothing,
 }
 
-#[derive(Drop)]
+#[derive(Clone, Copy)]
 pub enum Kind {
     Null,
     False,

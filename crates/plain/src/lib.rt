@@ -3,6 +3,8 @@
 // a text that is stored at once moves the writer on where it stands.
 // s is the plan with its places tab, b the bundle; ent holds the entries of open partials; front is the newest scope, and the block names of all are in the set names;
 // d is the number of depths left for what stands in an element.
+#![tactic(auto)]
+
 ghost use Rattle.std.specs.Prelude.{true, List, ◌≡◌, ℕ, ◌+◌, ◌-◌, ◌*◌, ◌^◌, ◌≤◌, ◌<◌, length};
 ghost use Rattle.rules.specs.Bytes.{Bytes, pick};
 ghost use Rattle.rules.specs.Bits.{bits};
@@ -34,7 +36,7 @@ use scope::Scope;
 use state::RenderContext;
 
 // What an element is, as far as few reads tell.
-#[derive(Drop)]
+#[derive(Clone, Copy)]
 enum Plain {
     // a raw text of so many bytes
     Text(usize),
@@ -102,7 +104,7 @@ fn plain_at(b: &[u8], p: usize, d: usize) -> Plain
 }
 
 // What an element shows, if that is told at once.
-#[derive(Drop)]
+#[derive(Clone, Copy)]
 pub enum Shown {
     // a raw text of so many bytes
     Text(usize),
@@ -118,7 +120,7 @@ pub enum Shown {
 }
 
 // A call of `lookup` over two parameters, with no hash: where the parameters stand, the bit behind the call, and the place behind that.
-#[derive(Drop)]
+#[derive(Clone, Copy)]
 enum Lookup {
     // two paths
     Paths(usize, usize, bool, usize),

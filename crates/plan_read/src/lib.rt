@@ -1,4 +1,6 @@
 // The plan reader: one pass over the text of a plan, which numbers its values in the order in which they start.
+#![tactic(auto)]
+
 ghost use Rattle.std.specs.Prelude.{◌≡◌, suc, ◌+◌, ◌≤◌, ◌<◌, length, set};
 ghost use Rattle.rules.specs.Scan.{spaces_end, scalar_end};
 ghost use Rattle.rules.specs.Tree.{leaf, colon_end, name_end, item_place, item_name, items, is_open, value_of};
@@ -31,7 +33,7 @@ const PLACES: u64 = 1 << 16;
 const TO_CLOSE: u8 = b']' - b'[';
 
 // What was read: the place behind it or `NOTHING`, the values numbered so far, and how many numbers check 9 refuses.
-#[derive(Drop)]
+#[derive(Clone, Copy)]
 struct Read {
     at: usize,
     count: usize,
@@ -100,7 +102,7 @@ fn read_leaf(s: &[u8], tab: &mut [u64], i: usize, name: usize, n: usize, bad: us
 }
 
 // A place and the byte there.
-#[derive(Drop)]
+#[derive(Clone, Copy)]
 struct Mark {
     at: usize,
     byte: u8,
@@ -178,7 +180,7 @@ fn is_open(c: u8) -> bool
 }
 
 // The value at i, of depth `left` at most; its own number is n.
-#[cycle(read_item_read_items_read_value)]
+#[cycle(reading)]
 fn read_value(
     s: &[u8],
     tab: &mut [u64],
@@ -247,7 +249,7 @@ fn plain_end(s: &[u8], i: usize) -> usize
 }
 
 // The value of an item at i, as `read_value` reads it. (Most are read at once, and then no call is made.)
-#[cycle(read_item_read_items_read_value)]
+#[cycle(reading)]
 fn read_item(
     s: &[u8],
     tab: &mut [u64],
@@ -274,7 +276,7 @@ fn read_item(
 }
 
 // The items from i on, up to what closes them; the first one's number is n.
-#[cycle(read_item_read_items_read_value)]
+#[cycle(reading)]
 fn read_items(
     s: &[u8],
     tab: &mut [u64],

@@ -1,4 +1,6 @@
 // json/value.rs: `render`. What a value prints is fed to a writer as it stands, or compared, and never made up first.
+#![tactic(auto)]
+
 ghost use Rattle.std.specs.Prelude.{◌≡◌, ℕ, ◌+◌, ◌-◌, ◌*◌, ◌≤◌, ◌<◌, length, take, drop};
 ghost use Rattle.rules.specs.Bytes.{Bytes, same};
 ghost use Rattle.rules.specs.Json.{jbool, jpos, jneg};
@@ -187,7 +189,7 @@ fn write_bool(out: &mut [u8], indent: &[u8], w: Writer, x: bool, escape: bool) -
 }
 
 // The values of the list at the place i.
-#[cycle(write_list_write_value)]
+#[cycle(printing)]
 fn write_list(
     out: &mut [u8],
     indent: &[u8],
@@ -221,7 +223,7 @@ fn write_list(
 }
 
 // Bytes of the plan; none where `end` is 0.
-#[derive(Drop)]
+#[derive(Clone, Copy)]
 pub struct Span {
     pub start: usize,
     pub end: usize,
@@ -336,7 +338,7 @@ pub fn calm_value(s: &[u8], tab: &[u64], n: u32) -> Span
 }
 
 // What a value prints.
-#[cycle(write_list_write_value)]
+#[cycle(printing)]
 pub fn write_value(
     out: &mut [u8],
     indent: &[u8],
@@ -365,19 +367,19 @@ pub fn write_value(
 }
 
 // What a value's text is compared with: a text, or lent bytes from a place on.
-#[derive(Drop)]
+#[derive(Clone, Copy)]
 enum Target {
     Text(Text),
     Lent(usize),
 }
 
-#[derive(Drop)]
+#[derive(Clone, Copy)]
 enum Ahead {
     Byte(u8, Target),
     End,
 }
 
-#[derive(Drop)]
+#[derive(Clone, Copy)]
 enum Left {
     Is(Target),
     Other,
@@ -460,7 +462,7 @@ fn strip_bool(s: &[u8], b: &[u8], w: &[u8], g: Target, x: bool) -> Left
 }
 
 // What is left where the list at the place i stands in front.
-#[cycle(strip_list_strip_value)]
+#[cycle(stripping)]
 fn strip_list(s: &[u8], tab: &[u64], b: &[u8], w: &[u8], g: Target, i: usize) -> Left
     requires { Accepted s.now tab.now
         × (length b.now ≤ 65536)
@@ -495,7 +497,7 @@ fn strip_list(s: &[u8], tab: &[u64], b: &[u8], w: &[u8], g: Target, i: usize) ->
 }
 
 // What is left where the text of a value stands in front.
-#[cycle(strip_list_strip_value)]
+#[cycle(stripping)]
 fn strip_value(s: &[u8], tab: &[u64], b: &[u8], w: &[u8], g: Target, v: Value) -> Left
     requires { Accepted s.now tab.now
         × (length b.now ≤ 65536)

@@ -1,13 +1,15 @@
 // The bit reader of the paper: the lent bundle and its current bit. The work is done by `bits`, which takes a slice and a bit number.
 // The borrow checker covers no function over a struct that holds a reference, so these are thin, and each is proved by hand. Those
 // below that take a plain slice are for callers that are covered.
+#![tactic(auto)]
+
 ghost use Rattle.std.specs.Prelude.{◌≡◌, ◌≤◌, eqb};
 ghost use Rattle.rules.specs.Bits.{bits};
 ghost use Rattle.rules.specs.Layout.{field};
 
 const BYTE: usize = 8;
 
-#[derive(Drop)]
+#[derive(Clone, Copy)]
 pub struct BitReader<'a> {
     pub bundle: &'a [u8],
     pub bit: usize,

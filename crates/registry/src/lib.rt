@@ -1,4 +1,6 @@
 // The templates of an accepted bundle. The first stands behind the version and the count.
+#![tactic(auto)]
+
 ghost use Rattle.std.specs.Prelude.{◌≡◌, ◌≤◌, ◌<◌, length, get_or};
 ghost use Rattle.rules.specs.Bytes.{same};
 ghost use Rattle.rules.specs.Bits.{bits};
@@ -30,7 +32,7 @@ pub fn template_count(b: &[u8]) -> usize
     reader::template_count(b) as usize
 }
 
-#[derive(Drop)]
+#[derive(Clone, Copy)]
 pub struct Template {
     // its name's string
     pub name: usize,
@@ -51,7 +53,7 @@ pub fn indexed_at(b: &[u8], places: &[u32], k: usize) -> Template
     }
 }
 
-#[derive(Drop)]
+#[derive(Clone, Copy)]
 pub enum Found {
     // the template's number from 0, its name's string, and its body
     Template(usize, usize, usize),

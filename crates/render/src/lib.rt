@@ -3,6 +3,8 @@
 // included. ent holds the entries of open partials, indent the indent in force; page and texts are written into.
 // The open scopes go by value: each function is given the array and its newest record, and gives back the context, in which the newest scope
 // may have gained inline partials. The scopes beneath are the caller's own.
+#![tactic(auto)]
+
 ghost use Rattle.std.specs.Prelude.{◌≡◌, List, ℕ, ◌+◌, ◌-◌, ◌≤◌, ◌<◌, length, set, replicate};
 ghost use Rattle.std.proofs.Math.Option.{some};
 ghost use Rattle.rules.specs.Bits.{bits};
@@ -52,7 +54,7 @@ fn stopped(b: &[u8], name: usize, p: usize, rc: RenderContext) -> RenderContext
 // A body, or all of a template whose name stands at the place before name; 0 where it has none. top is the newest scope, and not yet in the array.
 // (How a text or a value is stored is written out here: a function that gave the writer or the context back would have it copied for each
 // element, which takes a tenth of a sheet's time.)
-#[cycle(render_element_render_elements_render_helper_render_partial_render_partial_block_render_text_render_turns)]
+#[cycle(rendering)]
 fn render_elements(
     s: &[u8],
     tab: &[u64],
@@ -190,7 +192,7 @@ fn render_elements(
     q
 }
 
-#[cycle(render_element_render_elements_render_helper_render_partial_render_partial_block_render_text_render_turns)]
+#[cycle(rendering)]
 fn render_element(
     s: &[u8],
     tab: &[u64],
@@ -334,7 +336,7 @@ fn begin_helper(
 }
 
 // A block with a helper: its call at p, its block names at the place `at`.
-#[cycle(render_element_render_elements_render_helper_render_partial_render_partial_block_render_text_render_turns)]
+#[cycle(rendering)]
 fn render_helper(
     s: &[u8],
     tab: &[u64],
@@ -401,7 +403,7 @@ fn render_helper(
 }
 
 // `each`: the body at p for each turn over the value, all in one scope.
-#[cycle(render_element_render_elements_render_helper_render_partial_render_partial_block_render_text_render_turns)]
+#[cycle(rendering)]
 fn render_turns(
     s: &[u8],
     tab: &[u64],
@@ -456,7 +458,7 @@ fn render_turns(
 }
 
 // A partial without a body of its own: its call at p, its own indent at the place `at`.
-#[cycle(render_element_render_elements_render_helper_render_partial_render_partial_block_render_text_render_turns)]
+#[cycle(rendering)]
 fn render_partial(
     s: &[u8],
     tab: &[u64],
@@ -519,7 +521,7 @@ fn render_partial(
 
 // The same with a body of its own. (A function of its own, so that `beginning::begin` is called from two places: what is called from one is made a part
 // of its caller, and its locals would lie on the stack as often as partials are nested.)
-#[cycle(render_element_render_elements_render_helper_render_partial_render_partial_block_render_text_render_turns)]
+#[cycle(rendering)]
 fn render_partial_block(
     s: &[u8],
     tab: &[u64],
@@ -598,7 +600,7 @@ fn render_partial_block(
 }
 
 // The body of a partial's block text at o is drawn first, then its body at p; around is the context in front of the element.
-#[cycle(render_element_render_elements_render_helper_render_partial_render_partial_block_render_text_render_turns)]
+#[cycle(rendering)]
 fn render_text(
     s: &[u8],
     tab: &[u64],

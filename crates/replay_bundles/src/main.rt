@@ -1,5 +1,7 @@
 // Replays every bundle of the fixed list, and damaged ones: what check_bundle says of each beside the oracle's number, and how many
 // elements of each kind the accepted ones of up to 4,096 bytes have. `make-data` makes the files and states their form.
+#![tactic(auto)]
+
 ghost use Rattle.std.specs.Prelude.{◌≡◌, ◌+◌, ◌≤◌, ◌<◌, length};
 ghost use Rattle.io.specs.Counts.{IsPrefixLen};
 ghost use Rattle.layout.specs.Verdict.{verdict_number};
@@ -15,7 +17,7 @@ const END: usize = 262144;
 const START_AGAIN: usize = 131072;
 
 // A bundle's place in the buffer, its length, its number, and the place behind it in the file.
-#[derive(Drop)]
+#[derive(Clone, Copy)]
 struct Unpacked {
     from: usize,
     len: usize,

@@ -1,5 +1,7 @@
 // Reads the plans of data/ (make.py says what they are) and prints for each of the oracle's numbers how many plans have it and how many of them
 // the reader answers so; every other one by its file and its place there.
+#![tactic(auto)]
+
 ghost use Rattle.std.specs.Prelude.{◌+◌, ◌≤◌, ◌<◌};
 ghost use Rattle.io.specs.Counts.{IsPrefixLen};
 
@@ -9,7 +11,7 @@ use libc::STDOUT_FILENO;
 const END: usize = 262144;
 
 // A string of the list (vectors/README.md): its length in the buffer, and the place behind it in the file.
-#[derive(Drop)]
+#[derive(Clone, Copy)]
 struct Unpacked {
     len: usize,
     next: usize,

@@ -1,6 +1,8 @@
 // Draws the cases of the fixed list (vectors/README.md states its form) and of pages.bin (make.py says what they are), and prints for each of
 // the stored numbers how many cases have it and how many of them are answered so: number, template, line, column, length, every byte of the page
 // and of the scratch buffers. Every other case is printed by its file and its place there.
+#![tactic(auto)]
+
 ghost use Rattle.std.specs.Prelude.{◌+◌, ◌≤◌, ◌<◌, length};
 ghost use Rattle.io.specs.Counts.{IsPrefixLen};
 ghost use Rattle.replay_render.specs.Cases.{Fits};
@@ -27,14 +29,14 @@ const SHORT: usize = 64;
 const LONG: usize = 65600;
 
 // A string of the list: its length in the buffer, and the place behind it in the file.
-#[derive(Drop)]
+#[derive(Clone, Copy)]
 struct Unpacked {
     len: usize,
     next: usize,
 }
 
 // A case: what is given, what is to be answered, and the place behind it in the file. The strings stand in the buffer.
-#[derive(Drop)]
+#[derive(Clone, Copy)]
 struct Case {
     options: u32,
     start: usize,

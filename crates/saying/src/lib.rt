@@ -1,5 +1,7 @@
 // What the strings of a text say: their decoded bytes, one by one and without a copy.
 // A string is known by the place of its first quote. Plans are of 65,536 bytes at most, so every caller meets the bounds asked of places.
+#![tactic(auto)]
+
 ghost use Rattle.std.specs.Prelude.{◌≡◌, ◌+◌, ◌*◌, ◌≤◌, ◌<◌, length, get_or, ◌∷◌, []};
 ghost use Rattle.rules.specs.Bytes.{same};
 ghost use Rattle.rules.specs.Bits.{bits};
@@ -61,20 +63,20 @@ const BYTES: u64 = 256;
 const NOT_SHORT: u64 = 0;
 
 // A place in a string: the byte k of what the text says at `at`.
-#[derive(Drop)]
+#[derive(Clone, Copy)]
 pub struct Cursor {
     pub at: usize,
     pub k: usize,
 }
 
 // The next byte of a string and the place behind it, or its end.
-#[derive(Drop)]
+#[derive(Clone, Copy)]
 pub enum Step {
     Byte(u8, Cursor),
     End,
 }
 
-#[derive(Drop)]
+#[derive(Clone, Copy)]
 pub enum Ordering {
     Less,
     Equal,
@@ -83,7 +85,7 @@ pub enum Ordering {
 
 // Where the bytes of a name are: they are all of the lent ones; or what the string of the text says that has its first quote there;
 // or so many bytes, the second number, packed into the lent ones from the bit place on that is the first.
-#[derive(Drop)]
+#[derive(Clone, Copy)]
 pub enum Name {
     Lent,
     Quoted(usize),
@@ -91,7 +93,7 @@ pub enum Name {
 }
 
 // A character: how many bytes it has, and where the next one starts.
-#[derive(Drop)]
+#[derive(Clone, Copy)]
 pub enum Char {
     One(usize, usize),
     End,

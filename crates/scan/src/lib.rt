@@ -1,6 +1,8 @@
 // RFC 8259 below the level of a value, without strings: white space, words and numbers.
 // A text is read at a place. The answer is the place behind what was read, or 0 where nothing such stands: no reading ends at 0.
 // Texts are checked to be of 65,536 bytes at most before they are scanned, so the bounds that are asked of places are met by every caller.
+#![tactic(auto)]
+
 ghost use Rattle.std.specs.Prelude.{◌≡◌, ◌+◌, ◌-◌, ◌≤◌, ◌<◌, length};
 ghost use Rattle.rules.specs.Bytes.{byte_at};
 ghost use Rattle.rules.specs.Scan.{is_space, spaces_end, word_end, is_digit, digits_end, some_digits_end, minus_end, whole_end};
@@ -190,7 +192,7 @@ pub fn plain_number_end(s: &[u8], i: usize) -> usize
 }
 
 // A number of 64 bits, or a larger one.
-#[derive(Drop)]
+#[derive(Clone, Copy)]
 pub enum Size {
     Is(u64),
     Large,

@@ -1,4 +1,6 @@
 // block.rs, local_vars.rs and the part of context.rs that reads them: a scope as a record of numbers. The stack of scopes is an array of 32 of them by value.
+#![tactic(auto)]
+
 ghost use Rattle.std.specs.Prelude.{◌≡◌, ◌^◌, ◌≤◌, ◌<◌, length, set, replicate};
 ghost use Rattle.rules.specs.Bytes.{same, pick};
 ghost use Rattle.rules.specs.Bits.{bits};
@@ -17,7 +19,7 @@ ghost use Rattle.scope.specs.Made.{child, with_names, with_locals, with_count, t
 use value::Value;
 
 // One open scope. Values are kept as `value::encode` makes them.
-#[derive(Drop)]
+#[derive(Clone, Copy)]
 pub struct Scope {
     // what `this` is: a place of the plan with its path, or any other value
     pub base: u32,
@@ -41,7 +43,7 @@ pub struct Scope {
 }
 
 // What a name stands for.
-#[derive(Drop)]
+#[derive(Clone, Copy)]
 pub enum Param {
     Is(Value),
     Nothing,

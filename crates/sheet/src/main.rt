@@ -1,5 +1,7 @@
 // The program: draws the template `main` of bundle.bin over plan.json, both in the folder that it is run in, and writes the page. Where no page
 // is drawn it writes one line: the number, and for 11 to 25 also the template's name, the line and the column.
+#![tactic(auto)]
+
 ghost use Rattle.io.specs.Counts.{IsPrefixLen};
 
 use expand::Options;

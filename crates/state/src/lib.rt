@@ -1,4 +1,6 @@
 // render.rs: `RenderContext`. It goes by value, and its scopes go beside it, as an array (`scope`); each function here changes one part of it, as the Rust does.
+#![tactic(auto)]
+
 ghost use Rattle.std.specs.Prelude.{◌≡◌, ◌<◌, eqb, List, length, set, replicate};
 ghost use Rattle.rules.specs.Bytes.{pick};
 ghost use Rattle.scope.specs.Scopes.{blank};
@@ -9,7 +11,7 @@ ghost use Rattle.state.specs.Setters.{fresh, failed, located, with_escape, with_
 use error::{BLOCK_TEXTS_LIMIT, PAGE_LIMIT};
 use output::Writer;
 
-#[derive(Drop)]
+#[derive(Clone, Copy)]
 pub struct RenderContext {
     // (It stands first: what the compiler copies in steps of 16 bytes, a writer alone or with its context, is then read back in the steps that it was stored in.)
     pub writer: Writer,

@@ -1,6 +1,8 @@
 // Strings of RFC 8259, section 7: where one ends, and how long each of its characters is.
 // A length 0 says that no character stands there, a place 0 that no string does.
 // Texts are checked to be of 65,536 bytes at most before they are scanned, so the bounds that are asked of places are met by every caller.
+#![tactic(auto)]
+
 ghost use Rattle.std.specs.Prelude.{◌≡◌, ◌+◌, ◌≤◌, length};
 ghost use Rattle.rules.specs.Scan.{is_short, hex_digit, hex_four, is_low, unicode_length, escape_length, char_length, string_end};
 ghost use Rattle.strings.specs.Plain.{is_plain, plain_end, plain_string_end};

@@ -1,6 +1,8 @@
 // support.rs, and render.rs: `indent_aware_write`. A text is fed to a writer byte by byte or run by run, so that every
 // source of text (plan, bundle, number, fixed or lent bytes) ends in the same place, and nothing is copied on the way:
 // `begin`, any number of feeds, `finish`.
+#![tactic(auto)]
+
 ghost use Rattle.std.specs.Prelude.{true, ◌≡◌, ◌+◌, ◌*◌, ◌^◌, ◌≤◌, ◌<◌, [], length, drop, get_or};
 ghost use Rattle.rules.specs.Bytes.{run};
 ghost use Rattle.rules.specs.Bits.{bits};
@@ -14,7 +16,7 @@ ghost use Rattle.support.specs.Table.{row_of, row_bytes, row_read, is_escaped};
 use output::Writer;
 
 // A character that is escaped, and its entity: the first `count` bytes.
-#[derive(Drop)]
+#[derive(Clone, Copy)]
 struct Entity {
     character: u8,
     count: u8,

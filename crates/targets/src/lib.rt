@@ -1,6 +1,8 @@
 // partial.rs: what the name of a partial stands for, up to the body that is drawn.
 // s is the plan with its places tab, b the bundle with the places of its templates; ent holds the entries of open partials; d is the number of depths
 // left for the body of the element.
+#![tactic(auto)]
+
 ghost use Rattle.std.specs.Prelude.{◌≡◌, ℕ, ◌+◌, ◌^◌, ◌≤◌, ◌<◌};
 ghost use Rattle.rules.specs.Bits.{bits};
 ghost use Rattle.rules.specs.Bundle.{body};
@@ -21,7 +23,7 @@ use texts::Peek;
 use value::Value;
 
 // What a partial's name stands for.
-#[derive(Drop)]
+#[derive(Clone, Copy)]
 pub enum Target {
     // the paper's number of the refusal
     Bad(u8),

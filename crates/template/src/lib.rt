@@ -1,6 +1,8 @@
 // Readers of the bodies and elements of an accepted bundle. Nothing is built and nothing is checked again: an answer holds places.
 // A reader requires that what it reads stands at its place (`Holds`); specs/Bodies says what stands where, and what the answers say.
 // w is the width of line and column, d the number of depths left for what stands in an element.
+#![tactic(auto)]
+
 ghost use Rattle.std.specs.Prelude.{◌≡◌, ◌≤◌, length};
 ghost use Rattle.rules.specs.Bits.{bits};
 ghost use Rattle.rules.specs.Layout.{◌then◌};
@@ -11,7 +13,7 @@ ghost use Rattle.template.specs.Views.{flag_at, flagged_view, tail_view, bodied_
 use parts::Maybe;
 
 // Where the content of an element stands: its call, block names, bodies and indent, and the `indent_before_write` bit.
-#[derive(Drop)]
+#[derive(Clone, Copy)]
 pub enum Element {
     // the string
     RawString(usize),
@@ -30,7 +32,7 @@ pub enum Element {
 }
 
 // An element with its line and column, and the place behind it.
-#[derive(Drop)]
+#[derive(Clone, Copy)]
 pub struct ElementAt {
     pub line: u64,
     pub column: u64,
@@ -39,34 +41,34 @@ pub struct ElementAt {
 }
 
 // A body: how many elements, and the first.
-#[derive(Drop)]
+#[derive(Clone, Copy)]
 pub struct Body {
     pub count: u64,
     pub first: usize,
 }
 
 // An element without its line and column, and the place behind it.
-#[derive(Drop)]
+#[derive(Clone, Copy)]
 pub struct Content {
     pub element: Element,
     pub next: usize,
 }
 
 // Behind a call, or a call and bodies: the `indent_before_write` bit, and the place behind it.
-#[derive(Drop)]
+#[derive(Clone, Copy)]
 struct Flagged {
     before: bool,
     next: usize,
 }
 
-#[derive(Drop)]
+#[derive(Clone, Copy)]
 struct Tail {
     indent: Maybe,
     before: bool,
     next: usize,
 }
 
-#[derive(Drop)]
+#[derive(Clone, Copy)]
 struct Bodied {
     body: usize,
     indent: Maybe,
@@ -74,7 +76,7 @@ struct Bodied {
     next: usize,
 }
 
-#[derive(Drop)]
+#[derive(Clone, Copy)]
 struct Block {
     names: usize,
     template: Maybe,
@@ -231,7 +233,7 @@ fn block_at(b: &[u8], p: usize, w: usize, d: usize) -> Block
 }
 
 // The place behind the bit at p, and behind the body if it is 1.
-#[cycle(skip_body_skip_content_skip_maybe)]
+#[cycle(skipping)]
 fn skip_maybe(b: &[u8], p: usize, w: usize, d: usize) -> usize
     requires { (length b.now ≤ 65536) × Holds (maybe_body (body w d)) (bits b.now) p }
     ensures { result ≡ end (maybe_body (body w d)) (bits b.now) p }
@@ -245,7 +247,7 @@ fn skip_maybe(b: &[u8], p: usize, w: usize, d: usize) -> usize
 }
 
 // The place behind the content whose kind stands at p.
-#[cycle(skip_body_skip_content_skip_maybe)]
+#[cycle(skipping)]
 fn skip_content(b: &[u8], p: usize, w: usize, d: usize) -> usize
     requires { (length b.now ≤ 65536) × Holds (element_of (call_of (param d)) (body w d)) (bits b.now) p }
     ensures { result ≡ end (element_of (call_of (param d)) (body w d)) (bits b.now) p }
@@ -337,7 +339,7 @@ fn found(element: Element, next: usize) -> Content
 }
 
 // The place behind the body at p, whose own depth d counts.
-#[cycle(skip_body_skip_content_skip_maybe)]
+#[cycle(skipping)]
 pub fn skip_body(b: &[u8], p: usize, w: usize, d: usize) -> usize
     requires { (length b.now ≤ 65536) × Holds (body w d) (bits b.now) p }
     ensures { result ≡ end (body w d) (bits b.now) p }

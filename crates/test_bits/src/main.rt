@@ -1,4 +1,6 @@
 // The bit leaves by fixed vectors: fields of several widths at every place of 12 bytes and of their beginnings, packed bytes, strings compared.
+#![tactic(auto)]
+
 ghost use Rattle.std.specs.Prelude.{◌+◌, ◌*◌, ◌^◌, ◌≤◌, ◌<◌, length};
 
 use libc::STDOUT_FILENO;

@@ -1,5 +1,7 @@
 // Characters by fixed cases. A text has a line: how many characters it has; each with its kind and bytes, and the same of that character
 // by itself; then each by its number, up to one that is not there, which is a dash.
+#![tactic(auto)]
+
 ghost use Rattle.std.specs.Prelude.{◌≡◌, ◌≤◌, ◌<◌, length};
 ghost use Rattle.rules.specs.Utf8.{utf8};
 ghost use Rattle.rules.specs.Bits.{bits};

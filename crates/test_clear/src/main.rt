@@ -1,4 +1,6 @@
 // Clearing by fixed vectors: every width, from the front, from a place on, from the last entry, from the end, past it; then whole; and nothing.
+#![tactic(auto)]
+
 use libc::STDOUT_FILENO;
 
 fn put(x: u64) {

@@ -1,4 +1,6 @@
 // Paths over a small plan, with one scope, two, and recursive lookup: a line for each, what it prints (unwritten bytes are dots) or 20.
+#![tactic(auto)]
+
 ghost use Rattle.std.specs.Prelude.{◌≡◌, ◌≤◌, ◌<◌, length};
 ghost use Rattle.rules.specs.Bits.{bits};
 ghost use Rattle.rules.specs.Bundle.{path, param, body};

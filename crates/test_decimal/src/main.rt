@@ -1,4 +1,6 @@
 // Whole numbers by fixed vectors: digits into a buffer and one by one, and `parse::<usize>`.
+#![tactic(auto)]
+
 ghost use Rattle.std.specs.Prelude.{◌≡◌, ◌≤◌};
 ghost use Rattle.decimal.specs.Parsing.{parsed};
 

@@ -1,5 +1,7 @@
 // Calls worked out over a small plan: each line has the name and the number of parameters, whether includeZero is true, what the name stands for as a
 // value, and what the call gives, or the number of its refusal. The calls are gone through plainly, in strict mode, and with all scopes open.
+#![tactic(auto)]
+
 ghost use Rattle.std.specs.Prelude.{◌≡◌, ◌≤◌, ◌<◌, length};
 ghost use Rattle.rules.specs.Bits.{bits};
 ghost use Rattle.rules.specs.Bundle.{call_of, param, body};

@@ -1,5 +1,7 @@
 // What the values of a small plan have under names and indices. For each value a line of what names lead to (a text; dots where nothing was written; `-` for
 // nothing; `20` for a wrong index), and a line of what lookup finds under an index and under strings.
+#![tactic(auto)]
+
 ghost use Rattle.std.specs.Prelude.{◌≤◌, length};
 ghost use Rattle.rules.specs.Bits.{bits};
 ghost use Rattle.rules.specs.Bundle.{string};

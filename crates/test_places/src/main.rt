@@ -1,4 +1,6 @@
 // Access to the values of a few plans: each plan is read, and the program prints what stands in it, found by the functions of `places`.
+#![tactic(auto)]
+
 ghost use Rattle.std.specs.Prelude.{◌≡◌, ◌+◌, ◌≤◌, ◌<◌, length};
 ghost use Rattle.places.specs.Places.{places};
 ghost use Rattle.places.specs.Accepted.{Accepted};

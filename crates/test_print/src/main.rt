@@ -1,5 +1,7 @@
 // Values of a small plan and bundle, printed. A line for each: what it prints, plain and escaped (unwritten bytes are dots), then whether it
 // prints each word, and each of a few texts.
+#![tactic(auto)]
+
 ghost use Rattle.std.specs.Prelude.{◌≤◌, length};
 ghost use Rattle.rules.specs.Bits.{bits};
 ghost use Rattle.rules.specs.Bundle.{string};

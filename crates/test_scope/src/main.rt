@@ -1,4 +1,6 @@
 // Scopes by fixed cases: first what three names stand for, then local variables, then scopes of a stack.
+#![tactic(auto)]
+
 ghost use Rattle.std.specs.Prelude.{◌≤◌, length};
 ghost use Rattle.rules.specs.Bits.{bits};
 ghost use Rattle.rules.specs.Bundle.{string};

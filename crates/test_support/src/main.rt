@@ -1,6 +1,8 @@
 // The writer by fixed vectors. A line for each: the number of the vector, the writer's fields (written, low, high, pen,
 // and t or f for full, trailing_newline, content_produced, indent_before_write), and the whole output between brackets,
 // its unwritten bytes as dots. For a block text that moves: its new place, and the buffer.
+#![tactic(auto)]
+
 use libc::STDOUT_FILENO;
 use output::Writer;
 

@@ -1,4 +1,6 @@
 // The readers over a fixed bundle of all nine kinds: its version, and one line for each element of the template `main`, with what its places hold.
+#![tactic(auto)]
+
 ghost use Rattle.std.specs.Prelude.{◌≤◌, length};
 ghost use Rattle.rules.specs.Bits.{bits};
 ghost use Rattle.rules.specs.Bundle.{string, path, literal, param, call_of, body};

@@ -1,6 +1,8 @@
 // Texts by fixed cases. A text has three lines: its bytes; with each word, whether it is that word and what is left where the word stands
 // in front; with each text, their order, whether they are the same, and what is left where that text stands in front.
 // A comma ends what is left, a dash says that another thing stands there.
+#![tactic(auto)]
+
 ghost use Rattle.std.specs.Prelude.{◌+◌, ◌≤◌, ◌<◌, length};
 ghost use Rattle.text.specs.Rest.{Stands};
 

@@ -1,5 +1,7 @@
 // UTF-8 by fixed vectors. A line: the text's bytes, whether it is UTF-8 by `is_utf8` and by the machine, which is
 // fed from two parts, and the length of the character at each place, the one past the end included.
+#![tactic(auto)]
+
 ghost use Rattle.std.specs.Prelude.{◌≡◌, ◌++◌};
 ghost use Rattle.rules.specs.Utf8.{utf8};
 ghost use Rattle.utf8.specs.Machine.{wanted, after};

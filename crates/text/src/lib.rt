@@ -1,5 +1,7 @@
 // The text that a string or a number prints, byte by byte and without a copy, wherever its bytes stand: in the plan s, packed in the bundle b,
 // or in the number itself.
+#![tactic(auto)]
+
 ghost use Rattle.std.specs.Prelude.{◌≡◌, ◌+◌, ◌*◌, ◌≤◌, ◌<◌, length};
 ghost use Rattle.rules.specs.Bytes.{same};
 ghost use Rattle.rules.specs.Order.{cmp};
@@ -11,7 +13,7 @@ ghost use Rattle.text.specs.Strip.{stripped, Stripped};
 use saying::Ordering;
 
 // What is still to come of a text.
-#[derive(Drop)]
+#[derive(Clone, Copy)]
 pub enum Text {
     // what a string of the plan says from a place on
     Said(usize, usize),
@@ -25,13 +27,13 @@ pub enum Text {
     Minus(u64),
 }
 
-#[derive(Drop)]
+#[derive(Clone, Copy)]
 pub enum Step {
     Byte(u8, Text),
     End,
 }
 
-#[derive(Drop)]
+#[derive(Clone, Copy)]
 pub enum Left {
     Is(Text),
     Other,

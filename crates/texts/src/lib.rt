@@ -1,4 +1,6 @@
 // partial.rs: what stands around the drawing of a partial whose scope is open: its block text, its indent, and what is set again behind it.
+#![tactic(auto)]
+
 ghost use Rattle.std.specs.Prelude.{◌≡◌, List, ◌+◌, ◌-◌, ◌^◌, ◌≤◌, ◌<◌, length};
 ghost use Rattle.std.proofs.lemmas.List.Edits.{sets};
 ghost use Rattle.std.proofs.Math.Seq.{slice};
@@ -98,7 +100,7 @@ pub fn finish_partial(rc: RenderContext, before: RenderContext) -> RenderContext
 
 // What `@partial-block` stands for: nothing where no partial is open, or where the newest one has no text; or its text, by its
 // place in the buffer and its length.
-#[derive(Drop)]
+#[derive(Clone, Copy)]
 pub enum Peek {
     Absent,
     Nothing,

@@ -1,4 +1,6 @@
 // helpers/helper_each.rs: the turns of `each`, one by one.
+#![tactic(auto)]
+
 ghost use Rattle.std.specs.Prelude.{◌≡◌, ℕ, ◌≤◌, ◌<◌, length};
 ghost use Rattle.std.proofs.Math.Option.{some, none};
 ghost use Rattle.std.proofs.Math.ListN.{get_elem?};
@@ -19,7 +21,7 @@ use members::Member;
 use places::{Found, Kind};
 use value::Value;
 
-#[derive(Drop)]
+#[derive(Clone, Copy)]
 pub enum Turn {
     // its item, its key, whether it is over an object, and whether no turn follows
     Item(Value, Value, bool, bool),

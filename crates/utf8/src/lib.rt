@@ -1,12 +1,14 @@
 // UTF-8 (RFC 3629): a machine that is fed one byte at a time, so that text of any source is checked without a copy;
 // and, over lent bytes, the whole text and the character at a place.
+#![tactic(auto)]
+
 ghost use Rattle.std.specs.Prelude.{◌≡◌, ◌<◌};
 ghost use Rattle.rules.specs.Bytes.{byte_at, between};
 ghost use Rattle.rules.specs.Utf8.{lead, more, done, utf8, utf8_length};
 ghost use Rattle.utf8.specs.Machine.{wanted, begun};
 
 // What is still wanted: this many bytes of a character, the next from the first bound to the second.
-#[derive(Drop)]
+#[derive(Clone, Copy)]
 pub enum Utf {
     Wants(u8, u8, u8),
     Bad,

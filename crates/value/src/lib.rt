@@ -1,9 +1,11 @@
 // json/value.rs: what a value is here. Nothing is copied out of plan or bundle: a value is the place where it stands, or a number. Scopes and
 // entries keep it as one number of 32 bits.
+#![tactic(auto)]
+
 ghost use Rattle.std.specs.Prelude.{◌≡◌, ◌+◌, ◌*◌, ◌<◌, ◌^◌};
 ghost use Rattle.value.specs.Numbers.{Fits, encoded, word_of, place_of, pair_of, decoded};
 
-#[derive(Drop)]
+#[derive(Clone, Copy)]
 pub enum Value {
     // what a path that leads nowhere gives
     Missing,

@@ -1,6 +1,8 @@
 // render.rs and partial.rs: the leaves that write. Each writes into the output in force, page or block texts, and leaves what
 // the rules draw: where it does not fit, 24 or 25. s is the plan, b the bundle; indent is the buffer of which the indent in
 // force is a prefix.
+#![tactic(auto)]
+
 ghost use Rattle.std.specs.Prelude.{not, true, false, List, ◌≡◌, ℕ, ◌+◌, ◌*◌, ◌^◌, ◌≤◌, ◌<◌, length, take, drop};
 ghost use Rattle.rules.specs.Bytes.{Bytes};
 ghost use Rattle.rules.specs.Bits.{bits};
