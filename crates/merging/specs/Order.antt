@@ -97,7 +97,7 @@ above_next k (mcons p i l) n j s e = go (is_above k p) refl e (above_next k l n 
     go true b f ih =
         let g : p ≡ n = name_eq (p, i) (n, j) f in
         let d : i ≡ j = value_eq (p, i) (n, j) f in
-        rw (← g, ← d, before_irrefl p) (ap (mcons p i) (above_all k p l b s.0 s.1 ∙ sym (above_leads p l s.0 s.1)))
+        rw (← g, ← d, before_irrefl p) (ap (mcons p i) (above_all k p l b s.0 s.1 ∙ sym (above_leads p l s.0 s.1) ∙ ap (λ (x : Bytes). above (some x) l) g))
     go false b f ih = rw (before_asym p n (leads_first p k l n j s.0 s.1 f)) (ih f)
 
 pub above_step : (k : Option Bytes) (m : Map) (n : Bytes) (j : Json) (l : Map) → Ascends m → above k m ≡ mcons n j l → above (some n) m ≡ l

@@ -10,7 +10,7 @@ use Rattle.rules.specs.HelperIf.{if_helper}
 use Rattle.rules.specs.Helpers.{call_helper}
 use Rattle.rules.specs.Partial.{Rendering}
 use Rattle.rules.specs.Render.{settle, indent_aware, call_indent_aware, render_helper}
-use Rattle.rules.specs.Keeps.{stays}
+use Rattle.rules.proofs.Keeps.{stays}
 use Rattle.siblings.specs.Siblings.{render_element_with, BodyBegun}
 
 abbrev if_true : Template → TemplateElement
