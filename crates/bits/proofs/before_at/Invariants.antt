@@ -1,0 +1,15 @@
+use Prim.Native.Nat.{◌-◌, ◌≤◌}
+use mathlib.Core.Path.{◌≡◌, refl, ◌∙◌}
+use native.Mathlib.Omega.{arith}
+use borrow.Author.Rules.{rules}
+use Rattle.rules.specs.Bytes.{before}
+use Rattle.rules.specs.Bits.{bits}
+use Rattle.bits.specs.Packed.{bytes_at, bytes_length, bytes_hold}
+use Rattle.bits.specs.Compare.{BeforeFrom, before_end, before_shorter, before_differ, before_more}
+use Rattle.bits.proofs.before_at.Given as goal
+
+abbrev pub invariant-loop-i : goal.invariant-loop-i
+invariant-loop-i l = (l.i ≤ l.n) × (l.i ≤ l.m) × (BeforeFrom (bytes_at (bits l.s) l.p l.n) (bytes_at (bits l.s) l.q l.m) l.i ≡ before (bytes_at (bits l.s) l.p l.n) (bytes_at (bits l.s) l.q l.m))
+
+abbrev pub decreases-loop-i : goal.decreases-loop-i
+decreases-loop-i l = l.m - l.i

@@ -1,0 +1,14 @@
+use lib.ListN.{length}
+use Prim.Native.Nat.{◌-◌}
+use borrow.Author.Rules.{rules}
+use Rattle.clear.proofs.Clearing.{Clearing, none, more, done}
+use Rattle.clear.proofs.of_u16.clear_u16_from.Goals as goal
+
+pub loop-i-init : goal.loop-i-init
+loop-i-init c = none c.args.at c.args.b.now
+
+pub loop-i-preserved : goal.loop-i-preserved
+loop-i-preserved c = more c.args.at c.args.b.now c.loop-i.i c.loop-i.b c.loop-i.invariant c.loop-i-test.true
+
+pub returns : goal.returns
+returns c = done c.args.at c.args.b.now c.loop-i.i c.loop-i.b c.loop-i.invariant c.loop-i-test.false

@@ -1,0 +1,11 @@
+use lib.ListN.{length}
+use Prim.Native.Nat.{◌-◌}
+use borrow.Author.Rules.{rules}
+use Rattle.clear.proofs.Clearing.{Clearing, none, more, done}
+use Rattle.clear.proofs.of_u64.clear_u64_from.Given as goal
+
+abbrev pub invariant-loop-i : goal.invariant-loop-i
+invariant-loop-i l = Clearing l.at l.initial.b l.i l.b
+
+abbrev pub decreases-loop-i : goal.decreases-loop-i
+decreases-loop-i l = length l.initial.b - l.i

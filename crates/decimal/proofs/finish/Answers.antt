@@ -1,0 +1,5 @@
+use borrow.Author.Rules.{rules}
+use Rattle.decimal.proofs.finish.Goals as goal
+
+pub returns-in-Is : goal.returns-in-Is
+returns-in-Is c = rw c.in-Is.is

@@ -1,0 +1,7 @@
+use mathlib.Core.Path.{refl}
+use borrow.Author.Rules.{rules}
+use Rattle.places.proofs.is_other.Goals as goal
+
+pub returns : goal.returns
+unfolding is_other
+returns c = refl

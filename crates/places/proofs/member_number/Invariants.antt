@@ -1,0 +1,17 @@
+use Prim.Native.Nat.{◌-◌, ◌<◌}
+use Rattle.bits.specs.Packed.{bytes_at}
+use Rattle.places.proofs.Fields.{index}
+use Rattle.places.proofs.Walking.{walk_within, Seeking, seek_start, seek_on, seek_end, says_by, number_pick}
+use Rattle.places.specs.Children.{end_at}
+use Rattle.rules.specs.Bits.{bits}
+use Rattle.rules.specs.BundleLaws.{bits_binary}
+use Rattle.rules.specs.LayoutLaws.{field_lt}
+use borrow.Author.Rules.{rules}
+use native.Mathlib.Omega.{arith}
+use Rattle.places.proofs.member_number.Given as goal
+
+abbrev pub invariant-loop-c : goal.invariant-loop-c
+invariant-loop-c l = Seeking l.s l.i (bytes_at (bits l.w) l.p l.m) l.c (numbered l.best) × (0 < l.c)
+
+abbrev pub decreases-loop-c : goal.decreases-loop-c
+decreases-loop-c l = l.e - l.c

@@ -1,0 +1,9 @@
+use mathlib.Core.Path.{refl}
+use borrow.Author.Rules.{rules}
+use Rattle.places.proofs.or.Goals as goal
+
+pub returns-then-take : goal.returns-then-take
+returns-then-take c = rw c.if-take.true
+
+pub returns : goal.returns
+returns c = rw c.if-take.false

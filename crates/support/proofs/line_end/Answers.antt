@@ -1,0 +1,47 @@
+use mathlib.Core.Path.{◌≡◌, sym, ap, ◌∙◌}
+use mathlib.Core.Bool.{true, not}
+use Prim.Native.Nat.{ℕ, ◌+◌, ◌-◌, ◌≤◌}
+use native.Mathlib.Numerals.{add-one}
+use native.Mathlib.Omega.{arith}
+use borrow.Author.Tests.{ne_eqb, not-true, not-false}
+use lib.ListN.{get_or, drop}
+use Rattle.rules.specs.Bytes.{run}
+use Rattle.rules.specs.Bits.{bits}
+use Rattle.bits.specs.Packed.{bytes_at, bytes_length, bytes_get}
+use Rattle.support.specs.Runs.{inner_byte}
+use Rattle.support.proofs.Runs.{run_more, line_found, line_last, line_all}
+use borrow.Author.Rules.{rules}
+use Rattle.support.proofs.line_end.Goals as goal
+
+pub returns-then-not-has_indent : goal.returns-then-not-has_indent
+returns-then-not-has_indent c = let a = c.args in
+    let v = bytes_at (bits a.s.now) a.p a.n in
+    let n = bytes_length (bits a.s.now) a.p a.n in
+    sym n ∙ line_all a.has_indent v a.i (c.if-not-has_indent.true) (omega arith)
+
+pub returns-then-byte-eq10 : goal.returns-then-byte-eq10
+returns-then-byte-eq10 c = let a = c.args in
+    let l = c.loop-j in
+    let b = bits a.s.now in
+    let n = bytes_length b a.p a.n in
+    let x : get_or (bytes_at b a.p a.n) l.j 0 ≡ 10 = bytes_get b a.p a.n l.j c.loop-j-test.true ∙ sym c.byte.ensures ∙ c.if-byte-eq10.true in
+    line_found a.has_indent (bytes_at b a.p a.n) a.i l.j (c.if-not-has_indent.false) l.invariant.0 l.invariant.2 (omega arith) (rw x)
+
+pub loop-j-preserved : goal.loop-j-preserved
+loop-j-preserved c = let a = c.args in
+    let l = c.loop-j in
+    let b = bits a.s.now in
+    let v = bytes_at b a.p a.n in
+    let n = bytes_length b a.p a.n in
+    let x : get_or v l.j 0 ≡ c.byte.result = bytes_get b a.p a.n l.j c.loop-j-test.true ∙ sym c.byte.ensures in
+    let y : inner_byte (get_or v l.j 0) ≡ true = ap inner_byte x ∙ ap not (ne_eqb c.byte.result 10 c.if-byte-eq10.false) in
+    let e : run inner_byte (drop l.j v) ≡ run inner_byte (drop (l.j + 1) v) + 1 = rw (add-one (run inner_byte (drop (l.j + 1) v)), add-one l.j) (run_more inner_byte v l.j (omega arith) y) in
+    (search rules, search rules, omega (arith, l.invariant.2))
+
+pub returns : goal.returns
+returns c = let a = c.args in
+    let l = c.loop-j in
+    let b = bits a.s.now in
+    let n = bytes_length b a.p a.n in
+    let e : l.j ≡ a.n = omega arith in
+    sym e ∙ line_last a.has_indent (bytes_at b a.p a.n) a.i l.j (c.if-not-has_indent.false) l.invariant.0 l.invariant.2 (omega arith)
