@@ -9,7 +9,7 @@ use native.Mathlib.Omega.{arith}
 use borrow.Author.Tests.{le-leb, lt-leb, leb-true, leb-false, eq-eqb, eqb-true}
 use Rattle.rules.specs.Bytes.{Bytes, pick, same}
 use Rattle.rules.specs.Bits.{Bits}
-use Rattle.rules.specs.Layout.{Read, read, broken, onward, field, num, dec_all}
+use Rattle.rules.specs.Layout.{read, broken, onward, field, num, dec_all}
 use Rattle.rules.specs.LayoutLaws.{Binary}
 use Rattle.bits.specs.Fields.{field_none, field_append, field_first, field_last, field_middle}
 use Rattle.bits.specs.Compare.{At}

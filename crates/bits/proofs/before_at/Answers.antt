@@ -1,11 +1,8 @@
-use Prim.Native.Nat.{◌-◌, ◌≤◌}
-use mathlib.Core.Path.{◌≡◌, refl, ◌∙◌}
+use mathlib.Core.Path.{refl, ◌∙◌}
 use native.Mathlib.Omega.{arith}
-use borrow.Author.Rules.{rules}
-use Rattle.rules.specs.Bytes.{before}
 use Rattle.rules.specs.Bits.{bits}
 use Rattle.bits.specs.Packed.{bytes_at, bytes_length, bytes_hold}
-use Rattle.bits.specs.Compare.{BeforeFrom, before_end, before_shorter, before_differ, before_more}
+use Rattle.bits.specs.Compare.{before_end, before_shorter, before_differ, before_more}
 use Rattle.bits.proofs.before_at.Goals as goal
 
 pub loop-i-init : goal.loop-i-init

@@ -1,5 +1,4 @@
 use native.Mathlib.Omega.{arith}
-use borrow.Author.Rules.{rules}
 use Rattle.bits.proofs.Laws.{byte_read}
 use Rattle.bits.proofs.byte_at.Goals as goal
 

@@ -1,4 +1,3 @@
-use borrow.Author.Rules.{rules}
 use Rattle.bits.proofs.Laws.{byte_past}
 use Rattle.bits.proofs.byte_or_zero.Goals as goal
 

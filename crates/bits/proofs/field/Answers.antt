@@ -2,7 +2,6 @@ use Rattle.bits.proofs.Laws.{first_of, cut_of}
 use Rattle.rules.specs.BundleLaws.{bits_binary}
 use Rattle.rules.specs.Bits.{bits}
 use native.Mathlib.Omega.{arith}
-use borrow.Author.Rules.{rules}
 use Rattle.bits.proofs.field.Goals as goal
 
 pub returns-then-w-gt56 : goal.returns-then-w-gt56

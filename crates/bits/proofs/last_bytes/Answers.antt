@@ -4,7 +4,6 @@ use Rattle.rules.specs.Bits.{bits}
 use lib.ListN.{length}
 use native.Mathlib.Omega.{arith}
 use Prim.Native.Nat.{◌+◌, ◌-◌, ◌*◌}
-use borrow.Author.Rules.{rules}
 use Rattle.bits.proofs.last_bytes.Goals as goal
 
 pub returns : goal.returns

@@ -3,7 +3,6 @@ use Rattle.rules.specs.BundleLaws.{bits_binary}
 use Rattle.rules.specs.Bits.{bits}
 use native.Mathlib.Omega.{arith}
 use Prim.Native.Nat.{◌+◌, ◌*◌}
-use borrow.Author.Rules.{rules}
 use Rattle.bits.proofs.pair_or_zero.Goals as goal
 
 pub overflow_mul-result : goal.overflow_mul-result

@@ -4,10 +4,9 @@ use Rattle.rules.specs.BundleLaws.{bits_binary}
 use Rattle.rules.specs.Bits.{Bits, bits}
 use Rattle.rules.specs.Bytes.{same}
 use native.Mathlib.Omega.{arith}
-use mathlib.Core.Path.{◌≡◌, refl, sym, ap, ◌∙◌}
+use mathlib.Core.Path.{◌≡◌, refl, sym, ◌∙◌}
 use mathlib.Core.Bool.{Bool}
-use Prim.Native.Nat.{ℕ, ◌+◌, ◌-◌, ◌*◌, ◌≤◌}
-use borrow.Author.Rules.{rules}
+use Prim.Native.Nat.{ℕ, ◌+◌, ◌-◌, ◌*◌}
 use Rattle.bits.proofs.same_at.Goals as goal
 
 abbrev Same : Bits → ℕ → ℕ → ℕ → Bool

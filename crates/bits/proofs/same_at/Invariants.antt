@@ -1,13 +1,9 @@
-use Rattle.bits.specs.Compare.{same_lengths}
-use Rattle.bits.specs.Packed.{bytes_at, bytes_length, same_run, differ_run}
-use Rattle.rules.specs.BundleLaws.{bits_binary}
+use Rattle.bits.specs.Packed.{bytes_at}
 use Rattle.rules.specs.Bits.{Bits, bits}
 use Rattle.rules.specs.Bytes.{same}
-use native.Mathlib.Omega.{arith}
-use mathlib.Core.Path.{◌≡◌, refl, sym, ap, ◌∙◌}
+use mathlib.Core.Path.{◌≡◌}
 use mathlib.Core.Bool.{Bool}
 use Prim.Native.Nat.{ℕ, ◌+◌, ◌-◌, ◌*◌, ◌≤◌}
-use borrow.Author.Rules.{rules}
 use Rattle.bits.proofs.same_at.Given as goal
 
 abbrev Same : Bits → ℕ → ℕ → ℕ → Bool

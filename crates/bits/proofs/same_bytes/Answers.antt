@@ -1,11 +1,8 @@
-use Prim.Native.Nat.{◌-◌, ◌≤◌}
-use mathlib.Core.Path.{◌≡◌, refl, sym, ◌∙◌}
+use mathlib.Core.Path.{refl, sym, ◌∙◌}
 use native.Mathlib.Omega.{arith}
-use borrow.Author.Rules.{rules}
 use Rattle.rules.specs.Bits.{bits}
-use Rattle.rules.specs.Bytes.{same}
 use Rattle.bits.specs.Packed.{bytes_at, bytes_length, bytes_hold}
-use Rattle.bits.specs.Compare.{SameFrom, same_lengths, same_end, same_differ, same_more}
+use Rattle.bits.specs.Compare.{same_lengths, same_end, same_differ, same_more}
 use Rattle.bits.proofs.same_bytes.Goals as goal
 
 pub returns-then-n-t : goal.returns-then-n-t

@@ -1,11 +1,9 @@
 use Prim.Native.Nat.{◌-◌, ◌≤◌}
-use mathlib.Core.Path.{◌≡◌, refl, sym, ◌∙◌}
-use native.Mathlib.Omega.{arith}
-use borrow.Author.Rules.{rules}
+use mathlib.Core.Path.{◌≡◌}
 use Rattle.rules.specs.Bits.{bits}
 use Rattle.rules.specs.Bytes.{same}
-use Rattle.bits.specs.Packed.{bytes_at, bytes_length, bytes_hold}
-use Rattle.bits.specs.Compare.{SameFrom, same_lengths, same_end, same_differ, same_more}
+use Rattle.bits.specs.Packed.{bytes_at}
+use Rattle.bits.specs.Compare.{SameFrom}
 use Rattle.bits.proofs.same_bytes.Given as goal
 
 abbrev pub invariant-loop-i : goal.invariant-loop-i

@@ -3,7 +3,6 @@ use Rattle.rules.specs.BundleLaws.{bits_binary}
 use Rattle.rules.specs.Bits.{bits}
 use native.Mathlib.Omega.{arith}
 use Prim.Native.Nat.{◌+◌, ◌*◌, ◌/◌, ◌%◌}
-use borrow.Author.Rules.{rules}
 use Rattle.bits.proofs.window.Goals as goal
 
 pub returns-then-k-s : goal.returns-then-k-s

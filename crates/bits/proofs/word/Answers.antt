@@ -1,7 +1,6 @@
 use Rattle.bits.proofs.Laws.{word_turned}
 use Rattle.rules.specs.BundleLaws.{bits_binary}
 use Rattle.rules.specs.Bits.{bits}
-use borrow.Author.Rules.{rules}
 use Rattle.bits.proofs.word.Goals as goal
 
 pub returns : goal.returns

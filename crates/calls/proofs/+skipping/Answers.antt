@@ -13,34 +13,34 @@ use borrow.Author.Rules.{rules}
 use Rattle.calls.proofs.+skipping.Goals as goal
 
 pub skip_call-skip_param-q-requires : goal.skip_call-skip_param-q-requires
-skip_call-skip_param-q-requires t c = let s = c in (omega arith, (s.requires.1.found, call_name s.args.d (bits s.args.b.now) s.args.p s.requires.1.behind))
+skip_call-skip_param-q-requires t c = let s = c in (omega arith, (s.requires.0, call_name s.args.d (bits s.args.b.now) s.args.p s.requires.1))
 
 pub skip_call-overflow_add-result : goal.skip_call-overflow_add-result
-skip_call-overflow_add-result t c = let s = c in omega (arith, (bare_end_at s.args.d (bits s.args.b.now) s.args.p s.requires.1.behind _ c.skip_param-q.ensures (sym c.field.ensures ∙ c.if-field-eq0.true)).1, bits_size s.args.b.now)
+skip_call-overflow_add-result t c = let s = c in omega (arith, (bare_end_at s.args.d (bits s.args.b.now) s.args.p s.requires.1 _ c.skip_param-q.ensures (sym c.field.ensures ∙ c.if-field-eq0.true)).1, bits_size s.args.b.now)
 
 pub skip_call-returns-then-field-eq0 : goal.skip_call-returns-then-field-eq0
-skip_call-returns-then-field-eq0 t c = let s = c in (bare_end_at s.args.d (bits s.args.b.now) s.args.p s.requires.1.behind _ c.skip_param-q.ensures (sym c.field.ensures ∙ c.if-field-eq0.true)).0
+skip_call-returns-then-field-eq0 t c = let s = c in (bare_end_at s.args.d (bits s.args.b.now) s.args.p s.requires.1 _ c.skip_param-q.ensures (sym c.field.ensures ∙ c.if-field-eq0.true)).0
 
 pub skip_call-skip_params-requires : goal.skip_call-skip_params-requires
-skip_call-skip_params-requires t c = let s = c in (omega arith, (s.requires.1.found, moved (params (param s.args.d)) (bits s.args.b.now) _ _ (sym c.skip_param-q.ensures) (call_params s.args.d (bits s.args.b.now) s.args.p s.requires.1.behind)))
+skip_call-skip_params-requires t c = let s = c in (omega arith, (s.requires.0, moved (params (param s.args.d)) (bits s.args.b.now) _ _ (sym c.skip_param-q.ensures) (call_params s.args.d (bits s.args.b.now) s.args.p s.requires.1)))
 
 pub skip_call-skip_pairs-requires : goal.skip_call-skip_pairs-requires
-skip_call-skip_pairs-requires t c = let s = c in (omega arith, (s.requires.1.found, moved (pairs (param s.args.d)) (bits s.args.b.now) _ _ (sym (c.skip_params.ensures ∙ ap (end (params (param s.args.d)) (bits s.args.b.now)) c.skip_param-q.ensures)) (call_pairs s.args.d (bits s.args.b.now) s.args.p s.requires.1.behind)))
+skip_call-skip_pairs-requires t c = let s = c in (omega arith, (s.requires.0, moved (pairs (param s.args.d)) (bits s.args.b.now) _ _ (sym (c.skip_params.ensures ∙ ap (end (params (param s.args.d)) (bits s.args.b.now)) c.skip_param-q.ensures)) (call_pairs s.args.d (bits s.args.b.now) s.args.p s.requires.1)))
 
 pub skip_call-returns : goal.skip_call-returns
-skip_call-returns t c = let s = c in c.skip_pairs.ensures ∙ ap (end (pairs (param s.args.d)) (bits s.args.b.now)) (c.skip_params.ensures ∙ ap (end (params (param s.args.d)) (bits s.args.b.now)) c.skip_param-q.ensures) ∙ call_end s.args.d (bits s.args.b.now) s.args.p s.requires.1.behind
+skip_call-returns t c = let s = c in c.skip_pairs.ensures ∙ ap (end (pairs (param s.args.d)) (bits s.args.b.now)) (c.skip_params.ensures ∙ ap (end (params (param s.args.d)) (bits s.args.b.now)) c.skip_param-q.ensures) ∙ call_end s.args.d (bits s.args.b.now) s.args.p s.requires.1
 
 pub skip_pairs-overflow_add-cur : goal.skip_pairs-overflow_add-cur
-skip_pairs-overflow_add-cur t c = let s = c in omega (arith, pairs_fits s.args.d (bits s.args.b.now) s.args.p s.requires.1.behind, bits_size s.args.b.now)
+skip_pairs-overflow_add-cur t c = let s = c in omega (arith, pairs_fits s.args.d (bits s.args.b.now) s.args.p s.requires.1, bits_size s.args.b.now)
 
 pub skip_pairs-loop-i-init : goal.skip_pairs-loop-i-init
-skip_pairs-loop-i-init t c = let s = c in pairs_start s.args.d (bits s.args.b.now) s.args.p s.requires.1.behind _ c.field-n.ensures
+skip_pairs-loop-i-init t c = let s = c in pairs_start s.args.d (bits s.args.b.now) s.args.p s.requires.1 _ c.field-n.ensures
 
 pub skip_pairs-skip_string-requires : goal.skip_pairs-skip_string-requires
-skip_pairs-skip_string-requires t c = let s = c in (s.requires.1.found, (pair_stands s.args.d (bits s.args.b.now) _ (passed_first (string then param s.args.d) (bits s.args.b.now) _ _ _ _ c.loop-i.invariant (omega arith))).key)
+skip_pairs-skip_string-requires t c = let s = c in (s.requires.0, (pair_stands s.args.d (bits s.args.b.now) _ (passed_first (string then param s.args.d) (bits s.args.b.now) _ _ _ _ c.loop-i.invariant (omega arith))).key)
 
 pub skip_pairs-skip_param-cur-requires : goal.skip_pairs-skip_param-cur-requires
-skip_pairs-skip_param-cur-requires t c = let s = c in (omega arith, (s.requires.1.found, pair_content s.args.d (bits s.args.b.now) _ (passed_first (string then param s.args.d) (bits s.args.b.now) _ _ _ _ c.loop-i.invariant (omega arith)) _ c.skip_string.ensures))
+skip_pairs-skip_param-cur-requires t c = let s = c in (omega arith, (s.requires.0, pair_content s.args.d (bits s.args.b.now) _ (passed_first (string then param s.args.d) (bits s.args.b.now) _ _ _ _ c.loop-i.invariant (omega arith)) _ c.skip_string.ensures))
 
 pub skip_pairs-loop-i-preserved : goal.skip_pairs-loop-i-preserved
 skip_pairs-loop-i-preserved t c = let s = c in passed_again (string then param s.args.d) (bits s.args.b.now) _ _ _ _ c.loop-i.invariant (omega arith) _ (pair_next s.args.d (bits s.args.b.now) _ (passed_first (string then param s.args.d) (bits s.args.b.now) _ _ _ _ c.loop-i.invariant (omega arith)) _ c.skip_string.ensures _ c.skip_param-cur.ensures)
@@ -49,43 +49,43 @@ pub skip_pairs-returns : goal.skip_pairs-returns
 skip_pairs-returns t c = let s = c in passed_end (string then param s.args.d) (bits s.args.b.now) _ _ _ _ c.loop-i.invariant (omega arith)
 
 pub skip_param-overflow_add-q : goal.skip_param-overflow_add-q
-skip_param-overflow_add-q t c = let s = c in omega (arith, param_fits s.args.d (bits s.args.b.now) s.args.p s.requires.1.behind, bits_size s.args.b.now)
+skip_param-overflow_add-q t c = let s = c in omega (arith, param_fits s.args.d (bits s.args.b.now) s.args.p s.requires.1, bits_size s.args.b.now)
 
 pub skip_param-skip_string-requires : goal.skip_param-skip_string-requires
-skip_param-skip_string-requires t c = let s = c in (s.requires.1.found, (param_name s.args.d (bits s.args.b.now) s.args.p s.requires.1.behind (sym c.field-k.ensures ∙ c.if-k-eq0.true)).inner)
+skip_param-skip_string-requires t c = let s = c in (s.requires.0, (param_name s.args.d (bits s.args.b.now) s.args.p s.requires.1 (sym c.field-k.ensures ∙ c.if-k-eq0.true)).inner)
 
 pub skip_param-returns-then-k-eq0 : goal.skip_param-returns-then-k-eq0
-skip_param-returns-then-k-eq0 t c = let s = c in c.skip_string.ensures ∙ (param_name s.args.d (bits s.args.b.now) s.args.p s.requires.1.behind (sym c.field-k.ensures ∙ c.if-k-eq0.true)).ends
+skip_param-returns-then-k-eq0 t c = let s = c in c.skip_string.ensures ∙ (param_name s.args.d (bits s.args.b.now) s.args.p s.requires.1 (sym c.field-k.ensures ∙ c.if-k-eq0.true)).ends
 
 pub skip_param-skip_path-requires : goal.skip_param-skip_path-requires
-skip_param-skip_path-requires t c = let s = c in (s.requires.1.found, (param_path s.args.d (bits s.args.b.now) s.args.p s.requires.1.behind (sym c.field-k.ensures ∙ c.if-k-eq1.true)).inner)
+skip_param-skip_path-requires t c = let s = c in (s.requires.0, (param_path s.args.d (bits s.args.b.now) s.args.p s.requires.1 (sym c.field-k.ensures ∙ c.if-k-eq1.true)).inner)
 
 pub skip_param-returns-then-k-eq1 : goal.skip_param-returns-then-k-eq1
-skip_param-returns-then-k-eq1 t c = let s = c in c.skip_path.ensures ∙ (param_path s.args.d (bits s.args.b.now) s.args.p s.requires.1.behind (sym c.field-k.ensures ∙ c.if-k-eq1.true)).ends
+skip_param-returns-then-k-eq1 t c = let s = c in c.skip_path.ensures ∙ (param_path s.args.d (bits s.args.b.now) s.args.p s.requires.1 (sym c.field-k.ensures ∙ c.if-k-eq1.true)).ends
 
 pub skip_param-skip_literal-requires : goal.skip_param-skip_literal-requires
-skip_param-skip_literal-requires t c = let s = c in (s.requires.1.found, (param_literal s.args.d (bits s.args.b.now) s.args.p s.requires.1.behind (sym c.field-k.ensures ∙ c.if-k-eq2.true)).inner)
+skip_param-skip_literal-requires t c = let s = c in (s.requires.0, (param_literal s.args.d (bits s.args.b.now) s.args.p s.requires.1 (sym c.field-k.ensures ∙ c.if-k-eq2.true)).inner)
 
 pub skip_param-returns-then-k-eq2 : goal.skip_param-returns-then-k-eq2
-skip_param-returns-then-k-eq2 t c = let s = c in c.skip_literal.ensures ∙ (param_literal s.args.d (bits s.args.b.now) s.args.p s.requires.1.behind (sym c.field-k.ensures ∙ c.if-k-eq2.true)).ends
+skip_param-returns-then-k-eq2 t c = let s = c in c.skip_literal.ensures ∙ (param_literal s.args.d (bits s.args.b.now) s.args.p s.requires.1 (sym c.field-k.ensures ∙ c.if-k-eq2.true)).ends
 
 pub skip_param-overflow_sub-d : goal.skip_param-overflow_sub-d
-skip_param-overflow_sub-d t c = let s = c in omega (arith, param_deep s.args.d (bits s.args.b.now) s.args.p s.requires.1.behind)
+skip_param-overflow_sub-d t c = let s = c in omega (arith, param_deep s.args.d (bits s.args.b.now) s.args.p s.requires.1)
 
 pub skip_param-skip_call-requires : goal.skip_param-skip_call-requires
-skip_param-skip_call-requires t c = let s = c in (omega (arith, param_deep s.args.d (bits s.args.b.now) s.args.p s.requires.1.behind), (s.requires.1.found, (param_call s.args.d (bits s.args.b.now) s.args.p s.requires.1.behind (param_last s.args.d (bits s.args.b.now) s.args.p s.requires.1.1 (λ e. c.if-k-eq0.false (c.field-k.ensures ∙ e)) (λ e. c.if-k-eq1.false (c.field-k.ensures ∙ e)) (λ e. c.if-k-eq2.false (c.field-k.ensures ∙ e)))).inner))
+skip_param-skip_call-requires t c = let s = c in (omega (arith, param_deep s.args.d (bits s.args.b.now) s.args.p s.requires.1), (s.requires.0, (param_call s.args.d (bits s.args.b.now) s.args.p s.requires.1 (param_last s.args.d (bits s.args.b.now) s.args.p s.requires.1 (λ e. c.if-k-eq0.false (c.field-k.ensures ∙ e)) (λ e. c.if-k-eq1.false (c.field-k.ensures ∙ e)) (λ e. c.if-k-eq2.false (c.field-k.ensures ∙ e)))).inner))
 
 pub skip_param-returns : goal.skip_param-returns
-skip_param-returns t c = let s = c in c.skip_call.ensures ∙ (param_call s.args.d (bits s.args.b.now) s.args.p s.requires.1.behind (param_last s.args.d (bits s.args.b.now) s.args.p s.requires.1.1 (λ e. c.if-k-eq0.false (c.field-k.ensures ∙ e)) (λ e. c.if-k-eq1.false (c.field-k.ensures ∙ e)) (λ e. c.if-k-eq2.false (c.field-k.ensures ∙ e)))).ends
+skip_param-returns t c = let s = c in c.skip_call.ensures ∙ (param_call s.args.d (bits s.args.b.now) s.args.p s.requires.1 (param_last s.args.d (bits s.args.b.now) s.args.p s.requires.1 (λ e. c.if-k-eq0.false (c.field-k.ensures ∙ e)) (λ e. c.if-k-eq1.false (c.field-k.ensures ∙ e)) (λ e. c.if-k-eq2.false (c.field-k.ensures ∙ e)))).ends
 
 pub skip_params-overflow_add-cur : goal.skip_params-overflow_add-cur
-skip_params-overflow_add-cur t c = let s = c in omega (arith, (counted_holds 4 (param s.args.d) (bits s.args.b.now) s.args.p s.requires.1.behind).fits, bits_size s.args.b.now)
+skip_params-overflow_add-cur t c = let s = c in omega (arith, (counted_holds 4 (param s.args.d) (bits s.args.b.now) s.args.p s.requires.1).fits, bits_size s.args.b.now)
 
 pub skip_params-loop-i-init : goal.skip_params-loop-i-init
-skip_params-loop-i-init t c = let s = c in counted_start (param s.args.d) (bits s.args.b.now) 4 s.args.p s.requires.1.behind _ c.field-n.ensures
+skip_params-loop-i-init t c = let s = c in counted_start (param s.args.d) (bits s.args.b.now) 4 s.args.p s.requires.1 _ c.field-n.ensures
 
 pub skip_params-skip_param-cur-requires : goal.skip_params-skip_param-cur-requires
-skip_params-skip_param-cur-requires t c = let s = c in (omega arith, (s.requires.1.found, passed_first (param s.args.d) (bits s.args.b.now) _ _ _ _ c.loop-i.invariant (omega arith)))
+skip_params-skip_param-cur-requires t c = let s = c in (omega arith, (s.requires.0, passed_first (param s.args.d) (bits s.args.b.now) _ _ _ _ c.loop-i.invariant (omega arith)))
 
 pub skip_params-loop-i-preserved : goal.skip_params-loop-i-preserved
 skip_params-loop-i-preserved t c = let s = c in passed_again (param s.args.d) (bits s.args.b.now) _ _ _ _ c.loop-i.invariant (omega arith) _ c.skip_param-cur.ensures

@@ -1,11 +1,11 @@
 use native.Mathlib.Omega.{arith}
-use mathlib.Core.Logic.{⊎_elim}
 use Rattle.calls.specs.Calls.{call_params_at, call_pairs_at}
 use Rattle.calls.specs.Shorts.{short_ends, only_path, only_fits}
 use Rattle.rules.specs.BundleLaws.{bits_size, bits_binary}
 use Rattle.rules.specs.Bits.{bits}
 use Rattle.rules.specs.Picks.{picks}
 use borrow.Author.Rules.{rules}
+use Rattle.calls.proofs.short_at.Goals.{then-y-eq5+else-field-eq0, else-y-eq5}
 use Rattle.calls.proofs.short_at.Goals as goal
 
 pub returns-then-x-gt65535 : goal.returns-then-x-gt65535
@@ -48,7 +48,7 @@ pub call_behind-requires : goal.call_behind-requires
 call_behind-requires c = let s = c in let e = (short_ends s.args.d (bits s.args.b.now) (bits_binary s.args.b.now) s.args.p s.requires.1 _ c.field-x.ensures c.if-x-gt65535.false).0 in (s.requires.0, call_params_at s.args.d (bits s.args.b.now) s.args.p s.requires.1 _ e, call_pairs_at s.args.d (bits s.args.b.now) s.args.p s.requires.1 _ e)
 
 pub returns : goal.returns
-returns c = ⊎_elim
-    (λ w. simp (← c.field-x.ensures, ← c.field-y.ensures, ← w.1.ensures, ← w.2.ensures, ← c.call_behind.ensures) (search (picks, w.0.taken, w.3.left) depth 9))
-    (λ w. simp (← c.field-x.ensures, ← c.field-y.ensures, ← c.call_behind.ensures) (search (picks, w.left) depth 9))
-    c.if-y-eq5.branch
+returns c = elim c.if-y-eq5.branch [
+  | then-y-eq5+else-field-eq0 w ↦ simp (← c.field-x.ensures, ← c.field-y.ensures, ← w.skip_path-r.ensures, ← w.field.ensures, ← c.call_behind.ensures) (search (picks, w.if-y-eq5.true, w.if-field-eq0.false) depth 9)
+  | else-y-eq5 w ↦ simp (← c.field-x.ensures, ← c.field-y.ensures, ← c.call_behind.ensures) (search (picks, w.if-y-eq5.false) depth 9)
+]

@@ -3,7 +3,6 @@ use Rattle.rules.specs.Bytes.{digits}
 use lib.ListN.{get_or-eq_default}
 use mathlib.Core.Path.{sym, ◌∙◌}
 use native.Mathlib.Omega.{arith}
-use borrow.Author.Rules.{rules}
 use Rattle.decimal.proofs.digit.Goals as goal
 
 pub returns-then-count-i : goal.returns-then-count-i

@@ -1,9 +1,8 @@
-use Rattle.decimal.proofs.Digits.{AtLeast, at_least, counted_length}
+use Rattle.decimal.proofs.Digits.{at_least, counted_length}
 use Rattle.decimal.proofs.Powers.{power_at}
 use mathlib.Core.Path.{◌≡◌}
 use native.Mathlib.Omega.{arith}
-use Prim.Native.Nat.{◌+◌, ◌-◌, ◌≤◌, ◌<◌}
-use borrow.Author.Rules.{rules}
+use Prim.Native.Nat.{◌+◌, ◌-◌}
 use Rattle.decimal.proofs.digit_count.Goals as goal
 
 pub loop-k-init : goal.loop-k-init

@@ -1,9 +1,5 @@
-use Rattle.decimal.proofs.Digits.{AtLeast, at_least, counted_length}
-use Rattle.decimal.proofs.Powers.{power_at}
-use mathlib.Core.Path.{◌≡◌}
-use native.Mathlib.Omega.{arith}
-use Prim.Native.Nat.{◌+◌, ◌-◌, ◌≤◌, ◌<◌}
-use borrow.Author.Rules.{rules}
+use Rattle.decimal.proofs.Digits.{AtLeast}
+use Prim.Native.Nat.{◌-◌, ◌≤◌, ◌<◌}
 use Rattle.decimal.proofs.digit_count.Given as goal
 
 abbrev pub invariant-loop-k : goal.invariant-loop-k

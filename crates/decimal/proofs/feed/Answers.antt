@@ -1,5 +1,4 @@
 use borrow.Author.Tests.{eq-eqb, ne_eqb}
-use borrow.Author.Rules.{rules}
 use Rattle.decimal.proofs.feed.Goals as goal
 
 pub returns-then-c-eq43 : goal.returns-then-c-eq43

@@ -1,11 +1,8 @@
 use Rattle.decimal.proofs.Parsing.{coming_next, coming_none}
 use Rattle.decimal.specs.Parsing.{coming, parsed}
-use Rattle.rules.specs.Context.{parse_usize}
-use lib.ListN.{length, drop, drop_of_length-le}
-use mathlib.Core.Path.{◌≡◌, sym, ap, ◌∙◌}
-use Prim.Native.Nat.{◌-◌, ◌≤◌}
+use lib.ListN.{drop_of_length-le}
+use mathlib.Core.Path.{sym, ap, ◌∙◌}
 use native.Mathlib.Omega.{arith}
-use borrow.Author.Rules.{rules}
 use Rattle.decimal.proofs.parse_usize.Goals as goal
 
 pub loop-i-init : goal.loop-i-init

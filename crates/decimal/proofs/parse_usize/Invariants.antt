@@ -1,11 +1,8 @@
-use Rattle.decimal.proofs.Parsing.{coming_next, coming_none}
-use Rattle.decimal.specs.Parsing.{coming, parsed}
+use Rattle.decimal.specs.Parsing.{coming}
 use Rattle.rules.specs.Context.{parse_usize}
-use lib.ListN.{length, drop, drop_of_length-le}
-use mathlib.Core.Path.{◌≡◌, sym, ap, ◌∙◌}
+use lib.ListN.{length, drop}
+use mathlib.Core.Path.{◌≡◌}
 use Prim.Native.Nat.{◌-◌, ◌≤◌}
-use native.Mathlib.Omega.{arith}
-use borrow.Author.Rules.{rules}
 use Rattle.decimal.proofs.parse_usize.Given as goal
 
 abbrev pub invariant-loop-i : goal.invariant-loop-i

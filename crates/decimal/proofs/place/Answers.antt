@@ -2,8 +2,7 @@ use Rattle.decimal.proofs.Digits.{tenth, no_place}
 use mathlib.Core.Path.{◌≡◌, sym, ap, ◌∙◌}
 use native.Mathlib.Nat.{div-one}
 use native.Mathlib.Omega.{arith}
-use Prim.Native.Nat.{◌-◌, ◌/◌, ◌^◌, ◌≤◌}
-use borrow.Author.Rules.{rules}
+use Prim.Native.Nat.{◌/◌}
 use Rattle.decimal.proofs.place.Goals as goal
 
 pub returns-then-k-ge20 : goal.returns-then-k-ge20

@@ -1,9 +1,5 @@
-use Rattle.decimal.proofs.Digits.{tenth, no_place}
-use mathlib.Core.Path.{◌≡◌, sym, ap, ◌∙◌}
-use native.Mathlib.Nat.{div-one}
-use native.Mathlib.Omega.{arith}
+use mathlib.Core.Path.{◌≡◌}
 use Prim.Native.Nat.{◌-◌, ◌/◌, ◌^◌, ◌≤◌}
-use borrow.Author.Rules.{rules}
 use Rattle.decimal.proofs.place.Given as goal
 
 abbrev pub invariant-loop-j : goal.invariant-loop-j

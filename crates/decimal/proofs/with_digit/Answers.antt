@@ -1,6 +1,5 @@
 use Rattle.decimal.proofs.Parsing.{below_digits, above_digits, too_large, one_more}
 use native.Mathlib.Omega.{arith}
-use borrow.Author.Rules.{rules}
 use Rattle.decimal.proofs.with_digit.Goals as goal
 
 pub returns-then-c-lt48 : goal.returns-then-c-lt48

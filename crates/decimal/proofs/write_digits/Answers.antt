@@ -6,7 +6,6 @@ use lib.ListN.{length, length-set}
 use mathlib.Core.Path.{◌≡◌, refl, ap, subst, ◌∙◌, sym}
 use Prim.Native.Nat.{suc, ◌+◌, ◌-◌, ◌≤◌, ◌<◌}
 use native.Mathlib.Omega.{arith}
-use borrow.Author.Rules.{rules}
 use Rattle.decimal.proofs.write_digits.Goals as goal
 
 pub returns-then-out-count : goal.returns-then-out-count

@@ -1,5 +1,4 @@
 use native.Mathlib.Omega.{arith}
-use borrow.Author.Rules.{rules}
 use Rattle.names.specs.Head.{head_some}
 use Rattle.names.proofs.head.Goals as goal
 

@@ -1,4 +1,5 @@
 use Rattle.places.proofs.Walking.{above_by}
+use Rattle.places.specs.Kinds.{FoundIn, found_name}
 use Rattle.places.specs.Places.{name_at, above}
 use mathlib.Core.Path.{◌∙◌, ap, sym, subst}
 use Rattle.places.proofs.Fields.{index}

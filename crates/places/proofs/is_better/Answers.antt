@@ -1,4 +1,5 @@
 use Rattle.places.proofs.Walking.{not_better, better_by, alone_better}
+use Rattle.places.specs.Kinds.{FoundIn, found_name}
 use mathlib.Core.Path.{subst}
 use Rattle.places.proofs.Fields.{index}
 use native.Mathlib.Omega.{arith}

@@ -1,3 +1,4 @@
+use Rattle.places.specs.Kinds.{is_other}
 use mathlib.Core.Path.{refl}
 use borrow.Author.Rules.{rules}
 use Rattle.places.proofs.is_other.Goals as goal

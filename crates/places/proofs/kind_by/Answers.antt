@@ -1,3 +1,4 @@
+use Rattle.places.specs.Kinds.{kind_by}
 use Rattle.rules.specs.Picks.{picks}
 use borrow.Author.Rules.{rules}
 use Rattle.places.proofs.kind_by.Goals as goal

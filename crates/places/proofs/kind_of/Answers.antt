@@ -1,5 +1,6 @@
 use Rattle.places.proofs.Scalars.{kind_is}
 use Rattle.rules.specs.Bytes.{byte_at}
+use Rattle.places.specs.Kinds.{kind_by}
 use mathlib.Core.Path.{◌∙◌, ap}
 use borrow.Author.Rules.{rules}
 use Rattle.places.proofs.kind_of.Goals as goal

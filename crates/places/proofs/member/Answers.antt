@@ -1,5 +1,6 @@
 use Rattle.places.proofs.Walking.{walk_within, Seeking, seek_start, seek_on, seek_end, says_by}
 use Rattle.places.specs.Children.{end_at}
+use Rattle.places.specs.Kinds.{found}
 use Rattle.saying.specs.Compared.{name_bytes}
 use mathlib.Core.Option.{none}
 use mathlib.Core.Path.{◌≡◌, ◌∙◌, refl}

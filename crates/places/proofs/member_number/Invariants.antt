@@ -3,6 +3,7 @@ use Rattle.bits.specs.Packed.{bytes_at}
 use Rattle.places.proofs.Fields.{index}
 use Rattle.places.proofs.Walking.{walk_within, Seeking, seek_start, seek_on, seek_end, says_by, number_pick}
 use Rattle.places.specs.Children.{end_at}
+use Rattle.places.specs.Kinds.{numbered}
 use Rattle.rules.specs.Bits.{bits}
 use Rattle.rules.specs.BundleLaws.{bits_binary}
 use Rattle.rules.specs.LayoutLaws.{field_lt}

@@ -3,6 +3,7 @@ use Rattle.bits.specs.Packed.{bytes_at}
 use Rattle.places.proofs.Fields.{index}
 use Rattle.places.proofs.Walking.{walk_within, Seeking, seek_start, seek_on, seek_end, says_by}
 use Rattle.places.specs.Children.{end_at}
+use Rattle.places.specs.Kinds.{found}
 use Rattle.rules.specs.Bits.{bits}
 use borrow.Author.Rules.{rules}
 use native.Mathlib.Omega.{arith}

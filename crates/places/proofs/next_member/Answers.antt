@@ -1,5 +1,6 @@
 use Rattle.places.proofs.Walking.{walk_within, Choosing, choose_start, choose_on, choose_end, in_pick}
 use Rattle.places.specs.Children.{end_at}
+use Rattle.places.specs.Kinds.{found, found_name, FoundIn}
 use mathlib.Core.Path.{◌≡◌, ◌∙◌, refl}
 use Prim.Native.Nat.{◌+◌, suc, ◌-◌, ◌≤◌, ◌<◌}
 use Rattle.places.proofs.Fields.{index}

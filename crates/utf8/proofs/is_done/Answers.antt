@@ -1,5 +1,4 @@
 use Rattle.utf8.proofs.Steps.{done_is}
-use borrow.Author.Rules.{rules}
 use Rattle.utf8.proofs.is_done.Goals as goal
 
 pub returns-in-Wants : goal.returns-in-Wants

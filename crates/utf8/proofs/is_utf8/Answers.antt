@@ -1,11 +1,10 @@
 use Rattle.utf8.proofs.Laws.{utf8_stop, utf8_go, length_fits, follows_end}
 use Rattle.utf8.specs.Machine.{begun}
 use Rattle.rules.specs.Utf8.{utf8}
-use lib.ListN.{length, drop}
-use mathlib.Core.Path.{◌≡◌, refl, sym, ap, ◌∙◌}
+use lib.ListN.{drop}
+use mathlib.Core.Path.{refl, sym, ap, ◌∙◌}
 use native.Mathlib.Omega.{arith}
-use Prim.Native.Nat.{◌+◌, ◌-◌, ◌≤◌}
-use borrow.Author.Rules.{rules}
+use Prim.Native.Nat.{◌+◌}
 use Rattle.utf8.proofs.is_utf8.Goals as goal
 
 pub loop-i-init : goal.loop-i-init

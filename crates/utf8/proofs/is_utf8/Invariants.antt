@@ -1,11 +1,7 @@
-use Rattle.utf8.proofs.Laws.{utf8_stop, utf8_go, length_fits, follows_end}
-use Rattle.utf8.specs.Machine.{begun}
 use Rattle.rules.specs.Utf8.{utf8}
 use lib.ListN.{length, drop}
-use mathlib.Core.Path.{◌≡◌, refl, sym, ap, ◌∙◌}
-use native.Mathlib.Omega.{arith}
-use Prim.Native.Nat.{◌+◌, ◌-◌, ◌≤◌}
-use borrow.Author.Rules.{rules}
+use mathlib.Core.Path.{◌≡◌}
+use Prim.Native.Nat.{◌-◌, ◌≤◌}
 use Rattle.utf8.proofs.is_utf8.Given as goal
 
 abbrev pub invariant-loop-i : goal.invariant-loop-i

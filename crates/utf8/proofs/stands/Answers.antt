@@ -1,6 +1,5 @@
 use Rattle.rules.specs.Picks.{picks}
 use Rattle.utf8.proofs.Steps.{none_past}
-use borrow.Author.Rules.{rules}
 use Rattle.utf8.proofs.stands.Goals as goal
 
 pub returns-then-s-i : goal.returns-then-s-i

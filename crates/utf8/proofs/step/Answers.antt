@@ -1,5 +1,4 @@
 use Rattle.utf8.proofs.Steps.{more_first, more_low, more_high, more_in}
-use borrow.Author.Rules.{rules}
 use Rattle.utf8.proofs.step.Goals as goal
 
 pub returns-then-left-eq0 : goal.returns-then-left-eq0

@@ -1,10 +1,8 @@
-use borrow.Author.Rules.{rules}
-use borrow.Author.Tests.{not-true, not-false}
 use native.Mathlib.Omega.{arith}
 use Prim.Native.Nat.{ℕ, suc, ◌+◌, ◌-◌, ◌≤◌}
 use mathlib.Core.Bool.{Bool, true, false}
 use mathlib.Core.Path.{◌≡◌, refl, sym, ◌∙◌}
-use Rattle.rules.specs.Bytes.{Bytes, pick, byte_at}
+use Rattle.rules.specs.Bytes.{pick, byte_at}
 use Rattle.rules.specs.Utf8.{wants, lead, tails, utf8_length, length_outside}
 use Rattle.utf8.proofs.Steps.{length_is, length_none, lead_few, tails_no, tails_on}
 use Rattle.utf8.proofs.utf8_length.Goals as goal

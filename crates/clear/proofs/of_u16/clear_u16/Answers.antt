@@ -1,5 +1,4 @@
 use mathlib.Core.Path.{◌∙◌}
-use borrow.Author.Rules.{rules}
 use Rattle.clear.specs.Cleared.{cleared_whole}
 use Rattle.clear.proofs.of_u16.clear_u16.Goals as goal
 

@@ -1,7 +1,6 @@
 use lib.ListN.{length}
 use Prim.Native.Nat.{◌-◌}
-use borrow.Author.Rules.{rules}
-use Rattle.clear.proofs.Clearing.{Clearing, none, more, done}
+use Rattle.clear.proofs.Clearing.{Clearing}
 use Rattle.clear.proofs.of_u16.clear_u16_from.Given as goal
 
 abbrev pub invariant-loop-i : goal.invariant-loop-i

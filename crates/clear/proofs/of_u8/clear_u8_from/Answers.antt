@@ -1,7 +1,4 @@
-use lib.ListN.{length}
-use Prim.Native.Nat.{◌-◌}
-use borrow.Author.Rules.{rules}
-use Rattle.clear.proofs.Clearing.{Clearing, none, more, done}
+use Rattle.clear.proofs.Clearing.{none, more, done}
 use Rattle.clear.proofs.of_u8.clear_u8_from.Goals as goal
 
 pub loop-i-init : goal.loop-i-init

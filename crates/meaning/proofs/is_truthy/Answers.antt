@@ -1,0 +1,8 @@
+use Rattle.meaning.specs.Means.{means_so}
+use Rattle.meaning.specs.Truth.{truthy_is}
+use borrow.Author.Rules.{rules}
+use mathlib.Core.Path.{◌∙◌}
+use Rattle.meaning.proofs.is_truthy.Goals as goal
+
+pub returns : goal.returns
+returns c = let s = c in means_so s.args.s.now s.args.b.now s.args.v _ _ (λ j e. e ∙ truthy_is s.args.include_zero j) c.truth.ensures
