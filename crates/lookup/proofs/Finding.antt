@@ -13,7 +13,8 @@ use Rattle.rules.specs.Json.{Json, jarr, jobj, Jsons, Map, get_item, get_member}
 use Rattle.rules.specs.Bits.{bits}
 use Rattle.rules.specs.Context.{base_map}
 use Rattle.layout.specs.Text.{text_at}
-use Rattle.merging.specs.Lookup.{canonical, find_last, find_last_more, get_base_merged, numbered_get}
+use Rattle.merging.specs.Lookup.{canonical, find_last}
+use Rattle.merging.proofs.Lookup.{find_last_more, get_base_merged, numbered_get}
 use Rattle.places.specs.Accepted.{Accepted}
 use Rattle.places.specs.Places.{places, json_at, children, member, value_at}
 use Rattle.places.specs.Kinds.{found, items_of, members_of}

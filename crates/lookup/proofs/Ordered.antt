@@ -13,7 +13,8 @@ use Rattle.rules.specs.BundleLaws.{bits_size}
 use Rattle.rules.specs.Scan.{saying}
 use Rattle.rules.specs.Plan.{name_of}
 use Rattle.rules.specs.Context.{parse_usize}
-use Rattle.merging.specs.Lookup.{canonical, canonical_none, canonical_parsed}
+use Rattle.merging.specs.Lookup.{canonical}
+use Rattle.merging.proofs.Lookup.{canonical_none, canonical_parsed}
 use Rattle.parts.specs.Holds.{Holds}
 use Rattle.parts.specs.HoldsLaws.{string_in}
 use Rattle.places.specs.Places.{tree_at, name_at}

@@ -9,7 +9,8 @@ use Rattle.rules.specs.Bytes.{Bytes, maybe}
 use Rattle.rules.specs.Json.{Json, jnull, jbool, jpos, jneg, jstr, jarr, jobj, get_member}
 use Rattle.rules.specs.Context.{chars, base_map}
 use Rattle.rules.specs.Scan.{saying}
-use Rattle.merging.specs.Lookup.{canonical, numbered_chars_get}
+use Rattle.merging.specs.Lookup.{canonical}
+use Rattle.merging.proofs.Lookup.{numbered_chars_get}
 use Rattle.places.specs.Accepted.{Accepted}
 use Rattle.places.specs.Places.{places, start_of, tree_at, json_at}
 use Rattle.places.specs.Texts.{text_says}

@@ -16,7 +16,8 @@ use Rattle.rules.specs.Tree.{Trees, tree_nil, tree_cons}
 use Rattle.rules.specs.Plan.{size, name_of, meaning, members_onto}
 use Rattle.rules.specs.Context.{chars, base_map}
 use Rattle.layout.specs.Text.{text_at}
-use Rattle.merging.specs.Counting.{Ascends, fits_ascends, numbered_ascends, numbered_chars_ascends, merged_ascends, one_if_new, lacking, lacking_more, KeysAscend, count_base_merged, count_numbered, count_numbered_chars}
+use Rattle.merging.specs.Counting.{Ascends, one_if_new, lacking, KeysAscend}
+use Rattle.merging.proofs.Counting.{fits_ascends, numbered_ascends, numbered_chars_ascends, merged_ascends, lacking_more, count_base_merged, count_numbered, count_numbered_chars}
 use Rattle.places.specs.Accepted.{Accepted}
 use Rattle.places.specs.Places.{places, inside, tree_at, json_at, children_from, children}
 use Rattle.places.specs.Kinds.{items_of, members_of}

@@ -16,7 +16,8 @@ use Rattle.rules.specs.Plan.{name_of}
 use Rattle.rules.specs.Scan.{saying}
 use Rattle.rules.specs.Context.{chars, numbered, numbered_chars, base_map}
 use Rattle.layout.specs.Text.{text_at}
-use Rattle.merging.specs.Order.{is_above, above, first_of, combine, nearer, least, least_more, combine_assoc, first_base_merged, first_items, first_item_at, first_char_more}
+use Rattle.merging.specs.Order.{is_above, above, first_of, combine, nearer, least, first_items}
+use Rattle.merging.proofs.Order.{least_more, combine_assoc, first_base_merged, first_item_at, first_char_more}
 use Rattle.parts.specs.Holds.{Holds}
 use Rattle.chars.specs.Spelled.{Spelled, First}
 use Rattle.chars.proofs.Counts.{count_few}

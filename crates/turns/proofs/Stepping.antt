@@ -15,7 +15,8 @@ use Rattle.rules.specs.Scan.{saying}
 use Rattle.rules.specs.Plan.{name_of}
 use Rattle.rules.specs.HelperEach.{Turn}
 use Rattle.rules.specs.Context.{base_map}
-use Rattle.merging.specs.Counting.{Ascends, fits_ascends}
+use Rattle.merging.specs.Counting.{Ascends}
+use Rattle.merging.proofs.Counting.{fits_ascends}
 use Rattle.merging.specs.Order.{above, first_of}
 use Rattle.saying.specs.Characters.{Whole}
 use Rattle.places.specs.Accepted.{Accepted}

@@ -8,7 +8,8 @@ use Rattle.rules.specs.Json.{Json, jbool, jpos, jstr, Jsons, jnil, jcons, Map, m
 use Rattle.rules.specs.LocalVars.{LocalVars, put_first, put_last, put_index, put_key}
 use Rattle.rules.specs.HelperEach.{Turn, list_turns, map_turns}
 use Rattle.merging.specs.Counting.{Ascends}
-use Rattle.merging.specs.Order.{above, first_of, above_none, above_next, above_step}
+use Rattle.merging.specs.Order.{above, first_of}
+use Rattle.merging.proofs.Order.{above_none, above_next, above_step}
 use Rattle.places.specs.Children.{none_some, some_eq}
 
 -- there is nothing
