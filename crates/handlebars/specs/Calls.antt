@@ -11,7 +11,7 @@ use Rattle.rules.specs.Call.{Inputs, refused, checked, page_of, render_bytes}
 use Rattle.clear.specs.Cleared.{cleared}
 use Rattle.plan_read.specs.Table.{filled, table}
 use Rattle.places.specs.Places.{json_at}
-use Rattle.places.specs.Paths.{plan_at}
+use Rattle.places.proofs.Paths.{plan_at}
 use Rattle.expand.specs.declared.Options.{Options}
 use Rattle.state.specs.World.{name_at}
 use Rattle.drawing.specs.Renders.{options_of}

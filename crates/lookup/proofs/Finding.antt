@@ -21,7 +21,7 @@ use Rattle.places.specs.Kinds.{found, items_of, members_of}
 use Rattle.places.specs.Nodes.{few_places}
 use Rattle.places.specs.Children.{is_object, is_child, none_some}
 use Rattle.places.specs.Items.{object_at, list_item, list_count}
-use Rattle.places.specs.Members.{object_member, member_latest}
+use Rattle.places.proofs.MemberLaws.{object_member, member_latest}
 use Rattle.places.specs.declared.Found.{Found as PlaceFound}
 use Rattle.value.specs.declared.Value.{Value}
 use Rattle.value.specs.declared.Value.TheVariants.{Null, Place, Merged}

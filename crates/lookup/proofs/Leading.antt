@@ -15,8 +15,8 @@ use Rattle.places.specs.Places.{places, json_at, children, member, value_at}
 use Rattle.places.specs.Kinds.{kind_of, items_of, members_of, list_kind, object_kind}
 use Rattle.places.specs.Children.{none_some}
 use Rattle.places.specs.Items.{list_item}
-use Rattle.places.specs.Members.{object_member}
-use Rattle.places.specs.Paths.{item_segment, member_segment}
+use Rattle.places.proofs.MemberLaws.{object_member}
+use Rattle.places.proofs.Paths.{item_segment, member_segment}
 use Rattle.places.specs.declared.Kind.{Kind}
 use Rattle.places.specs.declared.Kind.TheVariants as kind
 use Rattle.text.specs.Rest.{rest}

@@ -20,7 +20,7 @@ use Rattle.places.specs.Places.{places, json_at, member, value_at}
 use Rattle.places.specs.Kinds.{numbered, kind_of, members_of}
 use Rattle.places.specs.Children.{is_object, none_some}
 use Rattle.places.specs.Items.{object_at}
-use Rattle.places.specs.Members.{member_latest}
+use Rattle.places.proofs.MemberLaws.{member_latest}
 use Rattle.places.specs.Nodes.{few_places}
 use Rattle.places.specs.declared.Kind.TheVariants as kind
 use Rattle.value.specs.declared.Value.{Value}

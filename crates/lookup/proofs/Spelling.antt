@@ -13,7 +13,7 @@ use Rattle.merging.specs.Lookup.{canonical}
 use Rattle.merging.proofs.Lookup.{numbered_chars_get}
 use Rattle.places.specs.Accepted.{Accepted}
 use Rattle.places.specs.Places.{places, start_of, tree_at, json_at}
-use Rattle.places.specs.Texts.{text_says}
+use Rattle.places.proofs.Texts.{text_says}
 use Rattle.saying.specs.Characters.{Whole}
 use Rattle.text.specs.Rest.{rest}
 use Rattle.text.specs.declared.Text.{Text}

@@ -19,7 +19,7 @@ use Rattle.parts.specs.Holds.{Holds}
 use Rattle.parts.specs.HoldsLaws.{string_in}
 use Rattle.places.specs.Places.{places, start_of, tree_at, json_at}
 use Rattle.places.specs.Kinds.{kind_of}
-use Rattle.places.specs.Texts.{text_says}
+use Rattle.places.proofs.Texts.{text_says}
 use Rattle.places.specs.declared.Kind.TheVariants as kind
 use Rattle.text.specs.declared.Text.TheVariants.{Said, Packed}
 use Rattle.text.specs.Rest.{rest}

@@ -32,7 +32,7 @@ use Rattle.places.specs.Kinds.{found, items_of, members_of}
 use Rattle.places.specs.Items.{list_item, is_map}
 use Rattle.places.specs.Children.{is_child, Child, none_some}
 use Rattle.places.specs.Ascending.{object_rest}
-use Rattle.places.specs.Texts.{name_says}
+use Rattle.places.proofs.Texts.{name_says}
 use Rattle.places.specs.declared.Found.{Found as PlaceFound}
 use Rattle.places.specs.declared.Found.TheVariants.{At, Nothing as Nowhere}
 use Rattle.value.specs.declared.Value.{Value}

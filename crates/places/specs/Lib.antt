@@ -9,5 +9,4 @@ pub mod Items
 pub mod Members
 pub mod Texts
 pub mod Ascending
-pub mod Findings
 pub mod Paths

@@ -23,7 +23,7 @@ use Rattle.layout.specs.Text.{text_at}
 use Rattle.parts.specs.Holds.{Holds}
 use Rattle.template.specs.Views.{template_at}
 use Rattle.places.specs.Places.{path_at, json_at}
-use Rattle.places.specs.Paths.{root_path}
+use Rattle.places.proofs.Paths.{root_path}
 use Rattle.value.specs.declared.Value.{Value}
 use Rattle.value.specs.declared.Value.TheVariants.{Context}
 use Rattle.value.specs.Numbers.{decoded, decoded_encoded}

@@ -10,7 +10,7 @@ use Rattle.rules.specs.Registry.{Registry, paper_limits}
 use Rattle.rules.specs.BlockUtil as block-util
 use Rattle.places.specs.Places.{json_at}
 use Rattle.places.specs.Nodes.{some_places}
-use Rattle.places.specs.Paths.{root_live}
+use Rattle.places.proofs.Paths.{root_live}
 use Rattle.value.specs.declared.Value.TheVariants.{Context}
 use Rattle.value.specs.Numbers.{decoded, decoded_encoded}
 use Rattle.meaning.specs.Meaning.{is_missing}

@@ -25,10 +25,11 @@ use Rattle.places.specs.Kinds.{found, found_name, items_of, members_of, kind_of}
 use Rattle.places.specs.Nodes.{few_places}
 use Rattle.places.specs.Items.{list_item, is_list, is_map as is-object-at}
 use Rattle.places.specs.Children.{is_object, is_child, Child, none_some, some_eq}
-use Rattle.places.specs.Members.{Latest, member_latest, live_item}
-use Rattle.places.specs.Paths.{item_path, member_path}
+use Rattle.places.specs.Members.{Latest}
+use Rattle.places.proofs.MemberLaws.{member_latest, live_item}
+use Rattle.places.proofs.Paths.{item_path, member_path}
 use Rattle.places.specs.Ascending.{at_fits, next_is_member}
-use Rattle.places.specs.Texts.{name_says}
+use Rattle.places.proofs.Texts.{name_says}
 use Rattle.places.specs.declared.Found.{Found}
 use Rattle.places.specs.declared.Found.TheVariants.{At, Nothing}
 use Rattle.places.specs.declared.Kind.{Kind}

@@ -1,6 +1,6 @@
 use Rattle.meaning.specs.Standing.{plain}
 use Rattle.value.specs.declared.Value.TheVariants.{Place}
-use Rattle.places.specs.Findings.{found_child}
+use Rattle.places.proofs.Findings.{found_child}
 use Rattle.places.specs.Nodes.{some_places}
 use Rattle.places.specs.Kinds.{FoundIn}
 use mathlib.Core.Path.{refl, subst}

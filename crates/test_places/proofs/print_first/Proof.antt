@@ -1,4 +1,4 @@
-use Rattle.places.specs.Findings.{found_child}
+use Rattle.places.proofs.Findings.{found_child}
 use Rattle.places.specs.Kinds.{FoundIn}
 use Rattle.places.specs.Nodes.{some_places}
 use mathlib.Core.Path.{subst}

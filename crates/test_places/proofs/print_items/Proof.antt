@@ -1,4 +1,4 @@
-use Rattle.places.specs.Findings.{found_child}
+use Rattle.places.proofs.Findings.{found_child}
 use Rattle.places.specs.Kinds.{FoundIn}
 use mathlib.Core.Path.{subst}
 use Prim.Native.Nat.{◌-◌}

@@ -1,4 +1,4 @@
-use Rattle.places.specs.Findings.{found_next}
+use Rattle.places.proofs.Findings.{found_next}
 use Rattle.places.specs.Kinds.{FoundIn, found_name}
 use Rattle.places.specs.Nodes.{short}
 use mathlib.Core.Path.{subst}

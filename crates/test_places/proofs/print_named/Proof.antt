@@ -1,4 +1,4 @@
-use Rattle.places.specs.Findings.{found_member}
+use Rattle.places.proofs.Findings.{found_member}
 use Rattle.places.specs.Kinds.{FoundIn}
 use Rattle.places.specs.Nodes.{short, some_places}
 use mathlib.Core.Path.{subst}

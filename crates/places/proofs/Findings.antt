@@ -1,6 +1,6 @@
 -- What the code finds is a place of the plan.
 use Rattle.std.specs.Prelude.{ℕ, ◌<◌, ◌≡◌}
-use Rattle.std.proofs.Math.Option.{Option, none, some}
+use Rattle.std.proofs.Math.Option.{Option}
 use Rattle.std.proofs.Common.{sym}
 use Rattle.std.proofs.Math.ListN.{get_elem?}
 use Rattle.rules.specs.Bytes.{Bytes}
@@ -10,7 +10,7 @@ use Rattle.places.specs.declared.Found.TheVariants.{At, Nothing}
 use Rattle.places.specs.Places.{places, name_at, children, member, next_member}
 use Rattle.places.specs.Kinds.{found, FoundIn}
 use Rattle.places.specs.Children.{is_child}
-use Rattle.places.specs.Members.{member_latest}
+use Rattle.places.proofs.MemberLaws.{member_latest}
 use Rattle.places.specs.Ascending.{next_is_member}
 
 module _ (s : Bytes) (h : answer s ≡ 0) (i : ℕ) (lt : i < places s) where
