@@ -24,15 +24,16 @@ use Rattle.scope.specs.declared.Param.TheVariants.{Is, Nothing}
 use Rattle.scope.specs.Scopes.{base_of, blocks_of, blank}
 use Rattle.scope.specs.Standing.{ScopesStand}
 use Rattle.scope.specs.Names.{ParamIs, Settled, numbered}
-use Rattle.scope.specs.NamesLaws.{turn_found}
-use Rattle.scope.specs.NameBits.{Lacks, AllCovered, bit_of, and_clear, none_named}
+use Rattle.scope.proofs.NamesLaws.{turn_found}
+use Rattle.scope.specs.NameBits.{Lacks, AllCovered, bit_of, and_clear}
+use Rattle.scope.proofs.NameBits.{none_named}
 use lib.ListN.{length}
 use Rattle.rules.specs.Json.{Json}
 use Rattle.rules.specs.Plan.{answer}
 use Rattle.rules.specs.Error.{got}
 use Rattle.rules.specs.Expand.{or_missing}
 use Rattle.scope.specs.Names.{LocalIs, local_at, local_variable}
-use Rattle.scope.specs.NamesLaws.{local_found}
+use Rattle.scope.proofs.NamesLaws.{local_found}
 use Rattle.context.specs.declared.Start.{Start}
 use Rattle.context.specs.Evaluated.{Evaluates}
 use Rattle.context.specs.Start.{Based, Newest, is_nothing, name_needs_all, segments_need_all, Starts, ParamFits, said, started}

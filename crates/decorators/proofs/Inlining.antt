@@ -22,7 +22,7 @@ use Rattle.rules.specs.Inline.{one_more, set_local_partial, inline}
 use Rattle.meaning.specs.Meaning.{json_of, scoped_of}
 use Rattle.scope.specs.declared.Scope.{Scope}
 use Rattle.scope.specs.Standing.{ScopeStands}
-use Rattle.scope.specs.InlineLaws.{find_none, find_here}
+use Rattle.scope.proofs.InlineLaws.{find_none, find_here}
 use Rattle.expand.specs.declared.Expanded.{Expanded}
 use Rattle.expand.specs.Answers.{name_of, Begins}
 use Rattle.expand.proofs.Calling.{as_json_of}

@@ -38,7 +38,7 @@ use Rattle.meaning.specs.Means.{stands_known}
 use Rattle.expand.specs.Answers.{name_of}
 use Rattle.scope.specs.Scopes.{inline_name}
 use Rattle.scope.specs.Standing.{InlineStands}
-use Rattle.scope.specs.InlineLaws.{name_plain}
+use Rattle.scope.proofs.InlineLaws.{name_plain}
 use Rattle.decorators.specs.Inlined.{is_string, Unnamed, same_swap}
 
 pub string_name : (j : Json) → true ≡ is_string j → as_str j ≡ some (render j)

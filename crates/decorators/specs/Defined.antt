@@ -25,9 +25,9 @@ use Rattle.scope.specs.declared.Scope.{Scope}
 use Rattle.scope.specs.Scopes.{inline_name, inline_body, partials_of, blocks_of, blank}
 use Rattle.scope.specs.Standing.{InlineStands, ScopeStands, ScopesStand}
 use Rattle.scope.specs.Made.{with_count}
-use Rattle.scope.specs.MadeLaws.{with_count_is}
-use Rattle.scope.specs.StackLaws.{blocks_set, push_stands, pop_stands, scope_kept, scope_again, context_kept, blocks_kept, scopes_kept}
-use Rattle.scope.specs.InlineLaws.{Distinct, defined, name_plain, names_again, inlines_again, distinct_again, defined_again}
+use Rattle.scope.proofs.MadeLaws.{with_count_is}
+use Rattle.scope.proofs.StackLaws.{blocks_set, push_stands, pop_stands, scope_kept, scope_again, context_kept, blocks_kept, scopes_kept}
+use Rattle.scope.proofs.InlineLaws.{Distinct, defined, name_plain, names_again, inlines_again, distinct_again, defined_again}
 use Rattle.decorators.specs.Inlined.{Unnamed, Named}
 
 abbrev pub body_at : Bytes → ℕ → ℕ → Template

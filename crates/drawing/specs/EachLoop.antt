@@ -39,8 +39,8 @@ use Rattle.scope.specs.Standing.{ScopeStands}
 use Rattle.scope.specs.Made as made
 use Rattle.scope.specs.NameBits.{Covers}
 use Rattle.scope.specs.Names.{Readable}
-use Rattle.scope.specs.NamesLaws.{readable}
-use Rattle.scope.specs.MadeLaws.{child_is, child_stands, with_names_stands, names_anew, turn_object}
+use Rattle.scope.proofs.NamesLaws.{readable}
+use Rattle.scope.proofs.MadeLaws.{child_is, child_stands, with_names_stands, names_anew, turn_object}
 use Rattle.turns.specs.Listed.{before_end}
 use Rattle.turns.specs.Turning.{is_map, TurnAt, TurnBefore}
 use Rattle.turns.specs.declared.Turn.{Turn as Told}

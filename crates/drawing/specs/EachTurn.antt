@@ -30,7 +30,7 @@ use Rattle.scope.specs.declared.Scope.{Scope}
 use Rattle.scope.specs.Scopes.{blank, base_of, over_object, context_of}
 use Rattle.scope.specs.Standing.{ScopeStands}
 use Rattle.scope.specs.NameBits.{Covers, covers_turn}
-use Rattle.scope.specs.MadeLaws.{turned_stands, turn_object}
+use Rattle.scope.proofs.MadeLaws.{turned_stands, turn_object}
 use Rattle.turns.specs.declared.Turn.{Turn as Told}
 use Rattle.turns.specs.Turning.{is_map, TurnIs}
 use Rattle.turns.proofs.Laws.{BaseBefore, base_next, turn_context}

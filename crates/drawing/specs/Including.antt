@@ -30,7 +30,7 @@ use Rattle.scope.specs.Standing.{ScopeStands}
 use Rattle.scope.specs.Made.{child, with_names, with_locals}
 use Rattle.scope.specs.NameBits.{Covers}
 use Rattle.scope.specs.Names.{Readable}
-use Rattle.scope.specs.NamesLaws.{readable}
+use Rattle.scope.proofs.NamesLaws.{readable}
 use Rattle.expand.specs.declared.Options.{Options}
 use Rattle.including.specs.Included.{included}
 use Rattle.including.specs.Pairs.{with_pairs}

@@ -20,7 +20,7 @@ use Rattle.meaning.specs.Meaning.{scoped_of}
 use Rattle.scope.specs.declared.Scope.{Scope}
 use Rattle.scope.specs.Scopes.{blank}
 use Rattle.scope.specs.Names.{Readable}
-use Rattle.scope.specs.NamesLaws.{readable}
+use Rattle.scope.proofs.NamesLaws.{readable}
 use Rattle.scope.specs.NameBits.{Covers, covers_full}
 use Rattle.expand.specs.declared.Options.{Options}
 use Rattle.state.specs.Setters.{pushed, closed}

@@ -24,9 +24,9 @@ use Rattle.meaning.specs.Kept.{Agree, kept, stands_merged_is}
 use Rattle.scope.specs.declared.Scope.{Scope}
 use Rattle.scope.specs.Scopes.{locals_of, context_of}
 use Rattle.scope.specs.Standing.{ScopeStands}
-use Rattle.scope.specs.StackLaws.{context_kept, scope_kept}
+use Rattle.scope.proofs.StackLaws.{context_kept, scope_kept}
 use Rattle.scope.specs.Made.{child, with_names, with_locals}
-use Rattle.scope.specs.MadeLaws.{child_stands, with_locals_stands, with_names_stands, partial_is, partial_hash_is}
+use Rattle.scope.proofs.MadeLaws.{child_stands, with_locals_stands, with_names_stands, partial_is, partial_hash_is}
 use Rattle.members.specs.Parts.{Parts}
 use Rattle.expand.proofs.Calling.{as_json_of}
 use Rattle.including.specs.Values.{pair_place, hash_pairs}

@@ -23,7 +23,7 @@ use Rattle.scope.specs.declared.Scope.{Scope}
 use Rattle.scope.specs.Scopes.{blank, base_of, context_of, blocks_of}
 use Rattle.scope.specs.Standing.{ScopeStands}
 use Rattle.scope.specs.Names.{without_path, ValueIs}
-use Rattle.scope.specs.NamesLaws.{value_is}
+use Rattle.scope.proofs.NamesLaws.{value_is}
 use Rattle.context.specs.Walk.{walk_end, follow_place}
 use Rattle.context.proofs.Walking.{context_is}
 use Rattle.expand.specs.declared.Options.{Options}

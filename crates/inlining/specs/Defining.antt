@@ -16,9 +16,9 @@ use Rattle.scope.specs.declared.Scope.{Scope}
 use Rattle.scope.specs.Scopes.{blank, blocks_of}
 use Rattle.scope.specs.Standing.{ScopesStand}
 use Rattle.scope.specs.NameBits.{Covers, AllCovered, covers_counted, covered_kept}
-use Rattle.scope.specs.StackLaws.{push_stands, pop_stands, scope_again}
+use Rattle.scope.proofs.StackLaws.{push_stands, pop_stands, scope_again}
 use Rattle.scope.specs.Made.{with_count}
-use Rattle.scope.specs.InlineLaws.{size_is}
+use Rattle.scope.proofs.InlineLaws.{size_is}
 use Rattle.decorators.specs.Defined.{Holding, scopes_defined, blocks_defined}
 use Rattle.state.specs.Context.{RenderContext}
 use Rattle.state.specs.Setters.{with_scopes}

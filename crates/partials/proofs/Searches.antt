@@ -23,7 +23,7 @@ use Rattle.meaning.specs.Entries.{high, place}
 use Rattle.scope.specs.declared.Scope.{Scope}
 use Rattle.scope.specs.Scopes.{inline_body, blocks_of}
 use Rattle.scope.specs.Standing.{InlineStands, ScopeStands, ScopesStand}
-use Rattle.scope.specs.InlineLaws.{find_none, find_here}
+use Rattle.scope.proofs.InlineLaws.{find_none, find_here}
 use Rattle.decorators.specs.declared.Local.{Local}
 use Rattle.decorators.specs.declared.Local.TheVariants.{At, Nothing}
 use Rattle.decorators.specs.Inlined.{newest, Unnamed, Named, LocalIs, same_swap}

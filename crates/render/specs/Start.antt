@@ -32,7 +32,7 @@ use Rattle.scope.specs.declared.Scope.{Scope}
 use Rattle.scope.specs.Scopes.{blank, context_of}
 use Rattle.scope.specs.NameBits.{Covers, covers_none}
 use Rattle.scope.specs.Made.{child}
-use Rattle.scope.specs.MadeLaws.{child_is}
+use Rattle.scope.proofs.MadeLaws.{child_is}
 use Rattle.settings.specs.Settings.{roots_stand}
 use Rattle.expand.specs.declared.Options.{Options}
 use Rattle.state.specs.Context.{RenderContext}

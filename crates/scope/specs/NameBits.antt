@@ -20,17 +20,14 @@ use Rattle.meaning.specs.Meaning.{merged_of}
 use Rattle.meaning.specs.Kept.{Agree}
 use Rattle.meaning.specs.Standing.{stands_merged}
 use Rattle.value.specs.Numbers.{decoded}
-use Rattle.rules.specs.Context.{get_in_block_params}
 use Rattle.scope.specs.Made.{with_count}
 use Rattle.scope.specs.Standing.{ScopeStands, ScopesStand}
-use Rattle.scope.specs.StackLaws.{pop_stands}
-use Rattle.scope.specs.NamesLaws.{in_outer, own_none}
 use Rattle.value.specs.declared.Value.{Value}
 use Rattle.value.specs.declared.Value.TheVariants.{Merged}
 use Rattle.scope.specs.declared.Scope.{Scope}
 use Rattle.scope.specs.declared.Param.{Param}
 use Rattle.scope.specs.declared.Param.TheVariants.{Is, Nothing}
-use Rattle.scope.specs.Scopes.{base_of, blocks_of, blank}
+use Rattle.scope.specs.Scopes.{base_of, blank}
 use Rattle.scope.specs.Names.{without_path, hash_param, second_value, one_param, two_params, param_by, param_of, first_param, or_param}
 
 -- which bit: by the count of the name and its first byte
@@ -260,13 +257,3 @@ covers_turn m b ent c d e f le h = record { clear = λ k x. at k c.kind le (h.cl
     at k (suc zero) le z y = y ∙ one k z
     at k (suc (suc zero)) le z y = y ∙ two k z
     at k (suc (suc (suc i))) le z y = absurd (omega arith)
-
--- a name that is in no scope is no block name for the rules either
-module _ (s b : Bytes) (ent : List ℕ) (l : List Scope) (m : ℕ) (k : Bytes) (x : Lacks m k) where
-  pub none_named : (n t : ℕ) → ScopesStand s b ent l n t → AllCovered m b ent l n → get_in_block_params (blocks_of s b ent l n) k ≡ none
-  none_named zero t st a = refl
-  none_named (suc n) t st a =
-      let c = get_or l n blank in
-      let under = pop_stands s b ent l n t st in
-      in_outer s b ent l n k c.inline (own_none s b ent c (st.each n (omega arith)) k ((a n (omega arith)).clear k x))
-      ∙ none_named n c.inline under (λ i lt. a i (omega arith))

@@ -20,7 +20,7 @@ use Rattle.scope.specs.declared.Scope.{Scope}
 use Rattle.scope.specs.Scopes.{blank, context_of, partials_of, blocks_of}
 use Rattle.scope.specs.Standing.{ScopeStands, ScopesStand}
 use Rattle.scope.specs.Made.{child}
-use Rattle.scope.specs.MadeLaws.{child_stands}
+use Rattle.scope.proofs.MadeLaws.{child_stands}
 use Rattle.context.specs.Near.{NearScopes}
 use Rattle.expand.specs.declared.Options.{Options}
 use Rattle.expand.specs.declared.Got.{Got}

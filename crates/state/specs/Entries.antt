@@ -11,7 +11,7 @@ use Rattle.rules.specs.State.{entries, rest}
 use Rattle.meaning.specs.Kept.{Agree}
 use Rattle.scope.specs.Scopes.{blank, context_of, partials_of, blocks_of}
 use Rattle.scope.specs.NameBits.{covered_kept}
-use Rattle.scope.specs.StackLaws.{partials_kept, context_kept, blocks_kept, scopes_kept}
+use Rattle.scope.proofs.StackLaws.{partials_kept, context_kept, blocks_kept, scopes_kept}
 use Rattle.state.specs.World.{World, world, outputs_of, front, top, abs, Ready, Goes}
 use Rattle.state.specs.Laws.{grows_none}
 use Rattle.state.specs.Steps.{Within}

@@ -19,7 +19,7 @@ use Rattle.scope.specs.Scopes.{blank, context_of, partials_of, block_of, blocks_
 use Rattle.scope.specs.Standing.{ScopeStands, ScopesStand}
 use Rattle.scope.specs.Made.{with_count}
 use Rattle.scope.specs.NameBits.{Covers, covered_kept}
-use Rattle.scope.specs.StackLaws.{push_stands, pop_stands, blocks_kept, scopes_kept}
+use Rattle.scope.proofs.StackLaws.{push_stands, pop_stands, blocks_kept, scopes_kept}
 use Rattle.state.specs.Context.{RenderContext}
 use Rattle.state.specs.Setters.{with_scopes, turned, closed}
 use Rattle.state.specs.World.{World, over, outputs_of, front, top, text_on, stack_of, sizes_of, abs, error_of, Ready, Sizes, Grows, Goes, Drawn, Draws}

@@ -24,7 +24,7 @@ use Rattle.scope.specs.Standing.{ScopeStands, ScopesStand}
 use Rattle.std.specs.Int.Bits.{bit_or}
 use Rattle.scope.specs.NameBits.{Covers, push_covered}
 use Rattle.scope.specs.Made.{with_count}
-use Rattle.scope.specs.StackLaws.{blocks_under, blocks_set, push_stands, pop_stands, blocks_kept, scopes_kept}
+use Rattle.scope.proofs.StackLaws.{blocks_under, blocks_set, push_stands, pop_stands, blocks_kept, scopes_kept}
 use Rattle.state.specs.Context.{RenderContext}
 use Rattle.state.specs.Setters.{with_escape, with_template, with_writer, with_marks, with_scopes, with_names}
 use Rattle.state.specs.World.{World, over, outputs_of, front, top, text_on, stack_of, sizes_of, name_at, abs, error_of, Ready, Sizes, Grows, Goes, Drawn, Draws}

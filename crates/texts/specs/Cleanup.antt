@@ -17,7 +17,7 @@ use Rattle.scope.specs.Scopes.{blank, context_of, blocks_of}
 use Rattle.scope.specs.Standing.{ScopesStand}
 use Rattle.scope.specs.Made.{with_count}
 use Rattle.scope.specs.NameBits.{covered_kept}
-use Rattle.scope.specs.StackLaws.{blocks_kept, scopes_kept}
+use Rattle.scope.proofs.StackLaws.{blocks_kept, scopes_kept}
 use Rattle.state.specs.World.{World, over, outputs_of, front, top, text_on, stack_of, sizes_of, abs, Ready, Sizes, Grows, Goes, Draws}
 use Rattle.state.specs.Laws.{sizes_trans}
 use Rattle.state.specs.Steps.{sizes_under, blocks_alike, blocks_abs, stack_under}

@@ -15,7 +15,7 @@ use Rattle.meaning.specs.Kept.{Agree}
 use Rattle.scope.specs.declared.Scope.{Scope}
 use Rattle.scope.specs.Scopes.{blank, params_by, context_of, partials_of, blocks_of}
 use Rattle.scope.specs.Standing.{ScopeStands, ScopesStand}
-use Rattle.scope.specs.StackLaws.{names_move, push_stands, pop_stands}
+use Rattle.scope.proofs.StackLaws.{names_move, push_stands, pop_stands}
 use Rattle.scope.specs.Names.{param_by}
 use Rattle.scope.specs.NameBits.{Covers}
 use Rattle.state.specs.Setters.{with_writer, turned}

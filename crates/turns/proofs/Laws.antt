@@ -32,7 +32,7 @@ use Rattle.members.proofs.Counting.{members_few}
 use Rattle.scope.specs.declared.Scope.{Scope}
 use Rattle.scope.specs.Scopes.{over_object, base_of, turn_locals, locals_of, second, context_of}
 use Rattle.scope.specs.Made.{turned, names_said}
-use Rattle.scope.specs.MadeLaws.{OneBehind, no_key, list_locals, map_locals, list_second, map_second, turn_value, turn_path}
+use Rattle.scope.proofs.MadeLaws.{OneBehind, no_key, list_locals, map_locals, list_second, map_second, turn_value, turn_path}
 use Rattle.turns.proofs.Places.{place_json, place_within, no_turns}
 use Rattle.turns.specs.Listed.{is_end, turn_vars, before_end}
 use Rattle.turns.specs.Turning.{place_of, is_map, Leads, TurnIs, TurnAt}

@@ -4,17 +4,17 @@ use mathlib.Core.Path.{sym, ap, ◌∙◌, subst}
 use native.Mathlib.Omega.{arith}
 use Rattle.rules.specs.Bits.{bits}
 use Rattle.layout.specs.Text.{text_at}
-use Rattle.scope.specs.NamesLaws.{in_stack, string_near}
+use Rattle.scope.proofs.NamesLaws.{in_stack, string_near}
 use Rattle.rules.specs.Error.{Got}
 use Rattle.rules.specs.Value.{ScopedJson}
 use Rattle.rules.specs.Expand as rule
 use Rattle.parts.specs.Says.{segments_at, PathStands, path_stands}
-use Rattle.scope.specs.NamesLaws.{all_readable}
+use Rattle.scope.proofs.NamesLaws.{all_readable}
 use Rattle.scope.specs.Names.{local_at}
 use Rattle.context.specs.Evaluated.{Evaluates, evaluated_of}
 use Rattle.context.proofs.Evaluating.{relative_is, local_is}
 use Rattle.context.proofs.Nearing.{param_fits, local_answers}
-use Rattle.scope.specs.NamesLaws.{local_found, no_local}
+use Rattle.scope.proofs.NamesLaws.{local_found, no_local}
 use Rattle.scope.specs.declared.Param.TheVariants.{Nothing}
 use Rattle.context.proofs.Numbers.{nothing_told}
 use Rattle.context.proofs.Nearing.{started_is}

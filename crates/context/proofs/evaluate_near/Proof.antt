@@ -4,12 +4,12 @@ use mathlib.Core.Path.{refl, sym, ap, ◌∙◌, subst}
 use native.Mathlib.Omega.{arith}
 use Rattle.rules.specs.Bits.{bits}
 use Rattle.layout.specs.Text.{text_at}
-use Rattle.scope.specs.NamesLaws.{string_near}
+use Rattle.scope.proofs.NamesLaws.{string_near}
 use Rattle.rules.specs.Error.{Got}
 use Rattle.rules.specs.Value.{ScopedJson}
 use Rattle.rules.specs.Expand as rule
 use Rattle.parts.specs.Says.{segments_at, PathStands, path_stands}
-use Rattle.scope.specs.NamesLaws.{all_readable}
+use Rattle.scope.proofs.NamesLaws.{all_readable}
 use Rattle.scope.specs.Names.{Readable, local_at}
 use Rattle.context.specs.Evaluated.{Evaluates, evaluated_of}
 use Rattle.context.specs.Start.{Starts}

@@ -3,7 +3,7 @@ use Prim.Native.Nat.{◌-◌}
 use mathlib.Core.Path.{sym, ap, ◌∙◌, subst}
 use Rattle.rules.specs.Bits.{bits}
 use Rattle.layout.specs.Text.{text_at}
-use Rattle.scope.specs.NamesLaws.{string_near}
+use Rattle.scope.proofs.NamesLaws.{string_near}
 use Rattle.context.specs.declared.Start.{Start}
 use Rattle.context.specs.Start.{NameStarts}
 use Rattle.context.proofs.Starting.{name_based, name_found}

@@ -6,7 +6,7 @@ use lib.ListN.{get_or}
 use Rattle.value.specs.Numbers.{decoded}
 use Rattle.scope.specs.declared.Scope.{Scope}
 use Rattle.scope.specs.Scopes.{blank, base_of}
-use Rattle.scope.specs.NamesLaws.{in_stack}
+use Rattle.scope.proofs.NamesLaws.{in_stack}
 use Rattle.context.specs.Start.{Based}
 use borrow.Author.Tests.{lt-ltb, le-ltb}
 use Rattle.rules.specs.Picks.{yes, no}

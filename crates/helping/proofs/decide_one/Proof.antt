@@ -4,7 +4,7 @@ use native.Mathlib.Omega.{arith}
 use mathlib.Core.Path.{refl, sym, subst}
 use Rattle.value.specs.declared.Value.TheVariants.{Missing, Text}
 use Rattle.meaning.specs.Forms.{Known}
-use Rattle.scope.specs.NamesLaws.{string_near}
+use Rattle.scope.proofs.NamesLaws.{string_near}
 use Rattle.expand.specs.declared.Got.TheVariants.{Is, Bad}
 use Rattle.expand.specs.Answers.{with_one}
 use Rattle.helping.proofs.Deciding.{gets_bad, gets_value, worked_one, by_refused, by_text}

@@ -4,7 +4,7 @@ use native.Mathlib.Omega.{arith}
 use mathlib.Core.Path.{refl, sym, subst}
 use Rattle.value.specs.declared.Value.TheVariants.{Text}
 use Rattle.lookup.specs.Answers.{Held}
-use Rattle.scope.specs.NamesLaws.{string_near}
+use Rattle.scope.proofs.NamesLaws.{string_near}
 use Rattle.expand.specs.declared.Got.TheVariants.{Is, Bad}
 use Rattle.helping.proofs.Deciding.{with_two, gets_bad, gets_value, worked_two, by_refused, by_text}
 use borrow.Author.Rules.{rules}

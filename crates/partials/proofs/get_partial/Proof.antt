@@ -5,7 +5,7 @@ use Rattle.decorators.specs.declared.Local.TheVariants.{At}
 use Rattle.expand.specs.Answers.{name_of}
 use Rattle.scope.specs.declared.Scope.{Scope}
 use Rattle.scope.specs.Scopes.{blocks_of}
-use Rattle.scope.specs.NamesLaws.{in_stack}
+use Rattle.scope.proofs.NamesLaws.{in_stack}
 use Rattle.meaning.specs.Standing.{Stands}
 use Rattle.rules.specs.Partial.{get_partial}
 use Rattle.rules.specs.Template.{Template}

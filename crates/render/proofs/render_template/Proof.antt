@@ -5,7 +5,7 @@ use lib.ListN.{get_or, set, replicate}
 use Prim.Native.Nat.{ℕ, ◌+◌, ◌-◌, ◌≤◌}
 use Rattle.scope.specs.declared.Scope.{Scope}
 use Rattle.scope.specs.Scopes.{blank}
-use Rattle.scope.specs.NamesLaws.{string_near}
+use Rattle.scope.proofs.NamesLaws.{string_near}
 use Rattle.state.specs.declared.RenderContext as code
 use Rattle.state.specs.Context.{RenderContext, whole, topped}
 use Rattle.state.specs.Setters.{fresh, with_template}

@@ -6,7 +6,7 @@ use Rattle.rules.specs.Bytes.{same}
 use Rattle.layout.specs.Text.{text_at}
 use Rattle.value.specs.Numbers.{decoded}
 use Rattle.scope.specs.declared.Param.TheVariants.{Is}
-use Rattle.scope.specs.NamesLaws.{string_near, hash_here, hash_on, hash_none}
+use Rattle.scope.proofs.NamesLaws.{string_near, hash_here, hash_on, hash_none}
 use Rattle.scope.specs.Names.{without_path, hash_param}
 use Rattle.scope.proofs.Numbers.{number_one}
 use borrow.Author.Rules.{rules}

@@ -6,7 +6,7 @@ use Rattle.rules.specs.Bits.{bits}
 use Rattle.layout.specs.Text.{text_at}
 use Rattle.meaning.specs.Meaning.{merged_of}
 use Rattle.scope.specs.Standing.{NamesStand}
-use Rattle.scope.specs.NamesLaws.{string_near, merged_param, no_merged_param}
+use Rattle.scope.proofs.NamesLaws.{string_near, merged_param, no_merged_param}
 use Rattle.scope.proofs.Numbers.{settled}
 use Rattle.scope.proofs.Tags.{not_merged}
 use borrow.Author.Rules.{rules}

@@ -5,7 +5,7 @@ use Rattle.rules.specs.Bits.{bits}
 use Rattle.layout.specs.Text.{text_at}
 use Rattle.scope.specs.declared.Scope.{Scope}
 use Rattle.scope.specs.Names.{Readable}
-use Rattle.scope.specs.NamesLaws.{string_near, in_stack}
+use Rattle.scope.proofs.NamesLaws.{string_near, in_stack}
 use Rattle.scope.proofs.Searching.{Searches, search_start, search_past, number_found, number_on, number_end}
 use borrow.Author.Rules.{rules}
 use Rattle.scope.proofs.param_number.Goals as goal

@@ -10,7 +10,7 @@ use Rattle.layout.specs.Text.{text_at}
 use Rattle.parts.specs.Holds.{end}
 use Rattle.parts.specs.HoldsLaws.{string_end, string_in}
 use Rattle.scope.specs.declared.Param.TheVariants.{Is}
-use Rattle.scope.specs.NamesLaws.{string_near}
+use Rattle.scope.proofs.NamesLaws.{string_near}
 use Rattle.bits.specs.Fields.{field_first}
 use Rattle.scope.proofs.Numbers.{number_one}
 use borrow.Author.Rules.{rules}

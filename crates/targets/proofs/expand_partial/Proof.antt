@@ -2,7 +2,7 @@
 use Rattle.partials.specs.Finding.{FoundIs}
 use Rattle.expand.specs.Answers.{name_of}
 use Rattle.scope.specs.declared.Scope.{Scope}
-use Rattle.scope.specs.NamesLaws.{string_near}
+use Rattle.scope.proofs.NamesLaws.{string_near}
 use Rattle.scope.specs.Scopes.{blocks_of}
 use Rattle.scope.specs.Standing.{ScopesStand}
 use Rattle.state.specs.Context.{whole}
