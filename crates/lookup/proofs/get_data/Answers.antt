@@ -11,7 +11,7 @@ use Rattle.lookup.proofs.get_data.Goals as goal
 
 pub derived_data-requires : goal.derived_data-requires
 derived_data-requires c = let z = c in
-    (z.requires.0, z.requires.1, z.requires.2, no_place z.args.v c.pathless.result c.pathless.ensures (opened c.in_default.in_default-own.keys2,) c.text_of.ensures.1)
+    (z.requires.0, z.requires.1, z.requires.2, no_place z.args.v c.pathless.result c.pathless.ensures (opened c.in_default.in_default-own.keys2), c.text_of.ensures.1)
 
 pub returns-in_default : goal.returns-in_default
 returns-in_default c = let a = c.args in

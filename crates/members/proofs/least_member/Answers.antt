@@ -1,0 +1,55 @@
+use Rattle.members.proofs.Nearing.{has_keyed}
+use Rattle.members.proofs.Stepping.{Choosing, choosing_start, choosing_end, choosing_child, choosing_key, choosing_on}
+use Rattle.members.specs.Next.{after_name, PlainItem}
+use Rattle.lookup.proofs.Scanning.{ahead, walks_less}
+use Rattle.places.specs.Accepted.{Accepted}
+use Rattle.places.specs.Places.{places, json_at}
+use Rattle.places.specs.Kinds.{members_of}
+use Rattle.rules.specs.Json.{jobj}
+use Prim.Native.Nat.{◌<◌}
+use mathlib.Core.Path.{◌≡◌}
+use borrow.Author.Rules.{rules}
+use Rattle.members.proofs.least_member.Goals as goal
+
+pub first-at-requires : goal.first-at-requires
+first-at-requires c = (c.requires.0, c.requires.2)
+
+pub loop-at-init : goal.loop-at-init
+loop-at-init c = λ a lt e. choosing_start c.args.s.now c.args.b.now c.args.tab.now a c.args.i lt (after_name c.args.s.now c.args.b.now c.args.after) e c.first-at.result c.first-at.ensures
+
+pub returns-in_default : goal.returns-in_default
+returns-in_default c = let a = c.args in
+    let p = c.requires in
+    let l = c.loop-at in
+    choosing_end a.s.now a.b.now a.tab.now p.0 a.i p.2 (after_name a.s.now a.b.now a.after) p.3 l.best l.at (l.invariant p.0 p.2 p.3) c.in_default.is
+
+pub name-requires : goal.name-requires
+name-requires c = let a = c.args in
+    let p = c.requires in
+    let l = c.loop-at in
+    (p.0, (choosing_child a.s.now a.b.now a.tab.now p.0 a.i p.2 (after_name a.s.now a.b.now a.after) p.3 l.best l.at (l.invariant p.0 p.2 p.3) c.in-At.c c.in-At.is).1.within)
+
+pub nearer-best-requires : goal.nearer-best-requires
+nearer-best-requires c = let a = c.args in
+    let p = c.requires in
+    let l = c.loop-at in
+    let w = l.invariant p.0 p.2 p.3 in
+    (p.0, p.1, p.4, choosing_key a.s.now a.b.now a.tab.now p.0 a.i p.2 (after_name a.s.now a.b.now a.after) p.3 l.best l.at w c.in-At.c c.in-At.is c.name.result c.name.ensures.0 c.name.ensures.1, has_keyed a.s.now a.b.now (PlainItem a.s.now a.b.now) l.best w.holds)
+
+pub next-at-requires : goal.next-at-requires
+next-at-requires c = let a = c.args in
+    let p = c.requires in
+    let l = c.loop-at in
+    (p.0, p.2, (choosing_child a.s.now a.b.now a.tab.now p.0 a.i p.2 (after_name a.s.now a.b.now a.after) p.3 l.best l.at (l.invariant p.0 p.2 p.3) c.in-At.c c.in-At.is).1.within)
+
+pub loop-at-smaller : goal.loop-at-smaller
+loop-at-smaller c = let a = c.args in
+    let p = c.requires in
+    let l = c.loop-at in
+    walks_less a.s.now a.tab.now p.0 a.i p.2 l.at (l.invariant p.0 p.2 p.3).scans.walks c.next-at.result c.in-At.c c.in-At.is c.next-at.ensures.0
+
+pub loop-at-preserved : goal.loop-at-preserved
+loop-at-preserved c = λ h lt e.
+    let a = c.args in
+    let l = c.loop-at in
+    choosing_on a.s.now a.b.now a.tab.now h a.i lt (after_name a.s.now a.b.now a.after) e l.best l.at (l.invariant h lt e) c.in-At.c c.in-At.is c.name.result c.name.ensures.0 c.name.ensures.1 c.nearer-best.result c.nearer-best.ensures c.next-at.result c.next-at.ensures.0
