@@ -32,19 +32,15 @@ fn show_byte(rt: &impl Print, s: &[u8], p: usize) -> io::Result<()> {
 fn fields(rt: &impl Print, s: &[u8], w: usize, last: usize) -> io::Result<()>
     requires { w ≤ 64 }
 {
-    let mut p: usize = 0;
-    while p < last {
+    for p in 0..last {
         show_field(rt, s, p, w)?;
-        p += 1;
     }
     println!(rt)
 }
 
 fn bytes(rt: &impl Print, s: &[u8], last: usize) -> io::Result<()> {
-    let mut p: usize = 0;
-    while p < last {
+    for p in 0..last {
         show_byte(rt, s, p)?;
-        p += 1;
     }
     println!(rt)
 }
@@ -53,11 +49,9 @@ fn bytes(rt: &impl Print, s: &[u8], last: usize) -> io::Result<()> {
 fn beginnings(rt: &impl Print, s: &[u8]) -> io::Result<()>
     requires { length s.now ≤ 12 }
 {
-    let mut n: usize = 0;
-    while n < s.len() {
+    for n in 0..s.len() {
         fields(rt, &s[..n], 64, 8 * n + 2)?;
         bytes(rt, &s[..n], 8 * n + 2)?;
-        n += 1;
     }
     Ok(())
 }
