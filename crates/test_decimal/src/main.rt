@@ -48,10 +48,8 @@ fn print_parsed(rt: &impl Print, p: Parsed) -> io::Result<()> {
 // The digits one by one, how many they are, the byte past the last, and what they parse to.
 fn report_digits(rt: &impl Print, n: u64) -> io::Result<()> {
     let count = decimal::digit_count(n);
-    let mut i: usize = 0;
-    while i < count {
+    for i in 0..count {
         print_byte(rt, decimal::digit(n, i))?;
-        i += 1;
     }
     print_number(rt, count as u64)?;
     print_number(rt, wide(decimal::digit(n, count)))?;

@@ -50,19 +50,15 @@ fn print_line_end(rt: &impl Print) -> io::Result<()> {
 }
 
 fn print_bytes(rt: &impl Print, s: &[u8]) -> io::Result<()> {
-    let mut i: usize = 0;
-    while i < s.len() {
-        print_number(rt, wide(s[i]))?;
-        i += 1;
+    for c in s {
+        print_number(rt, wide(*c))?;
     }
     Ok(())
 }
 
 fn print_lengths(rt: &impl Print, s: &[u8]) -> io::Result<()> {
-    let mut i: usize = 0;
-    while i <= s.len() {
+    for i in 0..=s.len() {
         print_number(rt, utf8::utf8_length(s, i) as u64)?;
-        i += 1;
     }
     Ok(())
 }
