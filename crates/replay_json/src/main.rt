@@ -76,10 +76,8 @@ fn within(at: usize) -> usize
 fn plain(f: &[u8], at: usize, n: usize, out: &mut [u8], to: usize)
     requires { at ≤ 524288 × n < 65536 × to ≤ 524288 }
 {
-    let mut i: usize = 0;
-    while i < n {
+    for i in 0..n {
         set(out, to + i, get(f, at + i));
-        i += 1;
     }
 }
 
@@ -95,11 +93,9 @@ fn before(out: &[u8], at: usize, back: usize) -> u8 {
 fn repeated(out: &mut [u8], to: usize, n: usize, back: usize)
     requires { n < 65536 × to ≤ 524288 }
 {
-    let mut i: usize = 0;
-    while i < n {
+    for i in 0..n {
         let x = before(out, to + i, back);
         set(out, to + i, x);
-        i += 1;
     }
 }
 
@@ -111,8 +107,7 @@ fn unpack(f: &[u8], from: usize, out: &mut [u8]) -> Unpacked
     let length = number_at(f, from);
     let mut at = within(from + 4);
     let mut len: usize = 0;
-    let mut turns: usize = 0;
-    while turns < 65536 {
+    for _ in 0..65536 {
         if length <= len {
             return Unpacked {
                 len: length,
@@ -129,7 +124,6 @@ fn unpack(f: &[u8], from: usize, out: &mut [u8]) -> Unpacked
         repeated(out, len + n, count, back);
         len = len + n + count;
         at = within(at + 6 + n);
-        turns += 1;
     }
     Unpacked { len: 0, next: END }
 }
@@ -210,14 +204,12 @@ fn replay(
 ) -> io::Result<()> {
     let texts = number_at(f, 0);
     let mut at: usize = 4;
-    let mut i: usize = 0;
-    while i < texts {
+    for i in 0..texts {
         let number = get(f, at);
         let u = unpack(f, within(at + 1), text);
         let said = answer(text, u.len, tab);
         judge(rt, file, i, said, number, all, agreed)?;
         at = u.next;
-        i += 1;
     }
     Ok(())
 }
@@ -250,13 +242,11 @@ fn print_count(rt: &impl Print, number: usize, agreed: usize, all: usize) -> io:
 }
 
 fn print_counts(rt: &impl Print, all: &[usize; 16], agreed: &[usize; 16]) -> io::Result<()> {
-    let mut n: usize = 0;
-    while n < 16 {
+    for n in 0..16 {
         let count = all[n];
         if 0 < count {
             print_count(rt, n, agreed[n], count)?;
         }
-        n += 1;
     }
     Ok(())
 }
