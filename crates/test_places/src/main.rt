@@ -31,15 +31,13 @@ fn print_text(rt: &impl Print, s: &[u8], q: usize) -> io::Result<()>
 {
     let mut at = q + 1;
     let mut k: usize = 0;
-    let mut turns: usize = 0;
-    while turns < 65536 {
+    for _ in 0..65536 {
         let Step::Byte(b, c) = saying::next_byte(s, at, k) else {
             return Ok(());
         };
         print_byte(rt, b)?;
         at = c.at;
         k = c.k;
-        turns += 1;
     }
     Ok(())
 }
@@ -49,8 +47,7 @@ fn characters(s: &[u8], q: usize) -> usize
     requires { (length s.now ≤ 65536) × (q < length s.now) }
 {
     let mut at = q + 1;
-    let mut n: usize = 0;
-    while n < 65536 {
+    for n in 0..65536 {
         if 65536 < at {
             return n;
         }
@@ -58,9 +55,8 @@ fn characters(s: &[u8], q: usize) -> usize
             return n;
         };
         at = next;
-        n += 1;
     }
-    n
+    65536
 }
 
 // The value at i: a list and an object by how many values stand in them.
@@ -130,8 +126,7 @@ fn print_members(rt: &impl Print, s: &[u8], tab: &[u64], i: usize) -> io::Result
     requires { Accepted s.now tab.now × (i < places s.now) }
 {
     let mut last = Found::Nothing;
-    let mut turns: usize = 0;
-    while turns < 100 {
+    for _ in 0..100 {
         let Found::At(p) = places::next_member(s, tab, i, last) else {
             return Ok(());
         };
@@ -141,7 +136,6 @@ fn print_members(rt: &impl Print, s: &[u8], tab: &[u64], i: usize) -> io::Result
         print_value(rt, s, tab, p)?;
         print(rt, b"\n")?;
         last = Found::At(p);
-        turns += 1;
     }
     Ok(())
 }
@@ -150,8 +144,7 @@ fn print_members(rt: &impl Print, s: &[u8], tab: &[u64], i: usize) -> io::Result
 fn print_items(rt: &impl Print, s: &[u8], tab: &[u64], i: usize) -> io::Result<()>
     requires { Accepted s.now tab.now × (i < places s.now) }
 {
-    let mut k: usize = 0;
-    while k < 100 {
+    for k in 0..100 {
         let Found::At(p) = places::nth(s, tab, i, k) else {
             return Ok(());
         };
@@ -161,7 +154,6 @@ fn print_items(rt: &impl Print, s: &[u8], tab: &[u64], i: usize) -> io::Result<(
         print_value(rt, s, tab, p)?;
         print(rt, b", in ")?;
         print_up(rt, s, tab, p)?;
-        k += 1;
     }
     Ok(())
 }
