@@ -118,10 +118,8 @@ fn report(rt: &impl Print, s: &[u8], b: &[u8], t: Text) -> io::Result<()>
     print(rt, b": ")?;
     show_all(rt, s, b, t)?;
     print(rt, b"; ")?;
-    let mut k: usize = 0;
-    while k <= n {
+    for k in 0..=n {
         show_nth(rt, s, b, t, k)?;
-        k += 1;
     }
     print(rt, b"\n")
 }
@@ -142,10 +140,8 @@ fn is_valid(b: &[u8], p: usize, n: usize) -> bool
     ensures { result ≡ utf8 (bytes_at (bits b.now) p n) }
 {
     let mut u = utf8::start();
-    let mut i: usize = 0;
-    while i < n {
+    for i in 0..n {
         u = utf8::step(u, bits::byte(b, p + 8 * i));
-        i += 1;
     }
     utf8::is_done(u)
 }
