@@ -2,13 +2,15 @@
 // elements of each kind the accepted ones of up to 4,096 bytes have. `make-data` makes the files and states their form.
 #![tactic(auto)]
 
-ghost use Rattle.std.specs.Prelude.{◌≡◌, ◌+◌, ◌≤◌, ◌<◌, length};
-ghost use Rattle.io.specs.Counts.{IsPrefixLen};
+ghost use Rattle.std.specs.Prelude.{◌≡◌, ◌+◌, ◌≤◌, ◌<◌, length, IfOk};
 ghost use Rattle.layout.specs.Verdict.{verdict_number};
 
 use error::{BUNDLE_LAYOUT, BUNDLE_TOO_LARGE, PARTIAL_PARAMETER};
 use layout::Verdict;
-use libc::STDOUT_FILENO;
+use std::alloc::{AllocError, Global};
+use std::io::Read;
+use std::rt::Files;
+use std::{fs, io};
 
 // No place of a file is behind this one.
 const END: usize = 262144;
@@ -244,82 +246,99 @@ fn replay(f: &[u8], out: &mut [u8], counts: &mut [u64; 25], kinds: &mut [u64; 9]
     }
 }
 
-fn load(path: &[u8], buf: &mut [u8]) -> usize
-    ensures { IsPrefixLen result buf.new }
+// Fills the buffer from a file: how many bytes it took. A file that cannot be opened counts as empty.
+fn load(rt: &impl Files, path: &str, buf: &mut [u8]) -> io::Result<usize>
+    ensures { IfOk result (λ n. n ≤ length buf.new) }
 {
-    let fd = os::open_read(path);
-    if fd < 0 {
-        return 0;
+    let Ok(mut file) = fs::open(rt, path) else {
+        return Ok(0);
+    };
+    let mut n: usize = 0;
+    for _ in 0..u64::MAX {
+        let taken = file.read(&mut buf[n..])?;
+        if taken == 0 {
+            break;
+        }
+        n += taken;
     }
-    let n = io::read_full(fd, buf);
-    libc::close(fd);
-    n
+    Ok(n)
 }
 
 // The file `bundles-00.bin` and so on; at most ten.
-fn file_name(k: u8) -> [u8; 14]
+fn file_name(alloc: Global, k: u8) -> Result<String, AllocError>
     requires { k < 10 }
 {
-    let mut name = *b"bundles-00.bin";
-    name[9] = 48 + k;
-    name
+    format!(in alloc; "bundles-{k:02}.bin")
 }
 
-fn one_file(k: u8, file: &mut [u8], buffer: &mut [u8], counts: &mut [u64; 25], kinds: &mut [u64; 9])
+fn one_file(
+    rt: &(impl Files + AllocGlobal),
+    k: u8,
+    file: &mut [u8],
+    buffer: &mut [u8],
+    counts: &mut [u64; 25],
+    kinds: &mut [u64; 9],
+) -> io::Result<()>
     requires { k < 10 }
 {
-    let name = file_name(k);
-    let n = load(&name, file);
+    let name = file_name(rt.alloc(), k)?;
+    let n = load(rt, name.as_str(), file)?;
     replay(&file[..n], buffer, counts, kinds);
+    Ok(())
 }
 
-fn all_files(file: &mut [u8], buffer: &mut [u8], counts: &mut [u64; 25], kinds: &mut [u64; 9]) {
+fn all_files(
+    rt: &(impl Files + AllocGlobal),
+    file: &mut [u8],
+    buffer: &mut [u8],
+    counts: &mut [u64; 25],
+    kinds: &mut [u64; 9],
+) -> io::Result<()> {
     let mut k: u8 = 0;
     while k < 10 {
-        one_file(k, file, buffer, counts, kinds);
+        one_file(rt, k, file, buffer, counts, kinds)?;
         k += 1;
     }
+    Ok(())
 }
 
-fn print_number(n: usize) {
-    io::print_decimal(STDOUT_FILENO, n as u64);
+fn print_number(rt: &impl Print, n: usize) -> io::Result<()> {
+    print!(rt; "{n}")
 }
 
-fn print_counts(counts: &[u64; 25]) {
+fn print_counts(rt: &impl Print, counts: &[u64; 25]) -> io::Result<()> {
     let mut k: usize = 0;
     while k < 25 {
         let n = counts[k];
         if 0 < n {
-            io::write_all(STDOUT_FILENO, b"check_bundle ");
-            print_number(k / 5);
-            io::write_all(STDOUT_FILENO, b", oracle ");
-            print_number(k % 5);
-            io::write_all(STDOUT_FILENO, b": ");
-            io::print_decimal(STDOUT_FILENO, n);
-            io::write_all(STDOUT_FILENO, b"\n");
+            print!(rt; "check_bundle ")?;
+            print_number(rt, k / 5)?;
+            print!(rt; ", oracle ")?;
+            print_number(rt, k % 5)?;
+            println!(rt; ": {n}")?;
         }
         k += 1;
     }
+    Ok(())
 }
 
-fn print_kinds(kinds: &[u64; 9]) {
+fn print_kinds(rt: &impl Print, kinds: &[u64; 9]) -> io::Result<()> {
     let mut k: usize = 0;
     while k < 9 {
-        io::write_all(STDOUT_FILENO, b"kind ");
-        print_number(k);
-        io::write_all(STDOUT_FILENO, b": ");
-        io::print_decimal(STDOUT_FILENO, kinds[k]);
-        io::write_all(STDOUT_FILENO, b"\n");
+        print!(rt; "kind ")?;
+        print_number(rt, k)?;
+        println!(rt; ": {}", kinds[k])?;
         k += 1;
     }
+    Ok(())
 }
 
-fn main() {
+fn main(rt: HostRuntime) -> io::Result<()> {
     let mut file = [0u8; 262144];
     let mut buffer = [0u8; 262144];
     let mut counts = [0u64; 25];
     let mut kinds = [0u64; 9];
-    all_files(&mut file, &mut buffer, &mut counts, &mut kinds);
-    print_counts(&counts);
-    print_kinds(&kinds);
+    all_files(&rt, &mut file, &mut buffer, &mut counts, &mut kinds)?;
+    print_counts(&rt, &counts)?;
+    print_kinds(&rt, &kinds)
 }

@@ -2,10 +2,12 @@
 // the reader answers so; every other one by its file and its place there.
 #![tactic(auto)]
 
-ghost use Rattle.std.specs.Prelude.{◌+◌, ◌≤◌, ◌<◌};
-ghost use Rattle.io.specs.Counts.{IsPrefixLen};
+ghost use Rattle.std.specs.Prelude.{◌+◌, ◌≤◌, ◌<◌, IfOk, length};
 
-use libc::STDOUT_FILENO;
+use std::alloc::{AllocError, Global};
+use std::io::Read;
+use std::rt::Files;
+use std::{fs, io};
 
 // No place of the file is behind this one.
 const END: usize = 262144;
@@ -74,10 +76,8 @@ fn within(at: usize) -> usize
 fn plain(f: &[u8], at: usize, n: usize, out: &mut [u8], to: usize)
     requires { at ≤ 524288 × n < 65536 × to ≤ 524288 }
 {
-    let mut i: usize = 0;
-    while i < n {
+    for i in 0..n {
         set(out, to + i, get(f, at + i));
-        i += 1;
     }
 }
 
@@ -93,11 +93,9 @@ fn before(out: &[u8], at: usize, back: usize) -> u8 {
 fn repeated(out: &mut [u8], to: usize, n: usize, back: usize)
     requires { n < 65536 × to ≤ 524288 }
 {
-    let mut i: usize = 0;
-    while i < n {
+    for i in 0..n {
         let x = before(out, to + i, back);
         set(out, to + i, x);
-        i += 1;
     }
 }
 
@@ -109,8 +107,7 @@ fn unpack(f: &[u8], from: usize, out: &mut [u8]) -> Unpacked
     let length = number_at(f, from);
     let mut at = within(from + 4);
     let mut len: usize = 0;
-    let mut turns: usize = 0;
-    while turns < 65536 {
+    for _ in 0..65536 {
         if length <= len {
             return Unpacked {
                 len: length,
@@ -127,21 +124,26 @@ fn unpack(f: &[u8], from: usize, out: &mut [u8]) -> Unpacked
         repeated(out, len + n, count, back);
         len = len + n + count;
         at = within(at + 6 + n);
-        turns += 1;
     }
     Unpacked { len: 0, next: END }
 }
 
-fn load(path: &[u8], buf: &mut [u8]) -> usize
-    ensures { IsPrefixLen result buf.new }
+// Fills the buffer from a file: how many bytes it took. A file that cannot be opened counts as empty.
+fn load(rt: &impl Files, path: &str, buf: &mut [u8]) -> io::Result<usize>
+    ensures { IfOk result (λ n. n ≤ length buf.new) }
 {
-    let fd = os::open_read(path);
-    if fd < 0 {
-        return 0;
+    let Ok(mut file) = fs::open(rt, path) else {
+        return Ok(0);
+    };
+    let mut n: usize = 0;
+    for _ in 0..u64::MAX {
+        let taken = file.read(&mut buf[n..])?;
+        if taken == 0 {
+            break;
+        }
+        n += taken;
     }
-    let n = io::read_full(fd, buf);
-    libc::close(fd);
-    n
+    Ok(n)
 }
 
 // A count that never passes its type.
@@ -160,16 +162,8 @@ fn answer(text: &[u8], len: usize, tab: &mut [u64]) -> u8 {
     plan_read::read_plan(&text[..len], tab)
 }
 
-fn print_other(file: u8, place: usize, said: u8, number: u8) {
-    io::write_all(STDOUT_FILENO, b"file ");
-    io::print_decimal(STDOUT_FILENO, file as u64);
-    io::write_all(STDOUT_FILENO, b", text ");
-    io::print_decimal(STDOUT_FILENO, place as u64);
-    io::write_all(STDOUT_FILENO, b": ");
-    io::print_decimal(STDOUT_FILENO, said as u64);
-    io::write_all(STDOUT_FILENO, b", not ");
-    io::print_decimal(STDOUT_FILENO, number as u64);
-    io::write_all(STDOUT_FILENO, b"\n");
+fn print_other(rt: &impl Print, file: u8, place: usize, said: u8, number: u8) -> io::Result<()> {
+    println!(rt; "file {file}, text {place}: {said}, not {number}")
 }
 
 // Counts at a number; those past the end of the counts are not counted.
@@ -181,87 +175,89 @@ fn count_at(counts: &mut [usize], number: u8) {
 }
 
 // One text: counted under its number, and once more if the reader agrees.
-fn judge(file: u8, place: usize, said: u8, number: u8, all: &mut [usize], agreed: &mut [usize]) {
+fn judge(
+    rt: &impl Print,
+    file: u8,
+    place: usize,
+    said: u8,
+    number: u8,
+    all: &mut [usize],
+    agreed: &mut [usize],
+) -> io::Result<()> {
     count_at(all, number);
     if said == number {
         count_at(agreed, number);
-        return;
+        return Ok(());
     }
-    print_other(file, place, said, number);
+    print_other(rt, file, place, said, number)
 }
 
 // The texts of a file.
 fn replay(
+    rt: &impl Print,
     file: u8,
     f: &[u8],
     text: &mut [u8],
     tab: &mut [u64],
     all: &mut [usize],
     agreed: &mut [usize],
-) {
+) -> io::Result<()> {
     let texts = number_at(f, 0);
     let mut at: usize = 4;
-    let mut i: usize = 0;
-    while i < texts {
+    for i in 0..texts {
         let number = get(f, at);
         let u = unpack(f, within(at + 1), text);
         let said = answer(text, u.len, tab);
-        judge(file, i, said, number, all, agreed);
+        judge(rt, file, i, said, number, all, agreed)?;
         at = u.next;
-        i += 1;
     }
+    Ok(())
 }
 
-fn file_name(k: u8) -> [u8; 11]
+// The file `texts-0.bin` and so on; at most ten.
+fn file_name(alloc: Global, k: u8) -> Result<String, AllocError>
     requires { k < 10 }
 {
-    let mut name = *b"texts-0.bin";
-    name[6] = b'0' + k;
-    name
+    format!(in alloc; "texts-{k}.bin")
 }
 
 fn one_file(
+    rt: &(impl Print + Files + AllocGlobal),
     k: u8,
     f: &mut [u8],
     text: &mut [u8],
     tab: &mut [u64],
     all: &mut [usize],
     agreed: &mut [usize],
-)
+) -> io::Result<()>
     requires { k < 10 }
 {
-    let name = file_name(k);
-    let n = load(&name, f);
-    replay(k, &f[..n], text, tab, all, agreed);
+    let name = file_name(rt.alloc(), k)?;
+    let n = load(rt, name.as_str(), f)?;
+    replay(rt, k, &f[..n], text, tab, all, agreed)
 }
 
-fn print_count(number: usize, agreed: usize, all: usize) {
-    io::print_decimal(STDOUT_FILENO, number as u64);
-    io::write_all(STDOUT_FILENO, b": ");
-    io::print_decimal(STDOUT_FILENO, agreed as u64);
-    io::write_all(STDOUT_FILENO, b" of ");
-    io::print_decimal(STDOUT_FILENO, all as u64);
-    io::write_all(STDOUT_FILENO, b"\n");
+fn print_count(rt: &impl Print, number: usize, agreed: usize, all: usize) -> io::Result<()> {
+    println!(rt; "{number}: {agreed} of {all}")
 }
 
-fn print_counts(all: &[usize; 16], agreed: &[usize; 16]) {
-    let mut n: usize = 0;
-    while n < 16 {
+fn print_counts(rt: &impl Print, all: &[usize; 16], agreed: &[usize; 16]) -> io::Result<()> {
+    for n in 0..16 {
         let count = all[n];
         if 0 < count {
-            print_count(n, agreed[n], count);
+            print_count(rt, n, agreed[n], count)?;
         }
-        n += 1;
     }
+    Ok(())
 }
 
-fn main() {
+fn main(rt: HostRuntime) -> io::Result<()> {
     let mut f = [0u8; 262144];
     let mut text = [0u8; 65600];
     let mut tab = [0u64; 4096];
     let mut all = [0usize; 16];
     let mut agreed = [0usize; 16];
-    one_file(0, &mut f, &mut text, &mut tab, &mut all, &mut agreed);
-    one_file(1, &mut f, &mut text, &mut tab, &mut all, &mut agreed);
-    print_counts(&all, &agreed);
+    one_file(&rt, 0, &mut f, &mut text, &mut tab, &mut all, &mut agreed)?;
+    one_file(&rt, 1, &mut f, &mut text, &mut tab, &mut all, &mut agreed)?;
+    print_counts(&rt, &all, &agreed)
 }

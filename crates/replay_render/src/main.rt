@@ -3,12 +3,14 @@
 // and of the scratch buffers. Every other case is printed by its file and its place there.
 #![tactic(auto)]
 
-ghost use Rattle.std.specs.Prelude.{◌+◌, ◌≤◌, ◌<◌, length};
-ghost use Rattle.io.specs.Counts.{IsPrefixLen};
+ghost use Rattle.std.specs.Prelude.{◌+◌, ◌≤◌, ◌<◌, length, IfOk};
 ghost use Rattle.replay_render.specs.Cases.{Fits};
 
 use handlebars::Answer;
-use libc::STDOUT_FILENO;
+use std::alloc::{AllocError, Global};
+use std::io::Read;
+use std::rt::Files;
+use std::{fs, io};
 
 // No place of a file is behind this one.
 const END: usize = 262144;
@@ -402,19 +404,21 @@ fn count(counts: &mut [usize], number: usize, agreed: bool)
     }
 }
 
-fn print_unless(agreed: bool, file: u8, place: usize) {
+fn print_unless(rt: &impl Print, agreed: bool, file: u8, place: usize) -> io::Result<()> {
     if agreed {
-        return;
+        return Ok(());
     }
-    io::write_all(STDOUT_FILENO, b"file ");
-    io::print_decimal(STDOUT_FILENO, file as u64);
-    io::write_all(STDOUT_FILENO, b", case ");
-    io::print_decimal(STDOUT_FILENO, place as u64);
-    io::write_all(STDOUT_FILENO, b" differs\n");
+    println!(rt; "file {file}, case {place} differs")
 }
 
 // The cases of a file.
-fn replay(file: u8, f: &[u8], strings: &mut [u8], counts: &mut [usize])
+fn replay(
+    rt: &impl Print,
+    file: u8,
+    f: &[u8],
+    strings: &mut [u8],
+    counts: &mut [usize],
+) -> io::Result<()>
     requires { 196928 ≤ length strings.old }
 {
     let cases = number_at(f, 0);
@@ -424,10 +428,11 @@ fn replay(file: u8, f: &[u8], strings: &mut [u8], counts: &mut [usize])
         let c = case_at(f, at, strings);
         let agreed = agrees(strings, c);
         count(counts, c.number as usize, agreed);
-        print_unless(agreed, file, i);
+        print_unless(rt, agreed, file, i)?;
         at = c.next;
         i += 1;
     }
+    Ok(())
 }
 
 // Scratch buffers that are one short, each in turn.
@@ -438,73 +443,85 @@ fn short_scratch(counts: &mut [usize]) {
     count(counts, 1, refuses(4096, 8192, 16384, 255));
 }
 
-fn load(path: &[u8], buf: &mut [u8]) -> usize
-    ensures { IsPrefixLen result buf.new }
+// Fills the buffer from a file: how many bytes it took. A file that cannot be opened counts as empty.
+fn load(rt: &impl Files, path: &str, buf: &mut [u8]) -> io::Result<usize>
+    ensures { IfOk result (λ n. n ≤ length buf.new) }
 {
-    let fd = os::open_read(path);
-    if fd < 0 {
-        return 0;
+    let Ok(mut file) = fs::open(rt, path) else {
+        return Ok(0);
+    };
+    let mut n: usize = 0;
+    for _ in 0..u64::MAX {
+        let taken = file.read(&mut buf[n..])?;
+        if taken == 0 {
+            break;
+        }
+        n += taken;
     }
-    let n = io::read_full(fd, buf);
-    libc::close(fd);
-    n
+    Ok(n)
 }
 
 // The file `cases-00.bin` and so on.
-fn file_name(k: u8) -> [u8; 12]
+fn file_name(alloc: Global, k: u8) -> Result<String, AllocError>
     requires { k < 100 }
 {
-    let mut name = *b"cases-00.bin";
-    name[6] = 48 + k / 10;
-    name[7] = 48 + k % 10;
-    name
+    format!(in alloc; "cases-{k:02}.bin")
 }
 
-fn one_file(k: u8, path: &[u8], file: &mut [u8], strings: &mut [u8], counts: &mut [usize])
+fn one_file(
+    rt: &(impl Print + Files),
+    k: u8,
+    path: &str,
+    file: &mut [u8],
+    strings: &mut [u8],
+    counts: &mut [usize],
+) -> io::Result<()>
     requires { 196928 ≤ length strings.old }
 {
-    let n = load(path, file);
-    replay(k, &file[..n], strings, counts);
+    let n = load(rt, path, file)?;
+    replay(rt, k, &file[..n], strings, counts)
 }
 
 // The files of the list; those that are not there have no cases.
-fn all_files(file: &mut [u8], strings: &mut [u8], counts: &mut [usize])
+fn all_files(
+    rt: &(impl Print + Files + AllocGlobal),
+    file: &mut [u8],
+    strings: &mut [u8],
+    counts: &mut [usize],
+) -> io::Result<()>
     requires { 196928 ≤ length strings.old }
 {
     let mut k: u8 = 0;
     while k < 99 {
-        let name = file_name(k);
-        one_file(k, &name, file, strings, counts);
+        let name = file_name(rt.alloc(), k)?;
+        one_file(rt, k, name.as_str(), file, strings, counts)?;
         k += 1;
     }
+    Ok(())
 }
 
-fn print_count(number: usize, agreed: usize, all: usize) {
-    io::print_decimal(STDOUT_FILENO, number as u64);
-    io::write_all(STDOUT_FILENO, b": ");
-    io::print_decimal(STDOUT_FILENO, agreed as u64);
-    io::write_all(STDOUT_FILENO, b" of ");
-    io::print_decimal(STDOUT_FILENO, all as u64);
-    io::write_all(STDOUT_FILENO, b"\n");
+fn print_count(rt: &impl Print, number: usize, agreed: usize, all: usize) -> io::Result<()> {
+    println!(rt; "{number}: {agreed} of {all}")
 }
 
-fn print_counts(counts: &[usize; 64]) {
+fn print_counts(rt: &impl Print, counts: &[usize; 64]) -> io::Result<()> {
     let mut n: usize = 0;
     while n < 32 {
         let all = counts[n];
         if 0 < all {
-            print_count(n, counts[n + 32], all);
+            print_count(rt, n, counts[n + 32], all)?;
         }
         n += 1;
     }
+    Ok(())
 }
 
-fn main() {
+fn main(rt: HostRuntime) -> io::Result<()> {
     let mut file = [0u8; 262144];
     let mut strings = [0u8; 196928];
     let mut counts = [0usize; 64];
     short_scratch(&mut counts);
-    all_files(&mut file, &mut strings, &mut counts);
-    one_file(99, b"pages.bin", &mut file, &mut strings, &mut counts);
-    print_counts(&counts);
+    all_files(&rt, &mut file, &mut strings, &mut counts)?;
+    one_file(&rt, 99, "pages.bin", &mut file, &mut strings, &mut counts)?;
+    print_counts(&rt, &counts)
 }

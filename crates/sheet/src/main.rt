@@ -2,51 +2,58 @@
 // is drawn it writes one line: the number, and for 11 to 25 also the template's name, the line and the column.
 #![tactic(auto)]
 
-ghost use Rattle.io.specs.Counts.{IsPrefixLen};
+ghost use Rattle.std.specs.Prelude.{◌≤◌, IfOk, length};
 
 use expand::Options;
 use handlebars::Answer;
-use libc::STDOUT_FILENO;
+use std::io::{Read, Write};
+use std::rt::Files;
+use std::{fs, io};
 
 // Fills the buffer from a file: how many bytes it took. A file that cannot be opened counts as empty.
-fn load(path: &[u8], buf: &mut [u8]) -> usize
-    ensures { IsPrefixLen result buf.new }
+fn load(rt: &impl Files, path: &str, buf: &mut [u8]) -> io::Result<usize>
+    ensures { IfOk result (λ n. n ≤ length buf.new) }
 {
-    let fd = os::open_read(path);
-    if fd < 0 {
-        return 0;
+    let Ok(mut file) = fs::open(rt, path) else {
+        return Ok(0);
+    };
+    let mut n: usize = 0;
+    for _ in 0..u64::MAX {
+        let taken = file.read(&mut buf[n..])?;
+        if taken == 0 {
+            break;
+        }
+        n += taken;
     }
-    let n = io::read_full(fd, buf);
-    libc::close(fd);
-    n
+    Ok(n)
 }
 
-fn print_number(n: u64) {
-    io::write_all(STDOUT_FILENO, b" ");
-    io::print_decimal(STDOUT_FILENO, n);
+fn print_number(rt: &impl Print, n: u64) -> io::Result<()> {
+    print!(rt; " {n}")
 }
 
 // The name of the answer's template; the buffer holds it meanwhile.
-fn print_name(bundle: &[u8], template: usize, buf: &mut [u8]) {
+fn print_name(rt: &impl Print, bundle: &[u8], template: usize, buf: &mut [u8]) -> io::Result<()> {
     let n = handlebars::handlebars_template_name(bundle, template, buf);
-    io::write_all(STDOUT_FILENO, b" ");
-    io::write_all(STDOUT_FILENO, &buf[..n]);
+    print!(rt; " ")?;
+    io::writer(rt).write_all(&buf[..n])
 }
 
-fn print_refusal(bundle: &[u8], r: Answer, buf: &mut [u8]) {
-    io::print_decimal(STDOUT_FILENO, r.number as u64);
+fn print_refusal(rt: &impl Print, bundle: &[u8], r: Answer, buf: &mut [u8]) -> io::Result<()> {
+    print!(rt; "{}", r.number)?;
     if r.number <= 10 {
-        io::write_all(STDOUT_FILENO, b"\n");
-        return;
+        println!(rt)?;
+        return Ok(());
     }
-    print_name(bundle, r.template, buf);
-    print_number(r.line);
-    print_number(r.column);
-    io::write_all(STDOUT_FILENO, b"\n");
+    print_name(rt, bundle, r.template, buf)?;
+    print_number(rt, r.line)?;
+    print_number(rt, r.column)?;
+    println!(rt)
 }
 
 // Draws and writes.
 fn show(
+    rt: &impl Print,
     bundle: &[u8],
     plan: &[u8],
     page: &mut [u8],
@@ -54,7 +61,7 @@ fn show(
     entries: &mut [u64],
     texts: &mut [u8],
     indent: &mut [u8],
-) {
+) -> io::Result<()> {
     let options = Options {
         strict: false,
         recursive_lookup: false,
@@ -65,13 +72,13 @@ fn show(
     );
     if r.number == 0 {
         let n = r.length;
-        io::write_all(STDOUT_FILENO, &page[..n]);
-        return;
+        io::writer(rt).write_all(&page[..n])?;
+        return Ok(());
     }
-    print_refusal(bundle, r, page);
+    print_refusal(rt, bundle, r, page)
 }
 
-fn main() {
+fn main(rt: HostRuntime) -> io::Result<()> {
     // one byte more than a file may have, so that a longer one is told
     let mut bundle = [0u8; 65537];
     let mut plan = [0u8; 65537];
@@ -80,9 +87,10 @@ fn main() {
     let mut entries = [0u64; 8192];
     let mut texts = [0u8; 16384];
     let mut indent = [0u8; 256];
-    let n = load(b"bundle.bin", &mut bundle);
-    let m = load(b"plan.json", &mut plan);
+    let n = load(&rt, "bundle.bin", &mut bundle)?;
+    let m = load(&rt, "plan.json", &mut plan)?;
     show(
+        &rt,
         &bundle[..n],
         &plan[..m],
         &mut page,
@@ -90,5 +98,5 @@ fn main() {
         &mut entries,
         &mut texts,
         &mut indent,
-    );
+    )
 }

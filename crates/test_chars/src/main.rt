@@ -11,42 +11,43 @@ ghost use Rattle.meaning.specs.Standing.{PlainStands};
 ghost use Rattle.chars.specs.Spelled.{Spelled};
 
 use chars::{Next, Nth};
-use libc::STDOUT_FILENO;
+use std::io;
+use std::io::Write;
 use text::{Step, Text};
 use value::Value;
 
-fn print(s: &[u8]) {
-    io::write_all(STDOUT_FILENO, s);
+fn print(rt: &impl Print, s: &[u8]) -> io::Result<()> {
+    io::writer(rt).write_all(s)
 }
 
-fn print_number(n: usize) {
-    io::print_decimal(STDOUT_FILENO, n as u64);
+fn print_number(rt: &impl Print, n: usize) -> io::Result<()> {
+    print!(rt; "{n}")
 }
 
-fn print_byte(c: u8) {
-    io::print_decimal(STDOUT_FILENO, c as u64);
-    print(b" ");
+fn print_byte(rt: &impl Print, c: u8) -> io::Result<()> {
+    print!(rt; "{c} ")
 }
 
-fn print_text(s: &[u8], b: &[u8], t: Text)
+fn print_text(rt: &impl Print, s: &[u8], b: &[u8], t: Text) -> io::Result<()>
     requires { (length s.now ≤ 65536) × Stands s.now b.now t }
 {
     let mut u = t;
     loop {
         let Step::Byte(c, v) = text::next(s, b, u) else {
-            return;
+            return Ok(());
         };
-        print_byte(c);
+        print_byte(rt, c)?;
         u = v;
     }
+    Ok(())
 }
 
-fn print_kind(v: Value) {
+fn print_kind(rt: &impl Print, v: Value) -> io::Result<()> {
     match v {
-        Value::SaidChar(_, _) => print(b"s"),
-        Value::PackedChar(_, _) => print(b"p"),
-        Value::IndexText(_) => print(b"d"),
-        _ => print(b"?"),
+        Value::SaidChar(_, _) => print(rt, b"s"),
+        Value::PackedChar(_, _) => print(rt, b"p"),
+        Value::IndexText(_) => print(rt, b"d"),
+        _ => print(rt, b"?"),
     }
 }
 
@@ -63,65 +64,64 @@ fn text_of(s: &[u8], b: &[u8], v: Value) -> Text
     }
 }
 
-fn show(s: &[u8], b: &[u8], v: Value)
+fn show(rt: &impl Print, s: &[u8], b: &[u8], v: Value) -> io::Result<()>
     requires { (length s.now ≤ 65536) × (length b.now ≤ 65536) × PlainStands s.now b.now v }
 {
-    print_kind(v);
-    print_text(s, b, text_of(s, b, v));
+    print_kind(rt, v)?;
+    print_text(rt, s, b, text_of(s, b, v))
 }
 
 // A character by itself.
-fn show_alone(s: &[u8], b: &[u8], v: Value)
+fn show_alone(rt: &impl Print, s: &[u8], b: &[u8], v: Value) -> io::Result<()>
     requires { (length s.now ≤ 65536) × (length b.now ≤ 65536) × PlainStands s.now b.now v }
 {
     let t = text_of(s, b, v);
-    print_number(chars::char_count(s, b, t));
-    print(b" ");
+    print_number(rt, chars::char_count(s, b, t))?;
+    print(rt, b" ")?;
     let Next::Char(w, _) = chars::next_char(s, b, t) else {
-        return;
+        return Ok(());
     };
-    show(s, b, w);
+    show(rt, s, b, w)
 }
 
-fn show_all(s: &[u8], b: &[u8], t: Text)
+fn show_all(rt: &impl Print, s: &[u8], b: &[u8], t: Text) -> io::Result<()>
     requires { (length s.now ≤ 65536) × (length b.now ≤ 65536) × Spelled s.now b.now t }
 {
     let mut u = t;
     loop {
         let Next::Char(v, w) = chars::next_char(s, b, u) else {
-            return;
+            return Ok(());
         };
-        show(s, b, v);
-        show_alone(s, b, v);
-        print(b", ");
+        show(rt, s, b, v)?;
+        show_alone(rt, s, b, v)?;
+        print(rt, b", ")?;
         u = w;
     }
+    Ok(())
 }
 
-fn show_nth(s: &[u8], b: &[u8], t: Text, k: usize)
+fn show_nth(rt: &impl Print, s: &[u8], b: &[u8], t: Text, k: usize) -> io::Result<()>
     requires { (length s.now ≤ 65536) × (length b.now ≤ 65536) × Spelled s.now b.now t }
 {
     let Nth::Is(v) = chars::nth_char(s, b, t, k) else {
-        print(b"- ");
-        return;
+        print(rt, b"- ")?;
+        return Ok(());
     };
-    show(s, b, v);
+    show(rt, s, b, v)
 }
 
-fn report(s: &[u8], b: &[u8], t: Text)
+fn report(rt: &impl Print, s: &[u8], b: &[u8], t: Text) -> io::Result<()>
     requires { (length s.now ≤ 65536) × (length b.now ≤ 65536) × Spelled s.now b.now t }
 {
     let n = chars::char_count(s, b, t);
-    print_number(n);
-    print(b": ");
-    show_all(s, b, t);
-    print(b"; ");
-    let mut k: usize = 0;
-    while k <= n {
-        show_nth(s, b, t, k);
-        k += 1;
+    print_number(rt, n)?;
+    print(rt, b": ")?;
+    show_all(rt, s, b, t)?;
+    print(rt, b"; ")?;
+    for k in 0..=n {
+        show_nth(rt, s, b, t, k)?;
     }
-    print(b"\n");
+    print(rt, b"\n")
 }
 
 // The byte at i, 0 past the end.
@@ -140,10 +140,8 @@ fn is_valid(b: &[u8], p: usize, n: usize) -> bool
     ensures { result ≡ utf8 (bytes_at (bits b.now) p n) }
 {
     let mut u = utf8::start();
-    let mut i: usize = 0;
-    while i < n {
+    for i in 0..n {
         u = utf8::step(u, bits::byte(b, p + 8 * i));
-        i += 1;
     }
     utf8::is_done(u)
 }
@@ -191,17 +189,18 @@ fn read(s: &[u8], b: &[u8], r: &[u8], i: usize) -> Text
     Text::Digits((256 * x + n) as u64, 0)
 }
 
-fn report_all(s: &[u8], b: &[u8], r: &[u8])
+fn report_all(rt: &impl Print, s: &[u8], b: &[u8], r: &[u8]) -> io::Result<()>
     requires { (length s.now ≤ 65536) × (length b.now ≤ 65536) × (length r.now ≤ 900) }
 {
     let mut i: usize = 0;
     while i < r.len() {
-        report(s, b, read(s, b, r, i));
+        report(rt, s, b, read(s, b, r, i))?;
         i += 3;
     }
+    Ok(())
 }
 
-fn main() {
+fn main(rt: HostRuntime) -> io::Result<()> {
     let plan =
         b"\"abc\"\"\"\"h\xc3\xa9a\"\"\xe2\x82\xac\xf0\x9d\x84\x9ez\xdf\xbf\xe0\xa0\x80\"\"\\u00e9\\u20ac\\u0041\"\"\\ud834\\udd1ea\\uDBFF\\uDFFF\"\"\\n\\\"\\\\\\/\"\"\xc3\xbc\\u00fc\\u0000\x7f\"\"a\\q\"";
     let bundle =
@@ -210,8 +209,9 @@ fn main() {
     // one from its third character on. Packed strings, none at a byte's place; no UTF-8; past the end; one from its second character on.
     // Numbers.
     report_all(
+        &rt,
         plan,
         bundle,
         b"\x00\x00\x00\x00\x05\x00\x00\x07\x00\x00\x0d\x00\x00\x1c\x00\x000\x00\x00K\x00\x00U\x00\x00f\x00\x00\x0a\x00\x01\x01\x02\x01\x11\x00\x01\x14\x0a\x01e\x10\x01\xe7\x01\x01\xf1\x02\x01\xfa\x14\x01$\x07\x02\x00\x00\x02\x00\x09\x02\x00\x0a\x02\x01\x97\x02\xff\xff",
-    );
+    )
 }

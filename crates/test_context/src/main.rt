@@ -15,27 +15,29 @@ ghost use Rattle.context.specs.Near.{NearScopes};
 use calls::Parameter;
 use context::Evaluated;
 use layout::Verdict;
-use libc::STDOUT_FILENO;
 use registry::Found;
 use scope::Scope;
+use std::io;
+use std::io::Write;
 use template::Element;
 use value::Value;
 
-fn print(s: &[u8]) {
-    io::write_all(STDOUT_FILENO, s);
+fn print(rt: &impl Print, s: &[u8]) -> io::Result<()> {
+    io::writer(rt).write_all(s)
 }
 
 // What a value prints; unwritten bytes are dots.
-fn print_value(s: &[u8], tab: &[u64], b: &[u8], v: Value)
+fn print_value(rt: &impl Print, s: &[u8], tab: &[u64], b: &[u8], v: Value) -> io::Result<()>
     requires { Accepted s.now tab.now × (length b.now ≤ 65536) × Known s.now b.now v }
 {
     let mut out: [u8; 12] = [46; 12];
     print::write_value(&mut out, b"", output::new(), s, tab, b, v, false);
-    io::write_all(STDOUT_FILENO, &out);
+    io::writer(rt).write_all(&out)
 }
 
 // Where the path at q leads.
 fn show_path(
+    rt: &impl Print,
     s: &[u8],
     tab: &[u64],
     b: &[u8],
@@ -44,7 +46,7 @@ fn show_path(
     used: usize,
     recursive: bool,
     q: usize,
-)
+) -> io::Result<()>
     requires { Accepted s.now tab.now
         × (length b.now ≤ 65536)
         × (0 < used)
@@ -54,15 +56,16 @@ fn show_path(
 {
     let found = context::evaluate2(s, tab, b, ent, scopes, used, recursive, q);
     match found {
-        Evaluated::Is(v) => print_value(s, tab, b, v),
-        Evaluated::Nothing => print_value(s, tab, b, Value::Missing),
-        Evaluated::BadIndex => print(b"20"),
+        Evaluated::Is(v) => print_value(rt, s, tab, b, v)?,
+        Evaluated::Nothing => print_value(rt, s, tab, b, Value::Missing)?,
+        Evaluated::BadIndex => print(rt, b"20")?,
     }
-    print(b"\n");
+    print(rt, b"\n")
 }
 
 // The call's name, which is a path.
 fn show_name(
+    rt: &impl Print,
     s: &[u8],
     tab: &[u64],
     b: &[u8],
@@ -72,7 +75,7 @@ fn show_name(
     recursive: bool,
     p: usize,
     d: usize,
-)
+) -> io::Result<()>
     requires { Accepted s.now tab.now
         × (length b.now ≤ 65536)
         × (0 < used)
@@ -82,12 +85,13 @@ fn show_name(
 {
     let x = calls::param_at(b, p);
     let Parameter::Path(q) = x else {
-        return;
+        return Ok(());
     };
-    show_path(s, tab, b, ent, scopes, used, recursive, q);
+    show_path(rt, s, tab, b, ent, scopes, used, recursive, q)
 }
 
 fn show_element(
+    rt: &impl Print,
     s: &[u8],
     tab: &[u64],
     b: &[u8],
@@ -97,7 +101,7 @@ fn show_element(
     recursive: bool,
     e: Element,
     d: usize,
-)
+) -> io::Result<()>
     requires { Accepted s.now tab.now
         × (length b.now ≤ 65536)
         × (0 < used)
@@ -106,13 +110,14 @@ fn show_element(
         × ElementHolds 16 d (bits b.now) e }
 {
     let Element::Expression(c, _) = e else {
-        return;
+        return Ok(());
     };
-    show_name(s, tab, b, ent, scopes, used, recursive, c, d);
+    show_name(rt, s, tab, b, ent, scopes, used, recursive, c, d)
 }
 
 // The elements of the body at p.
 fn show_body(
+    rt: &impl Print,
     s: &[u8],
     tab: &[u64],
     b: &[u8],
@@ -122,7 +127,7 @@ fn show_body(
     recursive: bool,
     p: usize,
     d: usize,
-)
+) -> io::Result<()>
     requires { Accepted s.now tab.now
         × (length b.now ≤ 65536)
         × (0 < used)
@@ -137,44 +142,53 @@ fn show_body(
     while i < count {
         let e = template::element_at(b, cur, 16, d - 1);
         let element = e.element;
-        show_element(s, tab, b, ent, scopes, used, recursive, element, d - 1);
+        show_element(rt, s, tab, b, ent, scopes, used, recursive, element, d - 1)?;
         cur = e.next;
         i += 1;
     }
+    Ok(())
 }
 
 // The template `main`, over so many scopes of the plan.
-fn show_main(s: &[u8], tab: &[u64], b: &[u8], used: usize, recursive: bool)
+fn show_main(
+    rt: &impl Print,
+    s: &[u8],
+    tab: &[u64],
+    b: &[u8],
+    used: usize,
+    recursive: bool,
+) -> io::Result<()>
     requires { Accepted s.now tab.now × (verdict b.now ≡ Passed) × (0 < used) × (used ≤ 32) }
 {
     let f = registry::get_template(b, 16, b"main");
     let Found::Template(_, _, p) = f else {
-        return;
+        return Ok(());
     };
     let ent: [u64; 2] = [0, 0];
-    show_body(s, tab, b, &ent, scope::begin(), used, recursive, p, 16);
-    print(b"\n");
+    show_body(rt, s, tab, b, &ent, scope::begin(), used, recursive, p, 16)?;
+    print(rt, b"\n")
 }
 
-fn show_all(s: &[u8], tab: &[u64], b: &[u8])
+fn show_all(rt: &impl Print, s: &[u8], tab: &[u64], b: &[u8]) -> io::Result<()>
     requires { Accepted s.now tab.now }
 {
     let v = layout::check_bundle(b);
     let Verdict::Accepted = v else {
-        return;
+        return Ok(());
     };
-    show_main(s, tab, b, 1, false);
-    show_main(s, tab, b, 2, false);
-    show_main(s, tab, b, 1, true);
+    show_main(rt, s, tab, b, 1, false)?;
+    show_main(rt, s, tab, b, 2, false)?;
+    show_main(rt, s, tab, b, 1, true)
 }
 
-fn main() {
+fn main(rt: HostRuntime) -> io::Result<()> {
     let s = b"{\"l\":[7,\"b<\",{\"k\":1}],\"o\":{\"k\":\"val\"},\"n\":null}";
     let b =
         b"\x01\x01\x00\x04\x6d\x61\x69\x6e\x01\x30\x00\x10\x00\x12\x40\x00\xdb\x0b\x8c\x40\x40\x00\x0b\x60\x00\x02\x62\x00\x00\x01\x00\x01\x24\x00\x11\xb0\xb8\xac\xc4\x04\x00\x00\xb6\x00\x00\x45\x66\x20\x00\x00\x10\x00\x12\x40\x01\x1b\x0b\x8c\x0c\x80\x40\x00\x0b\x60\x00\x04\x60\x64\x00\x00\x01\x00\x01\x24\x00\x59\xb0\xb8\xc4\xe0\xd0\xd0\xd8\xdc\xd0\xd0\xc0\xdc\xcc\xdc\xc0\xe4\xd4\xd4\xc4\xd8\xc4\xd4\x04\x00\x00\xb6\x00\x02\x86\x27\x06\x86\x86\xc6\xe6\x86\x86\x06\xe6\x66\xe6\x07\x26\xa6\xa6\x26\xc6\x26\xa0\x00\x00\x10\x00\x12\x40\x05\x9b\x0b\x8c\x4e\x0d\x0d\x0d\x8d\xcd\x0d\x0c\x0d\xcc\xcd\xcc\x0e\x4d\x4d\x4c\x4d\x8c\x4d\x80\x40\x00\x0b\x60\x00\x28\x62\x70\x68\x68\x6c\x6e\x68\x68\x60\x6e\x66\x6e\x60\x72\x6a\x6a\x62\x6c\x62\x6c\x00\x00\x01\x00\x01\x24\x00\x0d\xb0\xb9\xe0\x04\x00\x00\xb6\x00\x00\x2f\x00\x00\x00\x10\x00\x12\x40\x00\xdb\xcb\x9a\xc0\x40\x00\x0b\x78\x00\x02\xd6\x00\x00\x01\x00\x01\x24\x00\x15\xbc\xb9\xac\xb9\xe0\x06\x00\x00\xb7\x80\x00\x2d\x60\x00\x0b\xc0\x00\x00\x04\x00\x04\x90\x00\x16\xe0\x08\x00\x02\xdc\x00\x00\x01\x00\x01\x24\x00\x0d\xb8\xb9\xe0\x04\x00\x00\xb7\x00\x00\x2f\x00\x00\x00\x10\x00\x12\x40\x01\x5b\xdd\x1a\x19\x5c\x80\x20\x00\x2b\x7b\xa3\x43\x2b\x90\x00\x00\x04\x00\x04\x90\x00\x62\xe2\xe2\xf6\xf2\xe6\xb0\x1c\x00\x00\xb7\x80\x00\x2d\x60\x00\x00\x10\x00\x12\x40\x03\x0b\x8b\x8b\xcb\x8b\x8b\xcb\x8b\x8b\xdb\xcb\x9a\xc0\xb5\x00\x00\x2d\xe0\x00\x0b\x58\x00\x00\x04\x00\x04\x90\x00\x94\x07\x26\xf6\xf7\x42\xe6\xf2\xe6\xb0\x1a\x00\x00\xb7\x80\x00\x2d\x60\x00\x00\x10\x00\x12\x40\x03\x0b\x8b\x8b\xd0\x1c\x9b\xdb\xdd\x0b\x9b\xcb\x9a\xc0\x92\x00\x00\xb7\x80\x00\x2d\x60\x00\x00\x10\x00\x12\x40\x00\x5b\xc0\x80\x00\x0b\x7c\x80\x00\x2d\x60\x00\x00\x10\x00\x12\x40\x01\x1d\x1a\x1a\x5c\xc0\x00\x00\x00\x10\x00\x12\x40\x01\x90\x1a\x5b\x99\x19\x5e\x20\x00\x00\xad\x2d\xcc\x8c\xaf\x00\x00\x00\x10\x00\x12\x40\x03\x0b\x8b\x8b\xcb\x8b\x8b\xd0\x19\x9a\x5c\x9c\xdd\x20\x40\x00\xac\xcd\x2e\x4e\x6e\x80\x00";
     let mut tab: [u64; 4096] = [0; 4096];
     let r = plan_read::read_plan(s, &mut tab);
     if r == 0 {
-        show_all(s, &tab, b);
+        show_all(&rt, s, &tab, b)?;
     }
+    Ok(())
 }

@@ -16,45 +16,46 @@ ghost use Rattle.expand.specs.Answers.{GotKnown};
 
 use expand::{Got, Options};
 use layout::Verdict;
-use libc::STDOUT_FILENO;
 use registry::Found;
 use scope::Scope;
+use std::io;
+use std::io::Write;
 use template::Element;
 use value::Value;
 
-fn print(s: &[u8]) {
-    io::write_all(STDOUT_FILENO, s);
+fn print(rt: &impl Print, s: &[u8]) -> io::Result<()> {
+    io::writer(rt).write_all(s)
 }
 
-fn print_number(n: u64) {
-    io::print_decimal(STDOUT_FILENO, n);
+fn print_number(rt: &impl Print, n: u64) -> io::Result<()> {
+    print!(rt; "{n}")
 }
 
-fn print_flag(yes: bool) {
+fn print_flag(rt: &impl Print, yes: bool) -> io::Result<()> {
     if yes {
-        print(b" y ");
-        return;
+        print(rt, b" y ")?;
+        return Ok(());
     }
-    print(b" n ");
+    print(rt, b" n ")
 }
 
 // What a value prints; unwritten bytes are dots.
-fn print_value(s: &[u8], tab: &[u64], b: &[u8], v: Value)
+fn print_value(rt: &impl Print, s: &[u8], tab: &[u64], b: &[u8], v: Value) -> io::Result<()>
     requires { Accepted s.now tab.now × (length b.now ≤ 65536) × Known s.now b.now v }
 {
     let mut out: [u8; 12] = [46; 12];
     print::write_value(&mut out, b"", output::new(), s, tab, b, v, false);
-    io::write_all(STDOUT_FILENO, &out);
+    io::writer(rt).write_all(&out)
 }
 
-fn print_got(s: &[u8], tab: &[u64], b: &[u8], r: Got)
+fn print_got(rt: &impl Print, s: &[u8], tab: &[u64], b: &[u8], r: Got) -> io::Result<()>
     requires { Accepted s.now tab.now × (length b.now ≤ 65536) × GotKnown s.now b.now r }
 {
     match r {
-        Got::Is(v) => print_value(s, tab, b, v),
-        Got::Bad(n) => print_number(n as u64),
+        Got::Is(v) => print_value(rt, s, tab, b, v)?,
+        Got::Bad(n) => print_number(rt, n as u64)?,
     }
-    print(b" ");
+    print(rt, b" ")
 }
 
 // What the call at p gives.
@@ -120,6 +121,7 @@ fn param_value(
 
 // The call at p.
 fn show_call(
+    rt: &impl Print,
     s: &[u8],
     tab: &[u64],
     b: &[u8],
@@ -129,28 +131,30 @@ fn show_call(
     options: Options,
     p: usize,
     d: usize,
-)
+) -> io::Result<()>
     requires { Accepted s.now tab.now × (length b.now ≤ 65536) × (0 < used) × (used ≤ 32)
         × NearScopes s.now b.now ent.now scopes used × Holds (call_of (param d)) (bits b.now) p }
 {
     let w = expand::try_from_template(s, tab, b, ent, scopes, used, options, p, d);
     if w.bad != 0 {
-        print(b"refused ");
-        print_number(w.bad as u64);
-        return;
+        print(rt, b"refused ")?;
+        print_number(rt, w.bad as u64)?;
+        return Ok(());
     }
-    print_number(w.count as u64);
-    print_flag(w.zero);
+    print_number(rt, w.count as u64)?;
+    print_flag(rt, w.zero)?;
     print_got(
+        rt,
         s,
         tab,
         b,
         call_value(s, tab, b, ent, scopes, used, options, p, d),
-    );
+    )
 }
 
 // The call's name: as a name, and as a value.
 fn show_name(
+    rt: &impl Print,
     s: &[u8],
     tab: &[u64],
     b: &[u8],
@@ -160,25 +164,28 @@ fn show_name(
     options: Options,
     p: usize,
     d: usize,
-)
+) -> io::Result<()>
     requires { Accepted s.now tab.now × (length b.now ≤ 65536) × (0 < used) × (used ≤ 32)
         × NearScopes s.now b.now ent.now scopes used × Holds (param d) (bits b.now) p }
 {
     print_got(
+        rt,
         s,
         tab,
         b,
         name_value(s, tab, b, ent, scopes, used, options, p, d),
-    );
+    )?;
     print_got(
+        rt,
         s,
         tab,
         b,
         param_value(s, tab, b, ent, scopes, used, options, p, d),
-    );
+    )
 }
 
 fn show_element(
+    rt: &impl Print,
     s: &[u8],
     tab: &[u64],
     b: &[u8],
@@ -188,20 +195,21 @@ fn show_element(
     options: Options,
     e: Element,
     d: usize,
-)
+) -> io::Result<()>
     requires { Accepted s.now tab.now × (length b.now ≤ 65536) × (0 < used) × (used ≤ 32)
         × NearScopes s.now b.now ent.now scopes used × ElementHolds 16 d (bits b.now) e }
 {
     let Element::Expression(c, _) = e else {
-        return;
+        return Ok(());
     };
-    show_name(s, tab, b, ent, scopes, used, options, c, d);
-    show_call(s, tab, b, ent, scopes, used, options, c, d);
-    print(b"\n");
+    show_name(rt, s, tab, b, ent, scopes, used, options, c, d)?;
+    show_call(rt, s, tab, b, ent, scopes, used, options, c, d)?;
+    print(rt, b"\n")
 }
 
 // The elements of the body at p.
 fn show_body(
+    rt: &impl Print,
     s: &[u8],
     tab: &[u64],
     b: &[u8],
@@ -211,7 +219,7 @@ fn show_body(
     options: Options,
     p: usize,
     d: usize,
-)
+) -> io::Result<()>
     requires { Accepted s.now tab.now × (length b.now ≤ 65536) × (0 < used) × (used ≤ 32)
         × NearScopes s.now b.now ent.now scopes used × Holds (body 16 d) (bits b.now) p }
 {
@@ -222,19 +230,27 @@ fn show_body(
     while i < count {
         let e = template::element_at(b, cur, 16, d - 1);
         let element = e.element;
-        show_element(s, tab, b, ent, scopes, used, options, element, d - 1);
+        show_element(rt, s, tab, b, ent, scopes, used, options, element, d - 1)?;
         cur = e.next;
         i += 1;
     }
+    Ok(())
 }
 
 // The template `main`, over so many scopes of the plan.
-fn show_main(s: &[u8], tab: &[u64], b: &[u8], used: usize, strict: bool)
+fn show_main(
+    rt: &impl Print,
+    s: &[u8],
+    tab: &[u64],
+    b: &[u8],
+    used: usize,
+    strict: bool,
+) -> io::Result<()>
     requires { Accepted s.now tab.now × (verdict b.now ≡ Passed) × (0 < used) × (used ≤ 32) }
 {
     let f = registry::get_template(b, 16, b"main");
     let Found::Template(_, _, p) = f else {
-        return;
+        return Ok(());
     };
     let ent: [u64; 2] = [0, 0];
     let options = Options {
@@ -242,23 +258,23 @@ fn show_main(s: &[u8], tab: &[u64], b: &[u8], used: usize, strict: bool)
         recursive_lookup: false,
         guide_truth: false,
     };
-    show_body(s, tab, b, &ent, scope::begin(), used, options, p, 16);
-    print(b"\n");
+    show_body(rt, s, tab, b, &ent, scope::begin(), used, options, p, 16)?;
+    print(rt, b"\n")
 }
 
-fn show_all(s: &[u8], tab: &[u64], b: &[u8])
+fn show_all(rt: &impl Print, s: &[u8], tab: &[u64], b: &[u8]) -> io::Result<()>
     requires { Accepted s.now tab.now }
 {
     let v = layout::check_bundle(b);
     let Verdict::Accepted = v else {
-        return;
+        return Ok(());
     };
-    show_main(s, tab, b, 1, false);
-    show_main(s, tab, b, 1, true);
-    show_main(s, tab, b, 32, false);
+    show_main(rt, s, tab, b, 1, false)?;
+    show_main(rt, s, tab, b, 1, true)?;
+    show_main(rt, s, tab, b, 32, false)
 }
 
-fn main() {
+fn main(rt: HostRuntime) -> io::Result<()> {
     let s =
         b"{\"l\":[7,\"b<\",{\"k\":{\"deep\":-1}}],\"o\":{\"k\":\"val\"},\"t\":[\"lookup\",\"k\"],\"z\":0}";
     let b =
@@ -266,6 +282,7 @@ fn main() {
     let mut tab: [u64; 4096] = [0; 4096];
     let r = plan_read::read_plan(s, &mut tab);
     if r == 0 {
-        show_all(s, &tab, b);
+        show_all(&rt, s, &tab, b)?;
     }
+    Ok(())
 }

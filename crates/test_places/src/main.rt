@@ -7,39 +7,39 @@ ghost use Rattle.places.specs.Accepted.{Accepted};
 ghost use Rattle.places.specs.Kinds.{FoundIn};
 ghost use Rattle.saying.specs.Said.{Inside};
 
-use libc::STDOUT_FILENO;
 use places::{Found, Kind};
 use saying::{Char, Name, Step};
+use std::io;
+use std::io::Write;
 
-fn print(text: &[u8]) {
-    io::write_all(STDOUT_FILENO, text);
+fn print(rt: &impl Print, text: &[u8]) -> io::Result<()> {
+    io::writer(rt).write_all(text)
 }
 
-fn print_number(n: u64) {
-    io::print_decimal(STDOUT_FILENO, n);
+fn print_number(rt: &impl Print, n: u64) -> io::Result<()> {
+    print!(rt; "{n}")
 }
 
-fn print_byte(b: u8) {
+fn print_byte(rt: &impl Print, b: u8) -> io::Result<()> {
     let one = [b; 1];
-    io::write_all(STDOUT_FILENO, &one);
+    io::writer(rt).write_all(&one)
 }
 
 // The string whose first quote stands at q, byte by byte.
-fn print_text(s: &[u8], q: usize)
+fn print_text(rt: &impl Print, s: &[u8], q: usize) -> io::Result<()>
     requires { (length s.now ≤ 65536) × (q < length s.now) }
 {
     let mut at = q + 1;
     let mut k: usize = 0;
-    let mut turns: usize = 0;
-    while turns < 65536 {
+    for _ in 0..65536 {
         let Step::Byte(b, c) = saying::next_byte(s, at, k) else {
-            return;
+            return Ok(());
         };
-        print_byte(b);
+        print_byte(rt, b)?;
         at = c.at;
         k = c.k;
-        turns += 1;
     }
+    Ok(())
 }
 
 // How many characters the string whose first quote stands at q has.
@@ -47,8 +47,7 @@ fn characters(s: &[u8], q: usize) -> usize
     requires { (length s.now ≤ 65536) × (q < length s.now) }
 {
     let mut at = q + 1;
-    let mut n: usize = 0;
-    while n < 65536 {
+    for n in 0..65536 {
         if 65536 < at {
             return n;
         }
@@ -56,177 +55,176 @@ fn characters(s: &[u8], q: usize) -> usize
             return n;
         };
         at = next;
-        n += 1;
     }
-    n
+    65536
 }
 
 // The value at i: a list and an object by how many values stand in them.
-fn print_value(s: &[u8], tab: &[u64], i: usize)
+fn print_value(rt: &impl Print, s: &[u8], tab: &[u64], i: usize) -> io::Result<()>
     requires { Accepted s.now tab.now × (i < places s.now) }
 {
     match places::kind_of(s, tab, i) {
-        Kind::Null => print(b"null"),
-        Kind::False => print(b"false"),
-        Kind::True => print(b"true"),
-        Kind::Unsigned => print_number(places::number(s, tab, i)),
+        Kind::Null => print(rt, b"null"),
+        Kind::False => print(rt, b"false"),
+        Kind::True => print(rt, b"true"),
+        Kind::Unsigned => print_number(rt, places::number(s, tab, i)),
         Kind::Negative => {
-            print(b"-");
-            print_number(places::number(s, tab, i));
+            print(rt, b"-")?;
+            print_number(rt, places::number(s, tab, i))
         }
-        Kind::Text => print_string(s, tab, i),
-        Kind::List => print_list(s, tab, i),
-        Kind::Object => print_object(s, tab, i),
+        Kind::Text => print_string(rt, s, tab, i),
+        Kind::List => print_list(rt, s, tab, i),
+        Kind::Object => print_object(rt, s, tab, i),
     }
 }
 
-fn print_string(s: &[u8], tab: &[u64], i: usize)
+fn print_string(rt: &impl Print, s: &[u8], tab: &[u64], i: usize) -> io::Result<()>
     requires { Accepted s.now tab.now × (i < places s.now) }
 {
     let q = places::start(s, tab, i);
-    print(b"'");
-    print_text(s, q);
-    print(b"' of ");
-    print_number(characters(s, q) as u64);
+    print(rt, b"'")?;
+    print_text(rt, s, q)?;
+    print(rt, b"' of ")?;
+    print_number(rt, characters(s, q) as u64)
 }
 
-fn print_list(s: &[u8], tab: &[u64], i: usize)
+fn print_list(rt: &impl Print, s: &[u8], tab: &[u64], i: usize) -> io::Result<()>
     requires { Accepted s.now tab.now × (i < places s.now) }
 {
-    print(b"list of ");
-    print_number(places::len(s, tab, i) as u64);
+    print(rt, b"list of ")?;
+    print_number(rt, places::len(s, tab, i) as u64)?;
     if places::empty(s, tab, i) {
-        print(b", empty");
+        print(rt, b", empty")?;
     }
+    Ok(())
 }
 
-fn print_object(s: &[u8], tab: &[u64], i: usize)
+fn print_object(rt: &impl Print, s: &[u8], tab: &[u64], i: usize) -> io::Result<()>
     requires { Accepted s.now tab.now × (i < places s.now) }
 {
-    print(b"object of ");
-    print_number(places::members(s, tab, i) as u64);
+    print(rt, b"object of ")?;
+    print_number(rt, places::members(s, tab, i) as u64)?;
     if places::empty(s, tab, i) {
-        print(b", empty");
+        print(rt, b", empty")?;
     }
+    Ok(())
 }
 
 // A place that was found.
-fn print_found(s: &[u8], tab: &[u64], f: Found)
+fn print_found(rt: &impl Print, s: &[u8], tab: &[u64], f: Found) -> io::Result<()>
     requires { Accepted s.now tab.now × FoundIn s.now f }
 {
     match f {
-        Found::At(p) => print_value(s, tab, p),
-        Found::Nothing => print(b"nothing"),
+        Found::At(p) => print_value(rt, s, tab, p)?,
+        Found::Nothing => print(rt, b"nothing")?,
     }
-    print(b"\n");
+    print(rt, b"\n")
 }
 
 // The members of the object at i in the order of their names, at most a hundred.
-fn print_members(s: &[u8], tab: &[u64], i: usize)
+fn print_members(rt: &impl Print, s: &[u8], tab: &[u64], i: usize) -> io::Result<()>
     requires { Accepted s.now tab.now × (i < places s.now) }
 {
     let mut last = Found::Nothing;
-    let mut turns: usize = 0;
-    while turns < 100 {
+    for _ in 0..100 {
         let Found::At(p) = places::next_member(s, tab, i, last) else {
-            return;
+            return Ok(());
         };
-        print(b"  ");
-        print_text(s, places::name(s, tab, p));
-        print(b": ");
-        print_value(s, tab, p);
-        print(b"\n");
+        print(rt, b"  ")?;
+        print_text(rt, s, places::name(s, tab, p))?;
+        print(rt, b": ")?;
+        print_value(rt, s, tab, p)?;
+        print(rt, b"\n")?;
         last = Found::At(p);
-        turns += 1;
     }
+    Ok(())
 }
 
 // The values of the list at i in their order.
-fn print_items(s: &[u8], tab: &[u64], i: usize)
+fn print_items(rt: &impl Print, s: &[u8], tab: &[u64], i: usize) -> io::Result<()>
     requires { Accepted s.now tab.now × (i < places s.now) }
 {
-    let mut k: usize = 0;
-    while k < 100 {
+    for k in 0..100 {
         let Found::At(p) = places::nth(s, tab, i, k) else {
-            return;
+            return Ok(());
         };
-        print(b"  ");
-        print_number(k as u64);
-        print(b": ");
-        print_value(s, tab, p);
-        print(b", in ");
-        print_up(s, tab, p);
-        k += 1;
+        print(rt, b"  ")?;
+        print_number(rt, k as u64)?;
+        print(rt, b": ")?;
+        print_value(rt, s, tab, p)?;
+        print(rt, b", in ")?;
+        print_up(rt, s, tab, p)?;
     }
+    Ok(())
 }
 
 // What the value at p stands in.
-fn print_up(s: &[u8], tab: &[u64], p: usize)
+fn print_up(rt: &impl Print, s: &[u8], tab: &[u64], p: usize) -> io::Result<()>
     requires { Accepted s.now tab.now × (p < places s.now) }
 {
     if p == 0 {
-        print(b"nothing\n");
-        return;
+        print(rt, b"nothing\n")?;
+        return Ok(());
     }
-    print_value(s, tab, places::parent(s, tab, p));
-    print(b"\n");
+    print_value(rt, s, tab, places::parent(s, tab, p))?;
+    print(rt, b"\n")
 }
 
 // Members of the whole plan by name: lent, packed behind two other bits, and the name of another value.
-fn print_named(s: &[u8], tab: &[u64])
+fn print_named(rt: &impl Print, s: &[u8], tab: &[u64]) -> io::Result<()>
     requires { Accepted s.now tab.now }
 {
     let a = places::member(s, tab, 0, b"a", Name::Lent);
-    print(b"  lent a: ");
-    print_found(s, tab, a);
+    print(rt, b"  lent a: ")?;
+    print_found(rt, s, tab, a)?;
     let e = places::member(s, tab, 0, b"\x19\x40", Name::Packed(2, 1));
-    print(b"  packed e: ");
-    print_found(s, tab, e);
+    print(rt, b"  packed e: ")?;
+    print_found(rt, s, tab, e)?;
     let Found::At(p) = a else {
-        return;
+        return Ok(());
     };
     let q = places::member(s, tab, 0, b"", Name::Quoted(places::name(s, tab, p)));
-    print(b"  the name of a: ");
-    print_found(s, tab, q);
+    print(rt, b"  the name of a: ")?;
+    print_found(rt, s, tab, q)
 }
 
 // The first two values.
-fn print_first(s: &[u8], tab: &[u64])
+fn print_first(rt: &impl Print, s: &[u8], tab: &[u64]) -> io::Result<()>
     requires { Accepted s.now tab.now }
 {
     let f = places::first(s, tab, 0);
-    print(b"  first: ");
-    print_found(s, tab, f);
+    print(rt, b"  first: ")?;
+    print_found(rt, s, tab, f)?;
     let Found::At(p) = f else {
-        return;
+        return Ok(());
     };
-    print(b"  second: ");
-    print_next(s, tab, p);
+    print(rt, b"  second: ")?;
+    print_next(rt, s, tab, p)
 }
 
 // The value behind the first one, which stands at p.
-fn print_next(s: &[u8], tab: &[u64], p: usize)
+fn print_next(rt: &impl Print, s: &[u8], tab: &[u64], p: usize) -> io::Result<()>
     requires { Accepted s.now tab.now × (p < places s.now) }
 {
     match places::next(s, tab, 0, p) {
-        Found::At(q) => print(b"there\n"),
-        Found::Nothing => print(b"nothing\n"),
+        Found::At(q) => print(rt, b"there\n"),
+        Found::Nothing => print(rt, b"nothing\n"),
     }
 }
 
-fn show(s: &[u8], tab: &mut [u64])
+fn show(rt: &impl Print, s: &[u8], tab: &mut [u64]) -> io::Result<()>
     requires { 4096 ≤ length tab.old }
 {
-    print(s);
-    print(b"\n");
+    print(rt, s)?;
+    print(rt, b"\n")?;
     let r = plan_read::read_plan(s, tab);
     if r != 0 {
-        print(b"  refused: ");
-        print_number(r as u64);
-        print(b"\n");
-        return;
+        print(rt, b"  refused: ")?;
+        print_number(rt, r as u64)?;
+        print(rt, b"\n")?;
+        return Ok(());
     }
-    print_all(s, tab);
+    print_all(rt, s, tab)
 }
 
 fn is_object(s: &[u8], tab: &[u64], i: usize) -> bool
@@ -239,36 +237,39 @@ fn is_object(s: &[u8], tab: &[u64], i: usize) -> bool
 }
 
 // The whole plan, and what stands directly inside it.
-fn print_all(s: &[u8], tab: &[u64])
+fn print_all(rt: &impl Print, s: &[u8], tab: &[u64]) -> io::Result<()>
     requires { Accepted s.now tab.now }
 {
-    print(b"  ");
-    print_value(s, tab, 0);
-    print(b"\n");
+    print(rt, b"  ")?;
+    print_value(rt, s, tab, 0)?;
+    print(rt, b"\n")?;
     if is_object(s, tab, 0) {
-        print_members(s, tab, 0);
-        print_named(s, tab);
+        print_members(rt, s, tab, 0)?;
+        print_named(rt, s, tab)?;
     } else {
-        print_items(s, tab, 0);
+        print_items(rt, s, tab, 0)?;
     }
-    print_first(s, tab);
+    print_first(rt, s, tab)
 }
 
-fn main() {
+fn main(rt: HostRuntime) -> io::Result<()> {
     let mut tab = [0u64; 4096];
-    show(b"{\"b\":1,\"a\":[2,3],\"b\":\"x\"}", &mut tab);
+    show(&rt, b"{\"b\":1,\"a\":[2,3],\"b\":\"x\"}", &mut tab)?;
     show(
+        &rt,
         b"{\"e\":-7,\"\\u0061\":1,\"a\":{\"c\":null},\"\\ud83d\\ude00\":\"\\u00e9\\n\\ud83d\\ude00z\"}",
         &mut tab,
-    );
+    )?;
     show(
+        &rt,
         b"[18446744073709551615, -9223372036854775808, [], {}, [[true]], false]",
         &mut tab,
-    );
-    show(b" \"plain\" ", &mut tab);
-    show(b"[1,-0]", &mut tab);
+    )?;
+    show(&rt, b" \"plain\" ", &mut tab)?;
+    show(&rt, b"[1,-0]", &mut tab)?;
     show(
+        &rt,
         b"{\"c\":{\"a\":1},\"\":0,\"B\":2,\"aa\":3,\"a\":4}",
         &mut tab,
-    );
+    )
 }

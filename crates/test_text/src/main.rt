@@ -6,46 +6,47 @@
 ghost use Rattle.std.specs.Prelude.{◌+◌, ◌≤◌, ◌<◌, length};
 ghost use Rattle.text.specs.Rest.{Stands};
 
-use libc::STDOUT_FILENO;
 use saying::Ordering;
+use std::io;
+use std::io::Write;
 use text::{Left, Step, Text};
 
-fn print(s: &[u8]) {
-    io::write_all(STDOUT_FILENO, s);
+fn print(rt: &impl Print, s: &[u8]) -> io::Result<()> {
+    io::writer(rt).write_all(s)
 }
 
-fn print_byte(c: u8) {
-    io::print_decimal(STDOUT_FILENO, c as u64);
-    print(b" ");
+fn print_byte(rt: &impl Print, c: u8) -> io::Result<()> {
+    print!(rt; "{c} ")
 }
 
-fn print_flag(yes: bool) {
+fn print_flag(rt: &impl Print, yes: bool) -> io::Result<()> {
     if yes {
-        print(b"yes ");
-        return;
+        print(rt, b"yes ")?;
+        return Ok(());
     }
-    print(b"no ");
+    print(rt, b"no ")
 }
 
-fn print_order(order: Ordering) {
+fn print_order(rt: &impl Print, order: Ordering) -> io::Result<()> {
     match order {
-        Ordering::Less => print(b"< "),
-        Ordering::Equal => print(b"= "),
-        Ordering::Greater => print(b"> "),
+        Ordering::Less => print(rt, b"< "),
+        Ordering::Equal => print(rt, b"= "),
+        Ordering::Greater => print(rt, b"> "),
     }
 }
 
-fn print_text(s: &[u8], b: &[u8], t: Text)
+fn print_text(rt: &impl Print, s: &[u8], b: &[u8], t: Text) -> io::Result<()>
     requires { (length s.now ≤ 65536) × Stands s.now b.now t }
 {
     let mut u = t;
     loop {
         let Step::Byte(c, v) = text::next(s, b, u) else {
-            return;
+            return Ok(());
         };
-        print_byte(c);
+        print_byte(rt, c)?;
         u = v;
     }
+    Ok(())
 }
 
 // The byte at i, 0 past the end.
@@ -94,20 +95,20 @@ fn read(s: &[u8], b: &[u8], r: &[u8], i: usize) -> Text
     Text::Minus(chosen(x))
 }
 
-fn with_word(s: &[u8], b: &[u8], t: Text, w: &[u8])
+fn with_word(rt: &impl Print, s: &[u8], b: &[u8], t: Text, w: &[u8]) -> io::Result<()>
     requires { (length s.now ≤ 65536) × Stands s.now b.now t }
 {
-    print_flag(text::is(s, b, t, w));
+    print_flag(rt, text::is(s, b, t, w))?;
     let Left::Is(u) = text::strip_bytes(s, b, t, w) else {
-        print(b"- ");
-        return;
+        print(rt, b"- ")?;
+        return Ok(());
     };
-    print_text(s, b, u);
-    print(b", ");
+    print_text(rt, s, b, u)?;
+    print(rt, b", ")
 }
 
 // The words one after the other, in front of each its length.
-fn with_words(s: &[u8], b: &[u8], t: Text, words: &[u8])
+fn with_words(rt: &impl Print, s: &[u8], b: &[u8], t: Text, words: &[u8]) -> io::Result<()>
     requires { (length s.now ≤ 65536) × Stands s.now b.now t }
 {
     let mut at: usize = 0;
@@ -115,58 +116,61 @@ fn with_words(s: &[u8], b: &[u8], t: Text, words: &[u8])
         let n = small(words, at);
         let from = at + 1;
         if words.len() - from < n {
-            return;
+            return Ok(());
         }
-        with_word(s, b, t, &words[from..from + n]);
+        with_word(rt, s, b, t, &words[from..from + n])?;
         at = from + n;
     }
+    Ok(())
 }
 
-fn with_text(s: &[u8], b: &[u8], t: Text, x: Text)
+fn with_text(rt: &impl Print, s: &[u8], b: &[u8], t: Text, x: Text) -> io::Result<()>
     requires { (length s.now ≤ 65536) × Stands s.now b.now t × Stands s.now b.now x }
 {
-    print_order(text::compare(s, b, t, x));
-    print_flag(text::same(s, b, t, x));
+    print_order(rt, text::compare(s, b, t, x))?;
+    print_flag(rt, text::same(s, b, t, x))?;
     let Left::Is(u) = text::strip(s, b, t, x) else {
-        print(b"- ");
-        return;
+        print(rt, b"- ")?;
+        return Ok(());
     };
-    print_text(s, b, u);
-    print(b", ");
+    print_text(rt, s, b, u)?;
+    print(rt, b", ")
 }
 
-fn with_texts(s: &[u8], b: &[u8], t: Text, r: &[u8])
+fn with_texts(rt: &impl Print, s: &[u8], b: &[u8], t: Text, r: &[u8]) -> io::Result<()>
     requires { (length s.now ≤ 65536) × (length r.now ≤ 1000) × Stands s.now b.now t }
 {
     let mut i: usize = 0;
     while i < r.len() {
-        with_text(s, b, t, read(s, b, r, i));
+        with_text(rt, s, b, t, read(s, b, r, i))?;
         i += 3;
     }
+    Ok(())
 }
 
-fn report(s: &[u8], b: &[u8], t: Text, words: &[u8], r: &[u8])
+fn report(rt: &impl Print, s: &[u8], b: &[u8], t: Text, words: &[u8], r: &[u8]) -> io::Result<()>
     requires { (length s.now ≤ 65536) × (length r.now ≤ 1000) × Stands s.now b.now t }
 {
-    print_text(s, b, t);
-    print(b"\n");
-    with_words(s, b, t, words);
-    print(b"\n");
-    with_texts(s, b, t, r);
-    print(b"\n");
+    print_text(rt, s, b, t)?;
+    print(rt, b"\n")?;
+    with_words(rt, s, b, t, words)?;
+    print(rt, b"\n")?;
+    with_texts(rt, s, b, t, r)?;
+    print(rt, b"\n")
 }
 
-fn report_all(s: &[u8], b: &[u8], words: &[u8], r: &[u8])
+fn report_all(rt: &impl Print, s: &[u8], b: &[u8], words: &[u8], r: &[u8]) -> io::Result<()>
     requires { (length s.now ≤ 65536) × (length r.now ≤ 1000) }
 {
     let mut i: usize = 0;
     while i < r.len() {
-        report(s, b, read(s, b, r, i), words, r);
+        report(rt, s, b, read(s, b, r, i), words, r)?;
         i += 3;
     }
+    Ok(())
 }
 
-fn main() {
+fn main(rt: HostRuntime) -> io::Result<()> {
     let plan =
         b"\"abc\"\"\"\"a\\u0062c\"\"ab\"\"\\ud834\\udd1eab\"\"\\u00e4\\u20ac\"\"\\\"\\\\\\/\\b\\f\\n\\r\\t\"\"10\"\"-18446744073709551615\"\"\xc3\xa4\"\"a\\q\"\"ab\x0ac\"\"abcd";
     let bundle =
@@ -177,9 +181,10 @@ fn main() {
     // Beginnings of one that starts with a pair; an escape alone. Packed strings, none at a byte's place; a part of one; one that goes past the end.
     // The digits of 0, 9, 10 and the largest number; without the first few. A minus and digits.
     report_all(
+        &rt,
         plan,
         bundle,
         words,
         b"\x00\x00\x00\x00\x05\x00\x00\x07\x00\x00\x11\x00\x00\x15\x00\x00%\x00\x003\x00\x00E\x00\x00I\x00\x00`\x00\x00d\x00\x00i\x00\x00o\x00\x00\xff\x00\x01\x16\x00\x01\x16\x01\x01\x16\x04\x01\x16\x05\x01\x16\xff\x01\x09\x01\x02\x03\x03\x02\x1c\x00\x02!\x14\x02\xc3\x06\x02\xf7\x04\x02\x0b\x02\x02\xff\x04\x03\x00\x00\x03\x01\x00\x03\x02\x00\x03\x03\x00\x03\x02\x01\x03\x03\x14\x03\x01\xff\x04\x00\x00\x04\x02\x00\x04\x03\x00",
-    );
+    )
 }

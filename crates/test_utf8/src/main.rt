@@ -6,7 +6,7 @@ ghost use Rattle.std.specs.Prelude.{◌≡◌, ◌++◌};
 ghost use Rattle.rules.specs.Utf8.{utf8};
 ghost use Rattle.utf8.specs.Machine.{wanted, after};
 
-use libc::STDOUT_FILENO;
+use std::io;
 use utf8::Utf;
 
 // The machine after the bytes of s.
@@ -33,76 +33,87 @@ fn wide(c: u8) -> u64 {
     c as u64
 }
 
-fn print_number(n: u64) {
-    io::print_decimal(STDOUT_FILENO, n);
-    io::write_all(STDOUT_FILENO, b" ");
+fn print_number(rt: &impl Print, n: u64) -> io::Result<()> {
+    print!(rt; "{n} ")
 }
 
-fn print_flag(yes: bool) {
+fn print_flag(rt: &impl Print, yes: bool) -> io::Result<()> {
     if yes {
-        io::write_all(STDOUT_FILENO, b"yes ");
-        return;
+        print!(rt; "yes ")?;
+        return Ok(());
     }
-    io::write_all(STDOUT_FILENO, b"no ");
+    print!(rt; "no ")
 }
 
-fn print_line_end() {
-    io::write_all(STDOUT_FILENO, b"\n");
+fn print_line_end(rt: &impl Print) -> io::Result<()> {
+    println!(rt)
 }
 
-fn print_bytes(s: &[u8]) {
-    let mut i: usize = 0;
-    while i < s.len() {
-        print_number(wide(s[i]));
-        i += 1;
+fn print_bytes(rt: &impl Print, s: &[u8]) -> io::Result<()> {
+    for c in s {
+        print_number(rt, wide(*c))?;
     }
+    Ok(())
 }
 
-fn print_lengths(s: &[u8]) {
-    let mut i: usize = 0;
-    while i <= s.len() {
-        print_number(utf8::utf8_length(s, i) as u64);
-        i += 1;
+fn print_lengths(rt: &impl Print, s: &[u8]) -> io::Result<()> {
+    for i in 0..=s.len() {
+        print_number(rt, utf8::utf8_length(s, i) as u64)?;
     }
+    Ok(())
 }
 
-fn report(s: &[u8]) {
-    print_bytes(s);
-    print_flag(utf8::is_utf8(s));
+fn report(rt: &impl Print, s: &[u8]) -> io::Result<()> {
+    print_bytes(rt, s)?;
+    print_flag(rt, utf8::is_utf8(s))?;
     let half = s.len() / 2;
-    print_flag(joined_is_utf8(&s[0..half], &s[half..]));
-    print_lengths(s);
-    print_line_end();
+    print_flag(rt, joined_is_utf8(&s[0..half], &s[half..]))?;
+    print_lengths(rt, s)?;
+    print_line_end(rt)
 }
 
 // The texts one after the other, in front of each its length.
-fn report_all(texts: &[u8]) {
+fn report_all(rt: &impl Print, texts: &[u8]) -> io::Result<()> {
     let mut at: usize = 0;
     while at < texts.len() {
         let n = wide(texts[at]) as usize;
         let from = at + 1;
         if texts.len() - from < n {
-            return;
+            return Ok(());
         }
-        report(&texts[from..from + n]);
+        report(rt, &texts[from..from + n])?;
         at = from + n;
     }
+    Ok(())
 }
 
-fn main() {
+fn main(rt: HostRuntime) -> io::Result<()> {
     // empty, 0, 7F; 80, 7FF; 800, D7FF, E000, FFFF; 10000, 10FFFF
-    report_all(b"\x00\x01\x00\x01\x7f\x02\xc2\x80\x02\xdf\xbf");
-    report_all(b"\x03\xe0\xa0\x80\x03\xed\x9f\xbf\x03\xee\x80\x80\x03\xef\xbf\xbf");
-    report_all(b"\x04\xf0\x90\x80\x80\x04\xf4\x8f\xbf\xbf");
+    report_all(&rt, b"\x00\x01\x00\x01\x7f\x02\xc2\x80\x02\xdf\xbf")?;
+    report_all(
+        &rt,
+        b"\x03\xe0\xa0\x80\x03\xed\x9f\xbf\x03\xee\x80\x80\x03\xef\xbf\xbf",
+    )?;
+    report_all(&rt, b"\x04\xf0\x90\x80\x80\x04\xf4\x8f\xbf\xbf")?;
     // all of them in one text
-    report_all(b"\x0ba\xc3\xa4\xe2\x82\xac\xf0\x9f\xaa\x9f.");
+    report_all(&rt, b"\x0ba\xc3\xa4\xe2\x82\xac\xf0\x9f\xaa\x9f.")?;
     // overlong: 0, 7F, 7FF, FFFF
-    report_all(b"\x02\xc0\x80\x02\xc1\xbf\x03\xe0\x9f\xbf\x04\xf0\x8f\xbf\xbf");
+    report_all(
+        &rt,
+        b"\x02\xc0\x80\x02\xc1\xbf\x03\xe0\x9f\xbf\x04\xf0\x8f\xbf\xbf",
+    )?;
     // surrogates D800 and DFFF; 110000; bytes that no character begins with
     report_all(
+        &rt,
         b"\x03\xed\xa0\x80\x03\xed\xbf\xbf\x04\xf4\x90\x80\x80\x04\xf5\x80\x80\x80\x01\xff\x01\x80\x02a\xbf",
-    );
+    )?;
     // cut characters: at the end, before another one; a byte too many
-    report_all(b"\x01\xc2\x01\xe2\x02\xe2\x82\x01\xf0\x02\xf0\x9f\x03\xf0\x9f\xaa");
-    report_all(b"\x02\xc2a\x03\xe2\x82a\x04\xf0\x9f\xaa\xc2\x03\xc3\xa4\xa4");
+    report_all(
+        &rt,
+        b"\x01\xc2\x01\xe2\x02\xe2\x82\x01\xf0\x02\xf0\x9f\x03\xf0\x9f\xaa",
+    )?;
+    report_all(
+        &rt,
+        b"\x02\xc2a\x03\xe2\x82a\x04\xf0\x9f\xaa\xc2\x03\xc3\xa4\xa4",
+    )
 }
