@@ -6,7 +6,7 @@ use Rattle.rules.specs.Context.{parse_digits, parse_usize}
 use Rattle.decimal.specs.declared.Parse.{Parse}
 use Rattle.decimal.specs.declared.Parse.TheVariants.{Empty, Plus, Is, Refused}
 use Rattle.decimal.specs.declared.Parsed.{Parsed}
-use Rattle.decimal.specs.declared.Parsed.TheVariants.{Is as Number, Refused as None}
+use Rattle.decimal.specs.declared.Parsed.TheVariants.{Is as Number, Refused as NoNumber}
 
 -- one digit more, if it is one and the number still fits 64 bits
 unfoldable pub with_digit : ℕ → ℕ → Parse
@@ -40,5 +40,5 @@ coming Refused s = none
 
 -- the answer
 abbrev pub parsed : Option ℕ → Parsed
-parsed none = None
+parsed none = NoNumber
 parsed (some n) = Number n

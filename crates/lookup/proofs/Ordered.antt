@@ -21,7 +21,7 @@ use Rattle.places.specs.Places.{tree_at, name_at}
 use Rattle.decimal.specs.Parsing.{fed, coming, parsed}
 use Rattle.decimal.specs.declared.Parse.{Parse}
 use Rattle.decimal.specs.declared.Parsed.{Parsed}
-use Rattle.decimal.specs.declared.Parsed.TheVariants.{Is as Number, Refused as None}
+use Rattle.decimal.specs.declared.Parsed.TheVariants.{Is as Number, Refused as NoNumber}
 use Rattle.decimal.proofs.Parsing.{coming_fed}
 
 -- one byte more of the text
@@ -33,7 +33,7 @@ pub parsed_some : (o : Option ℕ) (n : ℕ) → Number n ≡ parsed o → o ≡
 parsed_some none n e = cc
 parsed_some (some m) n e = cc
 
-pub parsed_none : (o : Option ℕ) → None ≡ parsed o → o ≡ none
+pub parsed_none : (o : Option ℕ) → NoNumber ≡ parsed o → o ≡ none
 parsed_none none e = refl
 parsed_none (some m) e = cc
 
@@ -47,7 +47,7 @@ pub string_near : (b : Bytes) (p : ℕ) → length b ≤ 65536 → Holds string 
 string_near b p le h = omega (arith, string_in (bits b) p h, bits_size b)
 
 -- what `canonical` says, by the number that was parsed
-pub canonical_refused : (k : Bytes) (r : Parsed) → r ≡ parsed (parse_usize k) → r ≡ None → None ≡ parsed (canonical k)
+pub canonical_refused : (k : Bytes) (r : Parsed) → r ≡ parsed (parse_usize k) → r ≡ NoNumber → NoNumber ≡ parsed (canonical k)
 canonical_refused k r e f = ap parsed (sym (canonical_none k (parsed_none (parse_usize k) (sym f ∙ e))))
 
 module _ (k : Bytes) (r : Parsed) (n : ℕ) (e : r ≡ parsed (parse_usize k)) (f : r ≡ Number n) (t : Bool) (g : t ≡ same (digits n) k) where
@@ -57,5 +57,5 @@ module _ (k : Bytes) (r : Parsed) (n : ℕ) (e : r ≡ parsed (parse_usize k)) (
   pub canonical_found : t ≡ true → Number n ≡ parsed (canonical k)
   canonical_found h = ap parsed (sym (is_canonical ∙ ap (λ (x : Bool). pick x (some n) none) h))
 
-  pub canonical_other : t ≡ false → None ≡ parsed (canonical k)
+  pub canonical_other : t ≡ false → NoNumber ≡ parsed (canonical k)
   canonical_other h = ap parsed (sym (is_canonical ∙ ap (λ (x : Bool). pick x (some n) none) h))

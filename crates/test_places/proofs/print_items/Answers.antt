@@ -1,5 +1,5 @@
 use Rattle.std.proofs.Common.{subst}
-use Rattle.places.specs.Findings.{found_child}
+use Rattle.places.proofs.Findings.{found_child}
 use Rattle.places.specs.Kinds.{FoundIn}
 use Rattle.test_places.proofs.print_items.Goals as goal
 

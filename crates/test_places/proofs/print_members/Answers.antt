@@ -1,5 +1,5 @@
 use Rattle.std.proofs.Common.{subst}
-use Rattle.places.specs.Findings.{found_next}
+use Rattle.places.proofs.Findings.{found_next}
 use Rattle.places.specs.Kinds.{FoundIn, found_name}
 use Rattle.places.specs.Nodes.{short}
 use Rattle.test_places.proofs.print_members.Goals as goal

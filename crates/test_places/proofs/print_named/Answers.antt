@@ -1,5 +1,5 @@
 use Rattle.std.proofs.Common.{arith, subst}
-use Rattle.places.specs.Findings.{found_member}
+use Rattle.places.proofs.Findings.{found_member}
 use Rattle.places.specs.Kinds.{FoundIn}
 use Rattle.places.specs.Nodes.{short, some_places}
 use Rattle.test_places.proofs.print_named.Goals as goal

@@ -19,4 +19,4 @@ returns c = let a = c.args in
     let v = take a.n (drop a.from a.texts.now) in
     let w : (l : List Scope) → Wrote (whole a.rc l) (whole c.wrote.result l) page texts (on (all_put v) (outputs a.rc.writer a.page.now a.texts.now)) =
     λ l. wrote_by (whole a.rc l) (whole c.wrote.result l) f.result page texts (on (all_put v) (outputs a.rc.writer a.page.now a.texts.now)) f.ensures (c.wrote.ensures l) in
-    (w, λ l s b i ent r. draws_put s b (world (whole a.rc l) a.page.now a.texts.now i ent) (whole c.wrote.result l) page texts r v (w l))
+    (record { wrote = w; writes = λ l s b i ent r. draws_put s b (world (whole a.rc l) a.page.now a.texts.now i ent) (whole c.wrote.result l) page texts r v (w l) })

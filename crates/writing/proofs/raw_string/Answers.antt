@@ -47,4 +47,4 @@ returns c = let a = c.args in
     let w : (l : List Scope) → Wrote (whole a.rc l) (whole c.wrote.result l) page texts (fed a.indent.now (text_at z a.p) (outputs a.rc.writer a.page.now a.texts.now)) =
     λ l. wrote_by (whole a.rc l) (whole c.wrote.result l) f.result page texts (fed a.indent.now (text_at z a.p) (outputs a.rc.writer a.page.now a.texts.now))
     (f.ensures ∙ ap (λ (v : Bytes). fed a.indent.now v (outputs a.rc.writer a.page.now a.texts.now)) e) (c.wrote.ensures l) in
-    (w, λ l s ent r. draws_fed s a.b.now (world (whole a.rc l) a.page.now a.texts.now a.indent.now ent) (whole c.wrote.result l) page texts r (text_at z a.p) (w l))
+    (record { wrote = w; writes = λ l s ent r. draws_fed s a.b.now (world (whole a.rc l) a.page.now a.texts.now a.indent.now ent) (whole c.wrote.result l) page texts r (text_at z a.p) (w l) })

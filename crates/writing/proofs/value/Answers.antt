@@ -29,11 +29,11 @@ returns c = let a = c.args in
     (λ j. outputs f.result page texts ≡ fed i (escaped e (render j)) (outputs a.rc.writer a.page.now a.texts.now))
     (λ j. (l : List Scope) → Wrote (whole a.rc l) (whole r l) page texts (fed i (escaped e (render j)) (outputs a.rc.writer a.page.now a.texts.now)))
     (λ j h l. wrote_by (whole a.rc l) (whole r l) f.result page texts (fed i (escaped e (render j)) (outputs a.rc.writer a.page.now a.texts.now)) h (c.wrote.ensures l))
-    f.ensures in (
-      m,
-      λ l ent t st ready.
+    f.ensures in (record {
+      means = m;
+      writes = λ l ent t st ready.
           let j = render (json_of a.s.now a.b.now ent a.v) in
           let x = world (whole a.rc l) a.page.now a.texts.now i ent in
           subst (λ (y : Bytes). Draws a.s.now a.b.now x (world (whole r l) page texts i ent) (indent_aware_write y (abs a.s.now a.b.now x))) (escape_is a.s.now a.b.now x j)
-          (draws_fed a.s.now a.b.now x (whole r l) page texts ready (escaped e j) (m.at ent t st l)),
-    )
+          (draws_fed a.s.now a.b.now x (whole r l) page texts ready (escaped e j) (m.at ent t st l));
+    })
