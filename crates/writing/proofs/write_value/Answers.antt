@@ -13,6 +13,13 @@ use Rattle.writing.proofs.write_value.Goals as goal
 pub value_span-p-requires : goal.value_span-p-requires
 value_span-p-requires c = let a = c.args in let h = c.requires in (h.0, (a.b.now, h.2))
 
+pub slice_bounds-write_bytes-end : goal.slice_bounds-write_bytes-end
+slice_bounds-write_bytes-end c = let a = c.args in
+    let h = c.requires in
+    let p = c.value_span-p in
+    let lt = c.if-at-e.true in
+    span_within a.s.now a.b.now a.v h.0.answers h.2 p.result (λ z. absurd (omega (arith, z, lt))) p.ensures lt
+
 pub returns-then-at-e : goal.returns-then-at-e
 returns-then-at-e c = let a = c.args in
     let h = c.requires in
@@ -27,12 +34,3 @@ returns-then-at-e c = let a = c.args in
 
 pub returns : goal.returns
 returns c = c.other_value.ensures
-
--- LEFT
--- part-write-bytes-end : tie.Need-slice-bounds-write-bytes-end
--- part-write-bytes-end c =
---     let a = c.before.before.before.before.before.before.before.before.before.before.args in
---     let h = c.before.before.before.before.before.before.before.before.before.before.requires in
---     let p = c.before.before.before.value_span in
---     let lt = c.before.before.if1.true in
---     span_within a.s.now a.b.now a.v h.0.answers h.2 p.result (λ z. absurd (omega (arith, z, lt))) p.ensures lt

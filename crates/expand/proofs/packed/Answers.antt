@@ -1,0 +1,50 @@
+use Prim.Native.Nat.{ℕ, ◌+◌, ◌-◌, ◌*◌, ◌^◌, ◌≤◌, ◌<◌}
+use mathlib.Core.List.{◌∷◌}
+use mathlib.Core.Path.{◌≡◌, refl, sym, ap, ◌∙◌}
+use native.Mathlib.Omega.{arith}
+use native.Mathlib.Numerals.{add-one}
+use lib.ListN.{length, get_or, drop, drop_of_length-le}
+use lib.Pow.{pow_mono, pow-add}
+use lib.Seq.{drop-cons}
+use Rattle.rules.specs.Bytes.{Bytes}
+use Rattle.expand.specs.Answers.{packed_onto, packed}
+use borrow.Author.Rules.{rules}
+use Rattle.expand.proofs.packed.Goals as goal
+
+few_bits : (i x : ℕ) → i < 6 → x < 2 ^ (8 * i) → x < 1099511627776
+few_bits i x lt h =
+    let n : 8 * i ≤ 40 = omega arith in
+    let m : 2 ^ (8 * i) ≤ 2 ^ 40 = pow_mono n in
+    omega (arith, h, m)
+
+more-bits : (i x c : ℕ) → c < 256 → x < 2 ^ (8 * i) → x * 256 + c < 2 ^ (8 * (i + 1))
+more-bits i x c lt h =
+    let d : 8 * (i + 1) ≡ 8 * i + 8 = omega arith in
+    let e : 2 ^ (8 * i + 8) ≡ 2 ^ (8 * i) * 256 = pow-add 2 (8 * i) 8 in
+    rw (d, e) (omega (arith, h, lt))
+
+more-packed : (t : Bytes) (i x : ℕ) → i < length t → packed_onto (x * 256 + get_or t i 0) (drop (i + 1) t) ≡ packed_onto x (drop i t)
+more-packed t i x lt =
+    let e : drop i t ≡ get_or t i 0 ∷ drop (i + 1) t = drop-cons t i 0 lt ∙ rw add-one in
+    sym (ap (packed_onto x) e)
+
+pub loop-i-init : goal.loop-i-init
+loop-i-init c = (omega arith, omega arith, refl)
+
+pub overflow_mul-x : goal.overflow_mul-x
+overflow_mul-x c = let l = c.loop-i in omega (arith, few_bits l.i l.x (omega (arith, c.requires, c.loop-i-test.true)) l.invariant.1)
+
+pub overflow_cast-x : goal.overflow_cast-x
+overflow_cast-x c = omega (arith, c.type_inv.t c.loop-i.i)
+
+pub overflow_add-x : goal.overflow_add-x
+overflow_add-x c = let l = c.loop-i in omega (arith, few_bits l.i l.x (omega (arith, c.requires, c.loop-i-test.true)) l.invariant.1, c.type_inv.t l.i)
+
+pub loop-i-preserved : goal.loop-i-preserved
+loop-i-preserved c = let l = c.loop-i in
+    let k = c.type_inv.t l.i in
+    (omega arith, more-bits l.i l.x _ (omega (arith, k)) l.invariant.1, more-packed c.args.t.now l.i l.x c.loop-i-test.true ∙ l.invariant.2)
+
+pub returns : goal.returns
+returns c = let l = c.loop-i in
+    sym (ap (packed_onto l.x) (drop_of_length-le c.args.t.now c.loop-i-test.false)) ∙ l.invariant.2
