@@ -6,9 +6,8 @@ use Rattle.test_lookup.proofs.main.Goals as goal
 
 pub show_plan-requires : goal.show_plan-requires
 unfolding bits field
-show_plan-requires c = 
-    let r = c.read_plan-r in
-    (
+show_plan-requires c =
+    let r = c.read_plan-r in (
       accepted _ 4096 _ (sym r.ensures.value ∙ c.if-r-eq0.true) r.ensures.tab_after (omega arith),
       omega arith,
       (

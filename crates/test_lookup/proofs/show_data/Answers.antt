@@ -6,7 +6,7 @@ use Rattle.rules.specs.Bits.{bits}
 use Rattle.test_lookup.proofs.show_data.Goals as goal
 
 pub print_value-requires : goal.print_value-requires
-print_value-requires g c = 
+print_value-requires g c =
     let s = c.args.s.now in
     let b = c.args.b.now in
     let ent = c.args.ent.now in

@@ -4,7 +4,7 @@ use Rattle.meaning.specs.Means.{stands_known}
 use Rattle.test_lookup.proofs.show_looked.Goals as goal
 
 pub print_value-requires : goal.print_value-requires
-print_value-requires g c = 
+print_value-requires g c =
     let s = c.args.s.now in
     let b = c.args.b.now in
     let ent = c.args.ent.now in

@@ -8,9 +8,8 @@ pub nth-requires : goal.nth-requires
 nth-requires g c = (c.requires.0, some_places c.args.s.now)
 
 pub show-requires : goal.show-requires
-show-requires g c = 
-    let s = c.args.s.now in
-    (
+show-requires g c =
+    let s = c.args.s.now in (
       c.requires.0,
       c.requires.1,
       λ _. (is_child s 0 c.loop-k.k c.in-At.c c.requires.0.answers (some_places s) (sym (ap found (sym c.in-At.is) ∙ c.nth.ensures))).within,
