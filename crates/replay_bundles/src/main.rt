@@ -84,10 +84,8 @@ fn at_most(n: usize, end: usize) -> usize
 fn plain(f: &[u8], at: usize, n: usize, out: &mut [u8], to: usize)
     requires { at ≤ 524288 × n < 65536 × to ≤ 524288 }
 {
-    let mut i: usize = 0;
-    while i < n {
+    for i in 0..n {
         set(out, to + i, get(f, at + i));
-        i += 1;
     }
 }
 
@@ -103,11 +101,9 @@ fn before(out: &[u8], at: usize, back: usize) -> u8 {
 fn repeated(out: &mut [u8], to: usize, n: usize, back: usize)
     requires { n < 65536 × to ≤ 524288 }
 {
-    let mut i: usize = 0;
-    while i < n {
+    for i in 0..n {
         let x = before(out, to + i, back);
         set(out, to + i, x);
-        i += 1;
     }
 }
 
@@ -119,8 +115,7 @@ fn pieces(f: &[u8], start: usize, out: &mut [u8], from: usize, len: usize) -> us
     let end = from + len;
     let mut at = start;
     let mut to = from;
-    let mut turns: usize = 0;
-    while turns < 65536 {
+    for _ in 0..65536 {
         if end <= to {
             return at;
         }
@@ -131,7 +126,6 @@ fn pieces(f: &[u8], start: usize, out: &mut [u8], from: usize, len: usize) -> us
         repeated(out, to + n, count, back);
         to = to + n + count;
         at = at_most(at + 6 + n, END);
-        turns += 1;
     }
     END
 }
@@ -195,12 +189,10 @@ fn count_kinds(bundle: &[u8], kinds: &mut [u64; 9]) {
     let Verdict::Accepted = v else {
         return;
     };
-    let mut k: usize = 0;
-    while k < 9 {
+    for k in 0..9 {
         let n = census::count(bundle, k as u64);
         let before = kinds[k];
         kinds[k] = sum(before, n);
-        k += 1;
     }
 }
 
@@ -236,13 +228,11 @@ fn replay(f: &[u8], out: &mut [u8], counts: &mut [u64; 25], kinds: &mut [u64; 9]
     let bundles = number_at(f, 0);
     let mut at: usize = 4;
     let mut to: usize = 0;
-    let mut i: usize = 0;
-    while i < bundles {
+    for _ in 0..bundles {
         let u = unpack(f, at, out, to);
         one_at(out, u.from, u.len, u.number, counts, kinds);
         to = u.from + u.len;
         at = u.next;
-        i += 1;
     }
 }
 
@@ -294,10 +284,8 @@ fn all_files(
     counts: &mut [u64; 25],
     kinds: &mut [u64; 9],
 ) -> io::Result<()> {
-    let mut k: u8 = 0;
-    while k < 10 {
+    for k in 0..10 {
         one_file(rt, k, file, buffer, counts, kinds)?;
-        k += 1;
     }
     Ok(())
 }
@@ -307,8 +295,7 @@ fn print_number(rt: &impl Print, n: usize) -> io::Result<()> {
 }
 
 fn print_counts(rt: &impl Print, counts: &[u64; 25]) -> io::Result<()> {
-    let mut k: usize = 0;
-    while k < 25 {
+    for k in 0..25 {
         let n = counts[k];
         if 0 < n {
             print!(rt; "check_bundle ")?;
@@ -317,18 +304,15 @@ fn print_counts(rt: &impl Print, counts: &[u64; 25]) -> io::Result<()> {
             print_number(rt, k % 5)?;
             println!(rt; ": {n}")?;
         }
-        k += 1;
     }
     Ok(())
 }
 
 fn print_kinds(rt: &impl Print, kinds: &[u64; 9]) -> io::Result<()> {
-    let mut k: usize = 0;
-    while k < 9 {
+    for k in 0..9 {
         print!(rt; "kind ")?;
         print_number(rt, k)?;
         println!(rt; ": {}", kinds[k])?;
-        k += 1;
     }
     Ok(())
 }

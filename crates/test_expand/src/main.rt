@@ -226,13 +226,11 @@ fn show_body(
     let v = template::body_at(b, p);
     let count = v.count;
     let mut cur = v.first;
-    let mut i: u64 = 0;
-    while i < count {
+    for _ in 0..count {
         let e = template::element_at(b, cur, 16, d - 1);
         let element = e.element;
         show_element(rt, s, tab, b, ent, scopes, used, options, element, d - 1)?;
         cur = e.next;
-        i += 1;
     }
     Ok(())
 }

@@ -109,14 +109,12 @@ fn show_keys(
 fn show_plan(rt: &impl Print, s: &[u8], tab: &[u64], b: &[u8], ent: &[u64]) -> io::Result<()>
     requires { Accepted s.now tab.now × (length b.now ≤ 65536) × (Holds string (bits b.now) 0 × Holds string (bits b.now) 24 × Holds string (bits b.now) 48 × Holds string (bits b.now) 72 × Holds string (bits b.now) 104 × Holds string (bits b.now) 136) }
 {
-    let mut k: usize = 0;
-    while k < 16 {
+    for k in 0..16 {
         let places::Found::At(c) = places::nth(s, tab, 0, k) else {
             return Ok(());
         };
         show_names(rt, s, tab, b, ent, Value::Place(c))?;
         show_keys(rt, s, tab, b, ent, Value::Place(c))?;
-        k += 1;
     }
     Ok(())
 }

@@ -65,13 +65,11 @@ fn show(rt: &impl Print, s: &[u8], tab: &[u64], b: &[u8], v: Value) -> io::Resul
 fn show_plan(rt: &impl Print, s: &[u8], tab: &[u64], b: &[u8]) -> io::Result<()>
     requires { Accepted s.now tab.now × (length b.now ≤ 65536) }
 {
-    let mut k: usize = 0;
-    while k < 16 {
+    for k in 0..16 {
         let Found::At(c) = places::nth(s, tab, 0, k) else {
             return Ok(());
         };
         show(rt, s, tab, b, Value::Place(c))?;
-        k += 1;
     }
     Ok(())
 }

@@ -32,11 +32,9 @@ fn print_text(rt: &impl Print, b: &[u8], p: usize) -> io::Result<()>
     let n = t.count;
     let first = t.first;
     print(rt, b" \"")?;
-    let mut i: usize = 0;
-    while i < n {
+    for i in 0..n {
         let c = [bits::byte(b, first + 8 * i)];
         print(rt, &c)?;
-        i += 1;
     }
     print(rt, b"\"")
 }
@@ -116,11 +114,9 @@ fn print_params(rt: &impl Print, b: &[u8], n: u64, p: usize, d: usize) -> io::Re
     requires { (length b.now ≤ 65536) × Holds (row (param d) n) (bits b.now) p }
 {
     let mut cur = p;
-    let mut i: u64 = 0;
-    while i < n {
+    for _ in 0..n {
         print_param(rt, b, cur, d)?;
         cur = calls::skip_param(b, cur, d);
-        i += 1;
     }
     Ok(())
 }
@@ -129,13 +125,11 @@ fn print_pairs(rt: &impl Print, b: &[u8], n: u64, p: usize, d: usize) -> io::Res
     requires { (length b.now ≤ 65536) × Holds (row (string then param d) n) (bits b.now) p }
 {
     let mut cur = p;
-    let mut i: u64 = 0;
-    while i < n {
+    for _ in 0..n {
         print_text(rt, b, cur)?;
         let q = parts::skip_string(b, cur);
         print_param(rt, b, q, d)?;
         cur = calls::skip_param(b, q, d);
-        i += 1;
     }
     Ok(())
 }
@@ -210,8 +204,7 @@ fn print_body(rt: &impl Print, b: &[u8], p: usize, d: usize) -> io::Result<()>
     let v = template::body_at(b, p);
     let count = v.count;
     let mut cur = v.first;
-    let mut i: u64 = 0;
-    while i < count {
+    for _ in 0..count {
         let e = template::element_at(b, cur, 16, d - 1);
         print_number(rt, e.line)?;
         print(rt, b":")?;
@@ -221,7 +214,6 @@ fn print_body(rt: &impl Print, b: &[u8], p: usize, d: usize) -> io::Result<()>
         print_element(rt, b, element, d - 1)?;
         print(rt, b"\n")?;
         cur = e.next;
-        i += 1;
     }
     Ok(())
 }
