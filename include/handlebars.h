@@ -1,4 +1,4 @@
-/* Zerwydd: proved rendering core of handlebars 6.4.4. Link with libhandlebars.a (rt staticlib handlebars). */
+/* Zerwydd: proved rendering core of handlebars 6.4.4. Link with libhandlebars.a (tools/staticlib). */
 #ifndef HANDLEBARS_H
 #define HANDLEBARS_H
 
