@@ -42,15 +42,7 @@ pub extern "C" fn handlebars_render(
     ensures { left bundle.now result page.new (places.new ∷ entries.new ∷ texts.new ∷ indent.new ∷ []) ≡ predicted (inputs bundle.now plan.now start.now (options_from options) (length page.old) (length places.old ∷ length entries.old ∷ length texts.old ∷ length indent.old ∷ [])) }
 {
     handlebars::handlebars_render(
-        bundle,
-        plan,
-        start,
-        options,
-        page,
-        places,
-        entries,
-        texts,
-        indent,
+        bundle, plan, start, options, page, places, entries, texts, indent,
     )
 }
 
