@@ -11,7 +11,7 @@ fn main() {
     println!("cargo:rerun-if-env-changed=ZERWYDD_LIB");
     println!("cargo:rerun-if-changed={}", library.display());
     if !library.is_file() {
-        eprintln!("{} is missing; `rt staticlib handlebars` makes it", library.display());
+        eprintln!("{} is missing; `tools/staticlib` makes it", library.display());
         exit(1);
     }
     println!("cargo:rustc-link-search=native={}", folder.display());

@@ -2,10 +2,11 @@
 """compare.py ORACLE BATCH [options]: run the rules (specs/*.antt) over a batch of cases and compare with the oracle's answers.
 
 Each case becomes one antt declaration, a computed test that the rules' answer (number, template name, line, column, text) is the oracle's.
-The declarations go into the specs of a crate of their own, outside any repository, which is checked against the proved rules.
+The declarations go into the specs of a crate of their own, in a throwaway repository beside copies of rules and siblings, which are proved first
+(rt begins with what a check of them kept on this machine).
 
-  --rlib DIR       the proved crates rules and siblings (target/rlib beside this file's folder: run rt check first)
-  --work DIR       where the crate of cases is written (a temporary folder)
+  --crates DIR     where the crates rules and siblings stand (crates beside this file's folder)
+  --work DIR       where the repository of cases is written (a temporary folder)
   --limits S,I,E,T scopes, indent, entries, texts (32,256,4096,16384: those of the paper)
   --from N --count N   which cases of the batch, counted from 0, as in messages
   --max-bytes N    leave out cases whose bundle and plan together are larger (3000)
@@ -18,7 +19,7 @@ The declarations go into the specs of a crate of their own, outside any reposito
 
 Ends with 0 if no case differs, with 1 if one does, with 2 and a message where its input is bad, nothing is left to compare, or the check fails.
 """
-import argparse, json, os, re, struct, subprocess, sys, tempfile, time
+import argparse, json, os, re, shutil, struct, subprocess, sys, tempfile, time
 
 
 def fail(message):
@@ -37,8 +38,31 @@ def output(command):
     return r.stdout
 
 
-def toolchain():
-    return os.environ.get("RATTLE_HOME") or os.path.dirname(os.path.dirname(output(["rt", "doc"]).strip()))
+def repository(work, crates):
+    """a repository of rules, siblings and the cases, whose rules and siblings are proved"""
+    for name in ("rules", "siblings"):
+        to = os.path.join(work, "crates", name)
+        shutil.rmtree(to, ignore_errors=True)
+        try:
+            shutil.copytree(os.path.join(crates, name), to, ignore=shutil.ignore_patterns("out", "must-fail", "tried"))
+        except OSError as e:
+            fail("%s: %s" % (os.path.join(crates, name), e))
+    os.makedirs(os.path.join(work, "crates", "cases", "src"), exist_ok=True)
+    with open(os.path.join(work, "crates", "cases", "src", "lib.rt"), "w") as f:
+        f.write("// Only specs.\n#![tactic(auto)]\n")
+    with open(os.path.join(work, "crates.txt"), "w") as f:
+        f.write("rules:\nsiblings: rules\ncases: rules siblings\n")
+    with open(os.path.join(work, "log.rules"), "w") as f:
+        r = rt(["lib"], os.path.join(work, "crates", "siblings"), f)
+    if r.returncode != 0:
+        fail("rules and siblings are not proved: " + os.path.join(work, "log.rules"))
+
+
+def rt(words, folder, to=subprocess.PIPE):
+    try:
+        return subprocess.run(["rt"] + words, cwd=folder, stdin=subprocess.DEVNULL, stdout=to, stderr=subprocess.STDOUT, text=True)
+    except OSError as e:
+        fail("rt: %s" % e.strerror)
 
 
 def read_batch(path):
@@ -124,7 +148,7 @@ class Reader:
         segs = []
         for _ in range(self.num(8)):
             k = self.num(2)
-            segs.append("named " + text(self.string()) if k == 0 else ("path-root" if k == 1 else "path-up"))
+            segs.append("named " + text(self.string()) if k == 0 else ("path-root" if k == 1 else "path_up"))
         return "(relative %s (%s))" % (text(raw), " ∷ ".join(segs + ["[]"]))
 
     def parameter(self):
@@ -170,20 +194,20 @@ class Reader:
         return t
 
     def maybe(self):
-        return "(body %s)" % self.body() if self.num(1) else "no-body"
+        return "(body %s)" % self.body() if self.num(1) else "no_body"
 
     def element(self):
         k = self.num(4)
         if k == 0:
-            return "(raw-string %s)" % text(self.string())
+            return "(raw_string %s)" % text(self.string())
         if k == 8:
             return "(comment %s)" % text(self.string())
         c = self.call()
         if k in (1, 2):
-            return "(%s %s %s)" % ("html-expression" if k == 1 else "expression", c, flag(self.num(1)))
+            return "(%s %s %s)" % ("html_expression" if k == 1 else "expression", c, flag(self.num(1)))
         if k == 3:
             n = self.num(2)
-            ns = "no-names"
+            ns = "no_names"
             if n == 1:
                 ns = "(single %s)" % text(self.string())
             elif n == 2:
@@ -191,10 +215,10 @@ class Reader:
                 ns = "(pair %s %s)" % (text(a), text(self.string()))
             t = self.maybe()
             i = self.maybe()
-            return "(helper-block %s %s %s %s %s)" % (c, ns, t, i, flag(self.num(1)))
+            return "(helper_block %s %s %s %s %s)" % (c, ns, t, i, flag(self.num(1)))
         b = " " + self.body() if k in (5, 7) else ""
         indent = opt(self.string() if self.num(1) else None, text)
-        kind = {4: "decorator-expression", 5: "decorator-block", 6: "partial-expression", 7: "partial-block"}[k]
+        kind = {4: "decorator_expression", 5: "decorator_block", 6: "partial_expression", 7: "partial_block"}[k]
         return "(%s %s%s %s %s)" % (kind, c, b, indent, flag(self.num(1)))
 
     def bundle(self):
@@ -227,55 +251,51 @@ def value(v):
 
 
 BASE = """-- short forms for the cases
-use Prim.Native.Nat.{ℕ}
-use mathlib.Core.Bool.{Bool, true, false}
-use mathlib.Core.List.{List, [], _∷_}
-use mathlib.Core.Option.{Option, none, some}
-use Rattle·rules.specs.Bytes.{Bytes}
-use Rattle·rules.specs.Json.{Json}
-use Rattle·rules.specs.Template.{Template, TemplateElement, tcons}
-use Rattle·rules.specs.Registry.{Registry, Limits, Options, get-template}
-use Rattle·rules.specs.Call.{Answer, Inputs, scratch-lengths, checked}
-use Rattle·siblings.specs.Run.{run-call, run-bytes}
+use Rattle.std.specs.Prelude.{ℕ, Bool, true, false, List, [], ◌∷◌}
+use Rattle.std.proofs.Math.Option.{Option, none, some}
+use Rattle.rules.specs.Bytes.{Bytes}
+use Rattle.rules.specs.Json.{Json}
+use Rattle.rules.specs.Template.{Template, TemplateElement, tcons}
+use Rattle.rules.specs.Registry.{Registry, Limits, Options, get_template}
+use Rattle.rules.specs.Call.{Answer, Inputs, scratch_lengths, checked}
+use Rattle.siblings.specs.Run.{run_call, run_bytes}
 
 abbrev limits : ℕ → ℕ → ℕ → ℕ → ℕ → Limits
 limits scopes indent entries texts page = record { scopes = scopes; indent = indent; entries = entries; texts = texts; page = page }
 
 abbrev options : Bool → Bool → Bool → Options
-options s r u = record { strict-mode = s; recursive-lookup = r; guide-truth = u }
+options s r u = record { strict_mode = s; recursive_lookup = r; guide_truth = u }
 
 abbrev pub at : ℕ → ℕ → TemplateElement → Template → Template
 at l c e t = tcons (record { line = l; column = c }) e t
 
 -- past the first ten checks but 6
-unfoldable pub by-parts : Bool → Bool → Bool → ℕ → ℕ → ℕ → ℕ → ℕ → List (Bytes × Template) → Json → Bytes → Answer
-unfolding run-call
-by-parts s r u scopes indent entries texts page ts j start =
-    checked 6 (get-template ts start) (λ t. run-call (record { templates = ts; plan = j; options = options s r u; limits = limits scopes indent entries texts page }) start t)
+unfoldable pub by_parts : Bool → Bool → Bool → ℕ → ℕ → ℕ → ℕ → ℕ → List (Bytes × Template) → Json → Bytes → Answer
+unfolding run_call
+by_parts s r u scopes indent entries texts page ts j start =
+    checked 6 (get_template ts start) (λ t. run_call (record { templates = ts; plan = j; options = options s r u; limits = limits scopes indent entries texts page }) start t)
 
 -- from bytes
-unfoldable pub by-bytes : Bool → Bool → Bool → ℕ → ℕ → ℕ → ℕ → ℕ → Bytes → Bytes → Bytes → Answer
-unfolding run-bytes
-by-bytes s r u scopes indent entries texts page b j start =
-    run-bytes (record { scratch = scratch-lengths; bundle-bytes = b; options = options s r u; start = start; plan-text = j; limits = limits scopes indent entries texts page })
+unfoldable pub by_bytes : Bool → Bool → Bool → ℕ → ℕ → ℕ → ℕ → ℕ → Bytes → Bytes → Bytes → Answer
+unfolding run_bytes
+by_bytes s r u scopes indent entries texts page b j start =
+    run_bytes (record { scratch = scratch_lengths; bundle_bytes = b; options = options s r u; start = start; plan_text = j; limits = limits scopes indent entries texts page })
 
 abbrev pub prints : Bytes → Answer
-prints w = record { number = 0; template-name = none; line = 0; column = 0; text = w }
+prints w = record { number = 0; template_name = none; line = 0; column = 0; text = w }
 
 abbrev pub refuses : ℕ → Bytes → ℕ → ℕ → Answer
-refuses n t l c = record { number = n; template-name = some t; line = l; column = c; text = [] }
+refuses n t l c = record { number = n; template_name = some t; line = l; column = c; text = [] }
 """
 
-HEAD = """use mathlib.Core.Bool.{Bool, true, false}
-use mathlib.Core.List.{List, [], _∷_}
-use mathlib.Core.Option.{Option, none, some}
-use mathlib.Core.Path.{_≡_, refl}
-use Rattle·rules.specs.Bytes.{Bytes, ascii}
-use Rattle·rules.specs.Json.{Json, jnull, jbool, jpos, jneg, jstr, jarr, jobj, Jsons, jnil, jcons, Map, mnil, mcons}
-use Rattle·rules.specs.Path.{Path, relative, local, PathSeg, named, path-root, path-up}
-use Rattle·rules.specs.Template.{Literal, null, boolean, unsigned, negative, string, Parameter, name, path, literal, subexpression, Call, call, Params, pnil, pcons, Hash, hnil, hcons, BlockParam, no-names, single, pair, Template, tnil, tcons, Body, no-body, body, TemplateElement, raw-string, html-expression, expression, helper-block, decorator-expression, decorator-block, partial-expression, partial-block, comment}
-use Rattle·rules.specs.Call.{refused}
-use Rattle·cases·specs.specs.Base.{at, by-parts, by-bytes, prints, refuses}
+HEAD = """use Rattle.std.specs.Prelude.{Bool, true, false, List, [], ◌∷◌, ◌≡◌, refl}
+use Rattle.std.proofs.Math.Option.{Option, none, some}
+use Rattle.rules.specs.Bytes.{Bytes, ascii}
+use Rattle.rules.specs.Json.{Json, jnull, jbool, jpos, jneg, jstr, jarr, jobj, Jsons, jnil, jcons, Map, mnil, mcons}
+use Rattle.rules.specs.Path.{Path, relative, local, PathSeg, named, path-root, path_up}
+use Rattle.rules.specs.Template.{Literal, null, boolean, unsigned, negative, string, Parameter, name, path, literal, subexpression, Call, call, Params, pnil, pcons, Hash, hnil, hcons, BlockParam, no_names, single, pair, Template, tnil, tcons, Body, no_body, body, TemplateElement, raw_string, html_expression, expression, helper_block, decorator_expression, decorator_block, partial_expression, partial_block, comment}
+use Rattle.rules.specs.Call.{refused}
+use Rattle.cases.specs.Base.{at, by_parts, by_bytes, prints, refuses}
 
 """
 
@@ -291,9 +311,9 @@ def declaration(i, case, answer, limits, by_bytes):
     else:
         want = "refuses %s %s %s %s" % (number, text(un(tname)), line, column)
     if by_bytes:
-        how, of, data = "by-bytes", text(bundle), text(plan)
+        how, of, data = "by_bytes", text(bundle), text(plan)
     else:
-        how, of, data = "by-parts", "(%s)" % Reader(bundle).bundle(), value(json.loads(plan.decode()))
+        how, of, data = "by_parts", "(%s)" % Reader(bundle).bundle(), value(json.loads(plan.decode()))
     given = "%s %s %s %s %d %d %d %d %d %s %s %s" % (
         how, flag(options & 1), flag(options & 2), flag(options & 4), *limits, page, of, data, text(name))
     return "c%d : %s ≡ %s\nunfolding %s\nc%d = refl\n\n" % (i, given, want, how, i)
@@ -321,7 +341,7 @@ def main():
     a = argparse.ArgumentParser()
     a.add_argument("oracle")
     a.add_argument("batch")
-    a.add_argument("--rlib", default=os.path.join(os.path.dirname(os.path.abspath(__file__)), "..", "target", "rlib"))
+    a.add_argument("--crates", default=os.path.join(os.path.dirname(os.path.abspath(__file__)), "..", "crates"))
     a.add_argument("--work")
     a.add_argument("--limits", type=four, default="32,256,4096,16384")
     a.add_argument("--from", dest="first", type=natural, default=0)
@@ -333,11 +353,9 @@ def main():
     a.add_argument("--chunk", type=positive, default=1000)
     a.add_argument("--bytes", action="store_true")
     o = a.parse_args()
-    rlib = os.path.abspath(o.rlib)
     for crate in ("rules", "siblings"):
-        if not os.path.exists("%s/%s.rlib" % (rlib, crate)):
-            fail("%s/%s.rlib is missing: run `rt check %s` first, or name the folder by --rlib" % (rlib, crate, crate))
-    kit = toolchain()
+        if not os.path.exists(os.path.join(o.crates, crate, "src")):
+            fail("%s/%s is missing: name the folder of the crates by --crates" % (o.crates, crate))
     cases = read_batch(o.batch)
     answers = [l.split(" ") for l in output([o.oracle, "--batch", o.batch]).splitlines()]
     if len(cases) != len(answers) or any(len(l) != 6 for l in answers):
@@ -360,14 +378,13 @@ def main():
     for i in chosen:
         numbers[answers[i][0]] = numbers.get(answers[i][0], 0) + 1
     work = o.work or tempfile.mkdtemp(prefix="cases.")
+    repository(work, o.crates)
     started, spent, differ, undecided = time.time(), 0.0, [], []
     for k in range(0, len(chosen), o.chunk):
         part = chosen[k:k + o.chunk]
-        crate = os.path.join(work, "cases")
-        subprocess.run(["rm", "-rf", crate], check=True)
-        os.makedirs(crate + "/src")
+        crate = os.path.join(work, "crates", "cases")
+        shutil.rmtree(crate + "/specs", ignore_errors=True)
         os.makedirs(crate + "/specs")
-        open(crate + "/src/lib.rt", "w").write("// only specs\n")
         open(crate + "/specs/Base.antt", "w").write(BASE)
         mods = ["Base"]
         for m in range(0, len(part), o.per_module):
@@ -378,14 +395,10 @@ def main():
                 for i in part[m:m + o.per_module]:
                     f.write(declaration(i, cases[i], answers[i], o.limits, o.bytes))
         open(crate + "/specs/Lib.antt", "w").write("".join("pub mod %s\n" % m for m in mods))
-        own = os.path.join(kit, "on", os.uname().machine)
         t = time.time()
-        r = subprocess.run([os.path.join(own, "bin", "rattle"), "check", "--crate-name", "cases", crate + "/src/lib.rt",
-                            "--extern", "std=%s/rlib/std.rlib" % own, "--extern", "rules=" + rlib + "/rules.rlib", "--extern", "siblings=" + rlib + "/siblings.rlib", "-L", "dependency=%s/rlib" % own, "-L", "dependency=" + rlib,
-                            "--antt-project", kit + "/logic/antt-project.json", "--logic-built", own + "/logic-built"],
-                           capture_output=True, text=True)
+        r = rt(["check"], crate)
         spent += time.time() - t
-        out = r.stdout + r.stderr
+        out = r.stdout
         open(os.path.join(work, "log.%d" % (k // o.chunk)), "w").write(out)
         bad = sorted(set(int(x) for x in re.findall(r"error: (?:in )?`c(\d+)`", out)))
         costly = set(int(x) for x in re.findall(r"error: (?:in )?`c(\d+)`: in its elaboration [^\n]*(?:stopped at the step limit|outgrew the memory limit)", out))

@@ -1,4 +1,4 @@
-// The library: what C and Rust callers get. include/handlebars.h declares it.
+// The library. What C callers get stands in handlebars_c, which exports the four functions of the names handlebars_..; include/handlebars.h declares them.
 #![tactic(auto)]
 
 ghost use Rattle.std.specs.Prelude.{[], ◌∷◌, ◌≡◌, length};
@@ -12,12 +12,12 @@ use layout::Verdict;
 
 mod call;
 mod draw;
-mod names;
+mod naming;
 mod numbers;
 mod start;
 
 pub use call::render;
-pub use names::handlebars_template_name;
+pub use naming::handlebars_template_name;
 use numbers::{BUNDLE_LAYOUT, BUNDLE_TOO_LARGE, PARTIAL_PARAMETER, SCRATCH_TOO_SHORT};
 
 // The entries that a table of the plan's values has; include/handlebars.h has the same number.
@@ -38,8 +38,7 @@ pub struct Answer {
 }
 
 // Checks 2, 3 and 4 of any bytes: the number of the refusal, or 0.
-#[unsafe(no_mangle)]
-pub extern "C" fn handlebars_check_bundle(bundle: &[u8]) -> u32
+pub fn handlebars_check_bundle(bundle: &[u8]) -> u32
     ensures { result ≡ verdict_number (verdict bundle.now) }
 {
     let v = layout::check_bundle(bundle);
@@ -53,8 +52,7 @@ pub extern "C" fn handlebars_check_bundle(bundle: &[u8]) -> u32
 
 // Checks 7 to 10 of any bytes: the number of the refusal, or 0 and the table of the plan's values. A table that is too short is refused
 // with 1. After a refusal the table is all zero.
-#[unsafe(no_mangle)]
-pub extern "C" fn handlebars_check_plan(plan: &[u8], table: &mut [u64]) -> u32
+pub fn handlebars_check_plan(plan: &[u8], table: &mut [u64]) -> u32
     ensures { (result ≡ plan_number (length table.old) plan.now) × (table.new ≡ plan_table (length table.old) plan.now) }
 {
     if table.len() < VALUES {
@@ -76,8 +74,7 @@ fn options_from(bits: u32) -> Options
 }
 
 // The call for C: options is 1 for strict, 2 for recursive lookup, 4 for guide truth, or a sum of these.
-#[unsafe(no_mangle)]
-pub extern "C" fn handlebars_render(
+pub fn handlebars_render(
     bundle: &[u8],
     plan: &[u8],
     start: &[u8],

@@ -5,8 +5,8 @@ use Prim.Native.Nat.{◌-◌}
 use lib.ListN.{length}
 use native.Mathlib.Omega.{arith}
 use borrow.Author.Rules.{rules}
-use Rattle.handlebars.proofs.names.handlebars_template_name.Statement.{statement}
-use Rattle.handlebars.proofs.names.handlebars_template_name.Tie as tie
+use Rattle.handlebars.proofs.naming.handlebars_template_name.Statement.{statement}
+use Rattle.handlebars.proofs.naming.handlebars_template_name.Tie as tie
 
 clear-u8-requires : tie.Need-clear-u8-requires
 clear-u8-requires c κs = search rules

@@ -22,8 +22,7 @@ fn fits(b: &[u8], p: usize, n: usize) -> bool
 
 // The bytes of the name that the number template stands for, and zeros behind them: how many they are. None for 0, where no string lies
 // within the bundle there, and where it does not fit the buffer.
-#[unsafe(no_mangle)]
-pub extern "C" fn handlebars_template_name(bundle: &[u8], template: usize, out: &mut [u8]) -> usize
+pub fn handlebars_template_name(bundle: &[u8], template: usize, out: &mut [u8]) -> usize
     ensures { Filled (template_name bundle.now template (length out.old)) (length out.old) result out.new }
 {
     clear::clear_u8(out);

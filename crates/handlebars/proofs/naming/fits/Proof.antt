@@ -4,8 +4,8 @@ use Rattle.rules.specs.BundleLaws.{bits_binary}
 use Rattle.rules.specs.LayoutLaws.{field_lt}
 use Rattle.rules.specs.Bits.{bits}
 use borrow.Author.Rules.{rules}
-use Rattle.handlebars.proofs.names.fits.Statement.{statement}
-use Rattle.handlebars.proofs.names.fits.Tie as tie
+use Rattle.handlebars.proofs.naming.fits.Statement.{statement}
+use Rattle.handlebars.proofs.naming.fits.Tie as tie
 
 returns : tie.Need-returns
 returns c = let z = c.before.before in fits_long z.args.b.now z.args.n z.args.p c.if1.true
