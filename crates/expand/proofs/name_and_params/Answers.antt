@@ -21,10 +21,10 @@ path_value-requires c = let z = c in
 
 pub returns-then-c-eq0 : goal.returns-then-c-eq0
 returns-then-c-eq0 c = let z = c in
-    let y = short_read z.args.d (bits z.args.b.now) (bits_binary z.args.b.now) z.args.p z.requires.5 _ (sym c.in-Named.is ∙ c.short_at-x.ensures) in (
-      λ g st t h. subst (IsTemplate z.args.s.now z.args.b.now z.args.ent.now t _) (sym c.bare-then-c-eq0.ensures) (head_bare z.args.s.now z.args.b.now z.args.ent.now t z.args.d z.args.p z.requires.5 _ y.0 g st _ y.2 y.1 c.if-c-eq0.true),
-      ap (λ (w : Expanded). w.zero) c.bare-then-c-eq0.ensures,
-    )
+    let y = short_read z.args.d (bits z.args.b.now) (bits_binary z.args.b.now) z.args.p z.requires.5 _ (sym c.in-Named.is ∙ c.short_at-x.ensures) in (record {
+      template = λ g st t h. subst (IsTemplate z.args.s.now z.args.b.now z.args.ent.now t _) (sym c.bare-then-c-eq0.ensures) (head_bare z.args.s.now z.args.b.now z.args.ent.now t z.args.d z.args.p z.requires.5 _ y.0 g st _ y.2 y.1 c.if-c-eq0.true);
+      zero_value = ap (λ (w : Expanded). w.zero) c.bare-then-c-eq0.ensures;
+    })
 
 pub expand_all-ps-requires : goal.expand_all-ps-requires
 expand_all-ps-requires c = let z = c in
@@ -43,34 +43,34 @@ expand_all-ps-requires-in-Other c = let z = c in
 
 pub returns-in-Bare : goal.returns-in-Bare
 returns-in-Bare c = let z = c in
-    let x = short_read z.args.d (bits z.args.b.now) (bits_binary z.args.b.now) z.args.p z.requires.5 _ (sym c.in-Bare.is ∙ c.short_at-x.ensures) in (
-      λ g st t h. subst (IsTemplate z.args.s.now z.args.b.now z.args.ent.now t _) (sym c.bare.ensures)
-          (subst (λ (y : template.Call). IsTemplate z.args.s.now z.args.b.now z.args.ent.now t (rules.try_from_template g st (without_hash y)) (bare c.in-Bare.q)) (sym x.0) (bare_given z.args.s.now z.args.b.now z.args.ent.now t _ x.1 g st)),
-      ap (λ (w : Expanded). w.zero) c.bare.ensures,
-    )
+    let x = short_read z.args.d (bits z.args.b.now) (bits_binary z.args.b.now) z.args.p z.requires.5 _ (sym c.in-Bare.is ∙ c.short_at-x.ensures) in (record {
+      template = λ g st t h. subst (IsTemplate z.args.s.now z.args.b.now z.args.ent.now t _) (sym c.bare.ensures)
+          (subst (λ (y : template.Call). IsTemplate z.args.s.now z.args.b.now z.args.ent.now t (rules.try_from_template g st (without_hash y)) (bare c.in-Bare.q)) (sym x.0) (bare_given z.args.s.now z.args.b.now z.args.ent.now t _ x.1 g st));
+      zero_value = ap (λ (w : Expanded). w.zero) c.bare.ensures;
+    })
 
 pub returns-in-One : goal.returns-in-One
 returns-in-One c = let z = c in
-    let x = short_read z.args.d (bits z.args.b.now) (bits_binary z.args.b.now) z.args.p z.requires.5 _ (sym c.in-One.is ∙ c.short_at-x.ensures) in (
-      λ g st t h. subst (IsTemplate z.args.s.now z.args.b.now z.args.ent.now t _) (sym c.with_one.ensures)
-          (subst (λ (y : template.Call). IsTemplate z.args.s.now z.args.b.now z.args.ent.now t (rules.try_from_template g st (without_hash y)) (with_one c.in-One.q c.path_value.result)) (sym x.0) (one_given z.args.s.now z.args.b.now z.args.ent.now t _ x.1 g st _ c.path_value.result (c.path_value.ensures g st t h))),
-      ap (λ (w : Expanded). w.zero) c.with_one.ensures ∙ one_zero _ c.path_value.result,
-    )
+    let x = short_read z.args.d (bits z.args.b.now) (bits_binary z.args.b.now) z.args.p z.requires.5 _ (sym c.in-One.is ∙ c.short_at-x.ensures) in (record {
+      template = λ g st t h. subst (IsTemplate z.args.s.now z.args.b.now z.args.ent.now t _) (sym c.with_one.ensures)
+          (subst (λ (y : template.Call). IsTemplate z.args.s.now z.args.b.now z.args.ent.now t (rules.try_from_template g st (without_hash y)) (with_one c.in-One.q c.path_value.result)) (sym x.0) (one_given z.args.s.now z.args.b.now z.args.ent.now t _ x.1 g st _ c.path_value.result (c.path_value.ensures g st t h)));
+      zero_value = ap (λ (w : Expanded). w.zero) c.with_one.ensures ∙ one_zero _ c.path_value.result;
+    })
 
 pub returns-else-c-eq0 : goal.returns-else-c-eq0
 returns-else-c-eq0 c = let z = c in
     let y = short_read z.args.d (bits z.args.b.now) (bits_binary z.args.b.now) z.args.p z.requires.5 _ (sym c.in-Named.is ∙ c.short_at-x.ensures) in
-    let n = Is (Text c.in-Named.q) in (
-      λ g st t h. subst (IsTemplate z.args.s.now z.args.b.now z.args.ent.now t _) (sym c.gathered.ensures)
-          (head_given z.args.s.now z.args.b.now z.args.ent.now t z.args.d z.args.p z.requires.5 _ y.0 g st n c.expand_all-ps.result (string_given z.args.s.now z.args.b.now z.args.ent.now t _ y.2 g st _ y.1) (c.expand_all-ps.ensures g st t h)),
-      ap (λ (w : Expanded). w.zero) c.gathered.ensures,
-    )
+    let n = Is (Text c.in-Named.q) in (record {
+      template = λ g st t h. subst (IsTemplate z.args.s.now z.args.b.now z.args.ent.now t _) (sym c.gathered.ensures)
+          (head_given z.args.s.now z.args.b.now z.args.ent.now t z.args.d z.args.p z.requires.5 _ y.0 g st n c.expand_all-ps.result (string_given z.args.s.now z.args.b.now z.args.ent.now t _ y.2 g st _ y.1) (c.expand_all-ps.ensures g st t h));
+      zero_value = ap (λ (w : Expanded). w.zero) c.gathered.ensures;
+    })
 
 pub returns-in-Other : goal.returns-in-Other
 returns-in-Other c = let z = c in
     let v = c.call_at-c.result in
-    let n = c.expand_as_name-name.result in (
-      λ g st t h. subst (IsTemplate z.args.s.now z.args.b.now z.args.ent.now t _) (sym c.gathered-in-Other.ensures)
-          (head_given z.args.s.now z.args.b.now z.args.ent.now t z.args.d z.args.p z.requires.5 v c.call_at-c.ensures g st n c.expand_all-ps-in-Other.result (c.expand_as_name-name.ensures g st t h) (c.expand_all-ps-in-Other.ensures g st t h)),
-      ap (λ (w : Expanded). w.zero) c.gathered-in-Other.ensures ∙ gathered_zero n v.params c.expand_all-ps-in-Other.result,
-    )
+    let n = c.expand_as_name-name.result in (record {
+      template = λ g st t h. subst (IsTemplate z.args.s.now z.args.b.now z.args.ent.now t _) (sym c.gathered-in-Other.ensures)
+          (head_given z.args.s.now z.args.b.now z.args.ent.now t z.args.d z.args.p z.requires.5 v c.call_at-c.ensures g st n c.expand_all-ps-in-Other.result (c.expand_as_name-name.ensures g st t h) (c.expand_all-ps-in-Other.ensures g st t h));
+      zero_value = ap (λ (w : Expanded). w.zero) c.gathered-in-Other.ensures ∙ gathered_zero n v.params c.expand_all-ps-in-Other.result;
+    })

@@ -1,0 +1,46 @@
+use Rattle.meaning.specs.Forms.{Formed}
+use Rattle.meaning.specs.Means.{means}
+use Rattle.meaning.specs.declared.Form.TheVariants.{Boolean, List, Merged, Negative, Null, Object, String, Unsigned}
+use borrow.Author.Rules.{rules}
+use mathlib.Core.Path.{refl, subst}
+use Rattle.decorators.proofs.is_string.Goals as goal
+
+pub returns-in-Null : goal.returns-in-Null
+returns-in-Null c = let s = c in
+    let h = subst (Formed s.args.s.now s.args.b.now s.args.v) c.in-Null.is c.form_of.ensures in
+    means s.args.s.now s.args.b.now _ s.args.v Null h refl
+
+pub returns-in-Boolean : goal.returns-in-Boolean
+returns-in-Boolean c = let s = c in
+    let h = subst (Formed s.args.s.now s.args.b.now s.args.v) c.in-Boolean.is c.form_of.ensures in
+    means s.args.s.now s.args.b.now _ s.args.v (Boolean c.in-Boolean.t) h refl
+
+pub returns-in-Unsigned : goal.returns-in-Unsigned
+returns-in-Unsigned c = let s = c in
+    let h = subst (Formed s.args.s.now s.args.b.now s.args.v) c.in-Unsigned.is c.form_of.ensures in
+    means s.args.s.now s.args.b.now _ s.args.v (Unsigned c.in-Unsigned.n) h refl
+
+pub returns-in-Negative : goal.returns-in-Negative
+returns-in-Negative c = let s = c in
+    let h = subst (Formed s.args.s.now s.args.b.now s.args.v) c.in-Negative.is c.form_of.ensures in
+    means s.args.s.now s.args.b.now _ s.args.v (Negative c.in-Negative.n) h refl
+
+pub returns-in-String : goal.returns-in-String
+returns-in-String c = let s = c in
+    let h = subst (Formed s.args.s.now s.args.b.now s.args.v) c.in-String.is c.form_of.ensures in
+    means s.args.s.now s.args.b.now _ s.args.v (String c.in-String.t) h (λ _. refl)
+
+pub returns-in-List : goal.returns-in-List
+returns-in-List c = let s = c in
+    let h = subst (Formed s.args.s.now s.args.b.now s.args.v) c.in-List.is c.form_of.ensures in
+    means s.args.s.now s.args.b.now _ s.args.v (List c.in-List.i) h (λ l _ e. refl)
+
+pub returns-in-Object : goal.returns-in-Object
+returns-in-Object c = let s = c in
+    let h = subst (Formed s.args.s.now s.args.b.now s.args.v) c.in-Object.is c.form_of.ensures in
+    means s.args.s.now s.args.b.now _ s.args.v (Object c.in-Object.i) h (λ m _ e. refl)
+
+pub returns-in-Merged : goal.returns-in-Merged
+returns-in-Merged c = let s = c in
+    let h = subst (Formed s.args.s.now s.args.b.now s.args.v) c.in-Merged.is c.form_of.ensures in
+    means s.args.s.now s.args.b.now _ s.args.v (Merged c.in-Merged.h c.in-Merged.n) h (λ m e. refl)
