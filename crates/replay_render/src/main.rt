@@ -110,10 +110,8 @@ fn within(at: usize) -> usize
 fn plain(f: &[u8], at: usize, n: usize, out: &mut [u8], to: usize)
     requires { at ≤ 524288 × n < 65536 × to ≤ 524288 }
 {
-    let mut i: usize = 0;
-    while i < n {
+    for i in 0..n {
         set(out, to + i, get(f, at + i));
-        i += 1;
     }
 }
 
@@ -129,11 +127,9 @@ fn before(out: &[u8], at: usize, back: usize) -> u8 {
 fn repeated(out: &mut [u8], to: usize, n: usize, back: usize)
     requires { n < 65536 × to ≤ 524288 }
 {
-    let mut i: usize = 0;
-    while i < n {
+    for i in 0..n {
         let x = before(out, to + i, back);
         set(out, to + i, x);
-        i += 1;
     }
 }
 
@@ -148,8 +144,7 @@ fn unpack(f: &[u8], from: usize, out: &mut [u8], to: usize, room: usize) -> Unpa
     }
     let mut at = within(from + 4);
     let mut len: usize = 0;
-    let mut turns: usize = 0;
-    while turns < 65536 {
+    for _ in 0..65536 {
         if size <= len {
             return Unpacked {
                 len: size,
@@ -163,7 +158,6 @@ fn unpack(f: &[u8], from: usize, out: &mut [u8], to: usize, room: usize) -> Unpa
         repeated(out, to + len + n, count, back);
         len = len + n + count;
         at = within(at + 6 + n);
-        turns += 1;
     }
     Unpacked { len: 0, next: END }
 }
@@ -204,23 +198,19 @@ fn case_at(f: &[u8], from: usize, strings: &mut [u8]) -> Case
 
 // Whether all is zero from the place on.
 fn zero_from(b: &[u8], at: usize) -> bool {
-    let mut i = at;
-    while i < b.len() {
+    for i in at..b.len() {
         if b[i] != 0 {
             return false;
         }
-        i += 1;
     }
     true
 }
 
 fn all_zero(b: &[u64]) -> bool {
-    let mut i: usize = 0;
-    while i < b.len() {
-        if b[i] != 0 {
+    for x in b {
+        if *x != 0 {
             return false;
         }
-        i += 1;
     }
     true
 }
@@ -233,12 +223,10 @@ fn scratch_zero(places: &[u64], entries: &[u64], texts: &[u8], indent: &[u8]) ->
 fn same(a: &[u8], b: &[u8], at: usize, n: usize) -> bool
     requires { at ≤ 131328 × n ≤ 65600 }
 {
-    let mut i: usize = 0;
-    while i < n {
+    for i in 0..n {
         if get(a, i) != get(b, at + i) {
             return false;
         }
-        i += 1;
     }
     true
 }
@@ -423,14 +411,12 @@ fn replay(
 {
     let cases = number_at(f, 0);
     let mut at: usize = 4;
-    let mut i: usize = 0;
-    while i < cases {
+    for i in 0..cases {
         let c = case_at(f, at, strings);
         let agreed = agrees(strings, c);
         count(counts, c.number as usize, agreed);
         print_unless(rt, agreed, file, i)?;
         at = c.next;
-        i += 1;
     }
     Ok(())
 }
@@ -491,11 +477,9 @@ fn all_files(
 ) -> io::Result<()>
     requires { 196928 ≤ length strings.old }
 {
-    let mut k: u8 = 0;
-    while k < 99 {
+    for k in 0..99 {
         let name = file_name(rt.alloc(), k)?;
         one_file(rt, k, name.as_str(), file, strings, counts)?;
-        k += 1;
     }
     Ok(())
 }
@@ -505,13 +489,11 @@ fn print_count(rt: &impl Print, number: usize, agreed: usize, all: usize) -> io:
 }
 
 fn print_counts(rt: &impl Print, counts: &[usize; 64]) -> io::Result<()> {
-    let mut n: usize = 0;
-    while n < 32 {
+    for n in 0..32 {
         let all = counts[n];
         if 0 < all {
             print_count(rt, n, counts[n + 32], all)?;
         }
-        n += 1;
     }
     Ok(())
 }
