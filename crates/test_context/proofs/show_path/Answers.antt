@@ -5,7 +5,7 @@ use Rattle.settings.specs.Settings.{some_setting}
 use Rattle.test_context.proofs.show_path.Goals as goal
 
 pub print_value-requires : goal.print_value-requires
-print_value-requires g c = 
+print_value-requires g c =
     let s = c.args.s.now in
     let b = c.args.b.now in
     let ent = c.args.ent.now in

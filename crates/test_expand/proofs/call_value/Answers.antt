@@ -2,7 +2,7 @@ use Rattle.settings.specs.Settings.{some_setting, expanded_held, got_known}
 use Rattle.test_expand.proofs.call_value.Goals as goal
 
 pub called-requires : goal.called-requires
-called-requires c = 
+called-requires c =
     let s = c.args.s.now in
     let b = c.args.b.now in
     let ent = c.args.ent.now in
@@ -11,7 +11,7 @@ called-requires c =
     (c.requires.0, c.requires.1, expanded_held s b ent t c.args.scopes c.args.used _ c.try_from_template-w.result w.setting.stand (c.try_from_template-w.ensures w.g w.st t w.setting) c.if-w-eq0.true)
 
 pub returns-then-w-eq0 : goal.returns-then-w-eq0
-returns-then-w-eq0 c = 
+returns-then-w-eq0 c =
     let s = c.args.s.now in
     let b = c.args.b.now in
     let ent = c.args.ent.now in

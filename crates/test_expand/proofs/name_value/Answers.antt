@@ -3,7 +3,7 @@ use Rattle.test_expand.proofs.Names.{name_known}
 use Rattle.test_expand.proofs.name_value.Goals as goal
 
 pub returns : goal.returns
-returns c = 
+returns c =
     let s = c.args.s.now in
     let b = c.args.b.now in
     let ent = c.args.ent.now in

@@ -2,7 +2,7 @@ use Rattle.settings.specs.Settings.{some_setting, got_known}
 use Rattle.test_expand.proofs.param_value.Goals as goal
 
 pub returns : goal.returns
-returns c = 
+returns c =
     let s = c.args.s.now in
     let b = c.args.b.now in
     let ent = c.args.ent.now in

@@ -8,16 +8,15 @@ use Rattle.rules.specs.Bits.{bits}
 use Rattle.test_expand.proofs.show_main.Goals as goal
 
 pub get_template-f-requires : goal.get_template-f-requires
-get_template-f-requires g c = 
+get_template-f-requires g c =
     let a = accepted_holds c.args.b.now c.requires.1 in
     (a.small, a.templates)
 
 pub show_body-requires : goal.show_body-requires
-show_body-requires g c = 
+show_body-requires g c =
     let s = c.args.s.now in
     let b = c.args.b.now in
-    let a = accepted_holds b c.requires.1 in
-    (
+    let a = accepted_holds b c.requires.1 in (
       c.requires.0,
       a.small,
       c.requires.2,
