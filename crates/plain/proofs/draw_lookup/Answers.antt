@@ -25,4 +25,4 @@ returns c = let a = c.args in
           (ap (λ (k : RenderContext). k.writer) (g.ensures [])) y.ensures;
       is = λ l. c.finish.ensures l ∙ ap (finished a.rc.writer) (c.wrote.ensures l ∙ ap (λ (k : RenderContext). wrote k y.result) (g.ensures l));
     } in
-    (W, λ l ent front o d p next F ready A. lookup_here a.s.now a.b.now o d p a.rc c.finish.result a.page.now a.texts.now a.indent.now y.new.page y.new.texts ent front l a.v a.html a.before next W F ready A)
+    (record { helper_wrote = W; one_drawn = λ l ent front o d p next F ready A. lookup_here a.s.now a.b.now o d p a.rc c.finish.result a.page.now a.texts.now a.indent.now y.new.page y.new.texts ent front l a.v a.html a.before next W F ready A })

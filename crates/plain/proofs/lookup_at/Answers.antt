@@ -23,8 +23,7 @@ returns-in_default c = let z = c in
 pub helper_at-requires : goal.helper_at-requires
 helper_at-requires c = let z = c in
     let b = z.args.b.now in
-    let n = c.n-1 in
-    omega (arith, z.requires.0, bits_size b, string_in (bits b) n.given.0.0 (called_name z.args.d (bits b) (bits_binary b) z.args.p z.requires.1 n.given.0.0 (sym n.given.1 ∙ c.param_at.ensures)))
+    omega (arith, z.requires.0, bits_size b, string_in (bits b) c.in-Name.n (called_name z.args.d (bits b) (bits_binary b) z.args.p z.requires.1 c.in-Name.n (sym c.in-Name.is ∙ c.param_at.ensures)))
 
 pub returns-in_default-helper_at : goal.returns-in_default-helper_at
 returns-in_default-helper_at c = let z = c in
@@ -34,8 +33,7 @@ returns-in_default-helper_at c = let z = c in
 pub skip_string-q-requires : goal.skip_string-q-requires
 skip_string-q-requires c = let z = c in
     let b = z.args.b.now in
-    let n = c.n-1 in
-    (z.requires.0, called_name z.args.d (bits b) (bits_binary b) z.args.p z.requires.1 n.given.0.0 (sym n.given.1 ∙ c.param_at.ensures))
+    (z.requires.0, called_name z.args.d (bits b) (bits_binary b) z.args.p z.requires.1 c.in-Name.n (sym c.in-Name.is ∙ c.param_at.ensures))
 
 pub returns-then-field-ne2 : goal.returns-then-field-ne2
 returns-then-field-ne2 c = let z = c in
@@ -45,14 +43,12 @@ returns-then-field-ne2 c = let z = c in
 pub overflow_add-q : goal.overflow_add-q
 overflow_add-q c = let z = c in
     let b = z.args.b.now in
-    let n = c.n-1 in
-    omega (arith, z.requires.0, bits_size b, called_fits z.args.d (bits b) (bits_binary b) z.args.p z.requires.1 n.given.0.0 (sym n.given.1 ∙ c.param_at.ensures) c.skip_string-q.result c.skip_string-q.ensures)
+    omega (arith, z.requires.0, bits_size b, called_fits z.args.d (bits b) (bits_binary b) z.args.p z.requires.1 c.in-Name.n (sym c.in-Name.is ∙ c.param_at.ensures) c.skip_string-q.result c.skip_string-q.ensures)
 
 pub param_at-requires-2 : goal.param_at-requires-2
 param_at-requires-2 c = let z = c in
     let b = z.args.b.now in
-    let n = c.n-1 in
-    omega (arith, z.requires.0, bits_size b, called_fits z.args.d (bits b) (bits_binary b) z.args.p z.requires.1 n.given.0.0 (sym n.given.1 ∙ c.param_at.ensures) c.skip_string-q.result c.skip_string-q.ensures)
+    omega (arith, z.requires.0, bits_size b, called_fits z.args.d (bits b) (bits_binary b) z.args.p z.requires.1 c.in-Name.n (sym c.in-Name.is ∙ c.param_at.ensures) c.skip_string-q.result c.skip_string-q.ensures)
 
 pub returns-in_default-param_at : goal.returns-in_default-param_at
 returns-in_default-param_at c = let z = c in
@@ -63,8 +59,7 @@ returns-in_default-param_at c = let z = c in
 pub second_at-requires : goal.second_at-requires
 second_at-requires c = let z = c in
     let b = z.args.b.now in
-    let n = c.n-1 in
-    (z.requires.0, called_second z.args.d (bits b) (bits_binary b) z.args.p z.requires.1 n.given.0.0 (sym n.given.1 ∙ c.param_at.ensures) c.skip_string-q.result c.skip_string-q.ensures (sym c.field.ensures ∙ c.if-field-ne2.false) c.in-Path.v (sym c.in-Path.is ∙ c.param_at-2.ensures))
+    (z.requires.0, called_second z.args.d (bits b) (bits_binary b) z.args.p z.requires.1 c.in-Name.n (sym c.in-Name.is ∙ c.param_at.ensures) c.skip_string-q.result c.skip_string-q.ensures (sym c.field.ensures ∙ c.if-field-ne2.false) c.in-Path.v (sym c.in-Path.is ∙ c.param_at-2.ensures))
 
 pub returns : goal.returns
 returns c = let z = c in

@@ -1,10 +1,10 @@
-use mathlib.Core.Logic.{⊎_elim}
 use native.Mathlib.Omega.{arith}
 use Rattle.rules.specs.BundleLaws.{bits_size, bits_binary}
 use Rattle.rules.specs.Bits.{bits}
 use Rattle.template.specs.Content.{element_fits}
 use Rattle.plain.specs.Reading.{raw_count, text_read, other_read, kind_here, expression_read, no_path, path_there, more_there, path_behind, path_read}
 use borrow.Author.Rules.{rules}
+use Rattle.plain.proofs.plain_at.Goals.{then-x-eq1+else-field-le1, else-x-eq1}
 use Rattle.plain.proofs.plain_at.Goals as goal
 
 pub returns-then-kind-eq0 : goal.returns-then-kind-eq0
@@ -48,8 +48,8 @@ returns c = let z = c in
     let f = c.field-x in
     let K = kind_here z.args.d (bits b) (bits_binary b) z.args.p z.requires.1 f.result f.ensures c.if-kind-eq0.false (omega (arith, c.if-kind-gt2.false)) in (
       expression_read z.args.d (bits b) (bits_binary b) z.args.p z.requires.1 f.result f.ensures _ K,
-      ⊎_elim
-          (λ w. more_there z.args.d (bits b) (bits_binary b) z.args.p z.requires.1 f.result f.ensures _ K w.0.taken w.1.result w.2.result w.1.ensures w.2.ensures (omega (arith, w.3.left)))
-          (λ w. no_path z.args.d (bits b) (bits_binary b) z.args.p z.requires.1 f.result f.ensures _ K w.left)
-          c.if-x-eq1.branch,
+      elim c.if-x-eq1.branch [
+        | then-x-eq1+else-field-le1 w ↦ more_there z.args.d (bits b) (bits_binary b) z.args.p z.requires.1 f.result f.ensures _ K w.if-x-eq1.true w.path_end-e.result w.field.result w.path_end-e.ensures w.field.ensures (omega (arith, w.if-field-le1.false))
+        | else-x-eq1 w ↦ no_path z.args.d (bits b) (bits_binary b) z.args.p z.requires.1 f.result f.ensures _ K w.if-x-eq1.false
+      ],
     )

@@ -20,8 +20,8 @@ returns-then-w c = let s = c in
     let o = a.texts.now in
     let g = c.set_short in
     let x = c.field-x.result in
-    let v = short_bytes a.n x in (
-      record {
+    let v = short_bytes a.n x in (record {
+      put = record {
         none = λ z. (refl, none_set v o g.new.out (place_of a.w) g.result g.ensures.1 z);
         some = λ z. let k = short_set a.n x o g.new.out a.w g.result g.ensures.0 g.ensures.1 g.ensures.2 z in record {
           byte = k.1.byte;
@@ -29,9 +29,9 @@ returns-then-w c = let s = c in
           is = λ i. on_texts (written_text i v) a.w (behind a.n (g.result - 1) a.w) a.page.now a.texts.now g.new.out c.if-w.true (k.1.is i)
               ∙ ap (λ (y : Bytes). fed i y (outputs a.w a.page.now a.texts.now)) (short_packed (bits a.b.now) (bits_binary a.b.now) a.p a.n x k.0 c.field-x.ensures);
         };
-      },
-      g.ensures.0 ∙ ap (λ (y : Bool). set_short a.w (pick y (length a.texts.now) (length a.page.now)) a.n x) (sym c.if-w.true) ∙ ap (set_short a.w (pick a.w.block_text (length a.texts.now) (length a.page.now)) a.n) c.field-x.ensures,
-    )
+      };
+      value = g.ensures.0 ∙ ap (λ (y : Bool). set_short a.w (pick y (length a.texts.now) (length a.page.now)) a.n x) (sym c.if-w.true) ∙ ap (set_short a.w (pick a.w.block_text (length a.texts.now) (length a.page.now)) a.n) c.field-x.ensures;
+    })
 
 pub returns : goal.returns
 returns c = let s = c in
@@ -39,8 +39,8 @@ returns c = let s = c in
     let o = a.page.now in
     let g = c.set_short-2 in
     let x = c.field-x.result in
-    let v = short_bytes a.n x in (
-      record {
+    let v = short_bytes a.n x in (record {
+      put = record {
         none = λ z. (none_set v o g.new.out (place_of a.w) g.result g.ensures.1 z, refl);
         some = λ z. let k = short_set a.n x o g.new.out a.w g.result g.ensures.0 g.ensures.1 g.ensures.2 z in record {
           byte = k.1.byte;
@@ -48,6 +48,6 @@ returns c = let s = c in
           is = λ i. on_page (written_text i v) a.w (behind a.n (g.result - 1) a.w) a.page.now a.texts.now g.new.out c.if-w.false (k.1.is i)
               ∙ ap (λ (y : Bytes). fed i y (outputs a.w a.page.now a.texts.now)) (short_packed (bits a.b.now) (bits_binary a.b.now) a.p a.n x k.0 c.field-x.ensures);
         };
-      },
-      g.ensures.0 ∙ ap (λ (y : Bool). set_short a.w (pick y (length a.texts.now) (length a.page.now)) a.n x) (sym c.if-w.false) ∙ ap (set_short a.w (pick a.w.block_text (length a.texts.now) (length a.page.now)) a.n) c.field-x.ensures,
-    )
+      };
+      value = g.ensures.0 ∙ ap (λ (y : Bool). set_short a.w (pick y (length a.texts.now) (length a.page.now)) a.n x) (sym c.if-w.false) ∙ ap (set_short a.w (pick a.w.block_text (length a.texts.now) (length a.page.now)) a.n) c.field-x.ensures;
+    })
