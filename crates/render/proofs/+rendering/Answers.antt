@@ -739,7 +739,7 @@ render_elements-loop-i-preserved-in-Value t c = let a = c.args in
     let O : OneDrawn a.s.now a.b.now a.options (a.d - 1) l.cur lw m next =
     elim J.branch [
       | render_elements-then-put-eq0-2+else-q-ne0-2 t ↦ one_in a.s.now a.b.now a.options (a.d - 1) l.cur lw (whole J.q l.«open») (wrote k₀ t.write_value-w.result) t.write_value-w.new.page J.page t.write_value-w.new.texts J.texts l.indent l.ent next (ap (λ (x : code.RenderContext). whole x l.«open») t.q-is ∙ t.wrote-q-then-put-eq0-2.ensures l.«open») t.page-is t.texts-is
-          (value_here a.s.now a.b.now a.options (a.d - 1) l.cur k₀ l.page l.texts l.indent l.ent D.goes.ready l.front l.q.names l.«open» S N html next (shows.Value (decoded v)) A t.decode.result (ap shows.Value (sym t.decode.ensures)) t.write_value-w.result t.write_value-w.new.page t.write_value-w.new.texts (value_same a.s.now a.b.now t.decode.result l.indent (not (html || l.q.disable_escape)) l.q.writer t.write_value-w.result l.page l.texts p.new.page p.new.texts t.write_value-w.new.page t.write_value-w.new.texts (p.ensures.none t.if-put-eq0-2.true) t.write_value-w.ensures))
+          (value_here a.s.now a.b.now a.options (a.d - 1) l.cur k₀ l.page l.texts l.indent l.ent D.goes.ready l.front l.q.names l.«open» S N html next (shows.Value (decoded v)) A t.decode-u.result (ap shows.Value (sym t.decode-u.ensures)) t.write_value-w.result t.write_value-w.new.page t.write_value-w.new.texts (value_same a.s.now a.b.now t.decode-u.result l.indent (not (html || l.q.disable_escape)) l.q.writer t.write_value-w.result l.page l.texts p.new.page p.new.texts t.write_value-w.new.page t.write_value-w.new.texts (p.ensures.none t.if-put-eq0-2.true) t.write_value-w.ensures))
       | render_elements-else-put-eq0-2 t ↦ one_in a.s.now a.b.now a.options (a.d - 1) l.cur lw (whole J.q l.«open») (wrote k₀ t.behind-w-else-put-eq0-2.result) p.new.page J.page p.new.texts J.texts l.indent l.ent next (ap (λ (x : code.RenderContext). whole x l.«open») t.q-is ∙ t.set_writer-q-else-put-eq0-2.ensures l.«open» ∙ sym (wrote_all k₀ t.behind-w-else-put-eq0-2.result (ap (λ (x : Writer). x.full) t.behind-w-else-put-eq0-2.ensures ∙ D.goes.ready.sound.goes))) t.page-is t.texts-is
           (value_here a.s.now a.b.now a.options (a.d - 1) l.cur k₀ l.page l.texts l.indent l.ent D.goes.ready l.front l.q.names l.«open» S N html next (shows.Value (decoded v)) A (decoded v) refl t.behind-w-else-put-eq0-2.result p.new.page p.new.texts (value_by a.s.now a.b.now (decoded v) l.indent (not (html || l.q.disable_escape)) l.q.writer t.behind-w-else-put-eq0-2.result l.page l.texts p.new.page p.new.texts (p.result / 256) (p.result % 256) t.behind-w-else-put-eq0-2.ensures (p.ensures.some t.if-put-eq0-2.false) (value_known a.s.now a.b.now a.options (a.d - 1) l.cur k₀ l.page l.texts l.indent l.ent D.goes.ready l.front l.q.names l.«open» S N html next (shows.Value (decoded v)) A (decoded v) refl)))
     ] in
