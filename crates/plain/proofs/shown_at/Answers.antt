@@ -77,10 +77,10 @@ returns-then-r-eq-NOTHING c = let a = c.args in
     (h, subst (ShowsAt a.s.now a.b.now a.ent.now a.front a.names a.disable_escape a.options a.d a.p h n) (ap shows_of c.if-r-eq-NOTHING.true ∙ shows_nothing) (path_shows a.s.now a.b.now a.ent.now a.front a.names a.disable_escape a.options a.d a.p h v n P c.if-html-disable_escape.false (shows_of f.result) (f.ensures.1 c.if-r-eq-FAR.false)))
 
 pub overflow_sub-result : goal.overflow_sub-result
-overflow_sub-result c = omega (arith, c.if-r-lt-NOTHING.false, c.if-r-eq-NOTHING.false)
+overflow_sub-result c = omega arith
 
 pub overflow_cast-result-in-Path : goal.overflow_cast-result-in-Path
-overflow_cast-result-in-Path c = omega (arith, c.if-r-lt-NOTHING.false, c.if-r-eq-NOTHING.false, c.if-r-eq-FAR.false, c.bare_number-r.ensures.0)
+overflow_cast-result-in-Path c = omega arith
 
 pub returns-then-html-disable_escape-2 : goal.returns-then-html-disable_escape-2
 returns-then-html-disable_escape-2 c = let a = c.args in
