@@ -30,7 +30,8 @@ uint32_t handlebars_check_plan(const uint8_t *plan, size_t len, uint64_t *table,
 
 /* Options, to be added up. All other bits are ignored. */
 #define HANDLEBARS_STRICT 1u           /* what is missing is refused (11) */
-#define HANDLEBARS_RECURSIVE_LOOKUP 2u /* a name is looked for in the scopes beneath too */
+#define HANDLEBARS_RECURSIVE_LOOKUP 2u /* a lone name that the newest scope's value lacks is looked for in the value around that one in the plan, and
+                                          so on to the whole plan; not in other scopes, nor from a value that is no part of the plan */
 #define HANDLEBARS_GUIDE_TRUTH 4u      /* for if and unless only false, null, missing, zero, "" and [] are false */
 
 /* Why there is no page, in checking order. 1 to 10 have no template, line 0 and column 0; 11 to 25 have those of the innermost element and the

@@ -1,51 +1,16 @@
 //! The functions of the C library. ../compare sets `check_bundle`, `check_plan` and `render` for those that it has.
 
+use oracle_core::compare::library::{self as declared, ENTRIES, INDENT, PLACES, TEXTS};
 use oracle_core::compare::render::{Given, In, Lent, Library, Out};
 
 pub const HAS_BUNDLE: bool = cfg!(check_bundle);
 pub const HAS_PLAN: bool = cfg!(check_plan);
 pub const HAS_RENDER: bool = cfg!(render);
 
-#[cfg(any(check_bundle, check_plan, render))]
-extern "C" {
-    #[cfg(check_bundle)]
-    fn handlebars_check_bundle(bundle: *const u8, len: usize) -> u32;
-    #[cfg(check_plan)]
-    fn handlebars_check_plan(plan: *const u8, len: usize, table: *mut u64, entries: usize) -> u32;
-    #[cfg(render)]
-    fn handlebars_render(
-        bundle: *const u8,
-        bundle_len: usize,
-        plan: *const u8,
-        plan_len: usize,
-        start: *const u8,
-        start_len: usize,
-        options: u32,
-        page: *mut u8,
-        page_len: usize,
-        places: *mut u64,
-        places_len: usize,
-        entries: *mut u64,
-        entries_len: usize,
-        texts: *mut u8,
-        texts_len: usize,
-        indent: *mut u8,
-        indent_len: usize,
-    ) -> Given;
-    #[cfg(render)]
-    fn handlebars_template_name(
-        bundle: *const u8,
-        bundle_len: usize,
-        template_name: usize,
-        out: *mut u8,
-        out_len: usize,
-    ) -> usize;
-}
-
 #[cfg(check_bundle)]
 pub fn check_bundle(bundle: &mut [u8]) -> u32 {
     // SAFETY: pointer and length are those of the slice
-    unsafe { handlebars_check_bundle(bundle.as_mut_ptr(), bundle.len()) }
+    unsafe { declared::handlebars_check_bundle(bundle.as_mut_ptr(), bundle.len()) }
 }
 
 #[cfg(not(check_bundle))]
@@ -56,7 +21,7 @@ pub fn check_bundle(_: &mut [u8]) -> u32 {
 #[cfg(check_plan)]
 pub fn check_plan(plan: &mut [u8], table: &mut [u64]) -> u32 {
     // SAFETY: pointers and lengths are those of the slices
-    unsafe { handlebars_check_plan(plan.as_mut_ptr(), plan.len(), table.as_mut_ptr(), table.len()) }
+    unsafe { declared::handlebars_check_plan(plan.as_mut_ptr(), plan.len(), table.as_mut_ptr(), table.len()) }
 }
 
 #[cfg(not(check_plan))]
@@ -70,14 +35,14 @@ pub struct Linked;
 #[cfg(render)]
 impl Library for Linked {
     unsafe fn render(&self, l: &Lent) -> Given {
-        handlebars_render(
+        declared::handlebars_render(
             l.bundle.0, l.bundle.1, l.plan.0, l.plan.1, l.start.0, l.start.1, l.options, l.page.0, l.page.1,
             l.places.0, l.places.1, l.entries.0, l.entries.1, l.texts.0, l.texts.1, l.indent.0, l.indent.1,
         )
     }
 
     unsafe fn template_name(&self, bundle: In, template_name: usize, out: Out<u8>) -> usize {
-        handlebars_template_name(bundle.0, bundle.1, template_name, out.0, out.1)
+        declared::handlebars_template_name(bundle.0, bundle.1, template_name, out.0, out.1)
     }
 }
 
@@ -105,10 +70,10 @@ impl Buffers {
     pub fn new(page: usize) -> Buffers {
         Buffers {
             page: vec![0; page],
-            places: vec![0; 4_096],
-            entries: vec![0; 8_192],
-            texts: vec![0; 16_384],
-            indent: vec![0; 256],
+            places: vec![0; PLACES],
+            entries: vec![0; ENTRIES],
+            texts: vec![0; TEXTS],
+            indent: vec![0; INDENT],
         }
     }
 

@@ -3,6 +3,7 @@
 use std::fs;
 use std::hint::black_box;
 
+use oracle_core::compare::library::PLACES;
 use oracle_core::compare::{self, sheets::beside};
 use oracle_core::gen::{cases, sheets, sheets_even, Case, Order, PAGE};
 use uncounted_core::call::Made;
@@ -118,7 +119,7 @@ fn row(series: &str, cabinets: usize, case: &Case, rounds: usize) -> Result<Row,
     }
     let (b, p) = (bundle.clone(), plan.clone());
     let mut cleared = Buffers::new(PAGE as usize);
-    let mut table = vec![0; 4_096];
+    let mut table = vec![0; PLACES];
     let mut library = || {
         black_box(buffers.render(black_box(&b), black_box(&p), &start));
     };

@@ -3,6 +3,7 @@
 use std::process::{Command, ExitStatus};
 use std::thread;
 
+use oracle_core::compare::library::PLACES;
 use oracle_core::gen::rng::Rng;
 use oracle_core::gen::{deep, limits, Case};
 
@@ -53,7 +54,7 @@ fn of_checks() -> Verdict {
 pub fn stack_of(kib: usize) -> Verdict {
     let mut rng = Rng::new(1);
     let made: Vec<[limits::Made; 3]> = (0..200).map(|i| limits::deepest(&mut rng, i % 2 == 1)).collect();
-    let mut table = vec![0; 4_096];
+    let mut table = vec![0; PLACES];
     let mut calls: Vec<(bool, Vec<u8>, u32)> = Vec::new();
     let deep = made.len();
     for [bodies, parameters, plan] in made {

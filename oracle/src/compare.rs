@@ -4,6 +4,9 @@
 //! The bytes of a case are lent with other bytes behind them, so that reading too far is noticed, and must come back as they were.
 //! The table is lent full of other numbers and with a guard on either side.
 
+/// The library's C boundary, as the crate for Rust declares it.
+#[path = "../../rust/src/library.rs"]
+pub mod library;
 pub mod render;
 pub mod sheets;
 

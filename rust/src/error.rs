@@ -3,18 +3,20 @@
 use std::error::Error;
 use std::fmt;
 
+use crate::library::has_place;
+
 /// Why no sheet is printed, and where.
 #[derive(Clone, Debug, PartialEq, Eq, Hash)]
 pub struct RenderError {
-    /// The refusal's number, 1 to 25.
+    /// The refusal's number.
     pub number: u32,
     /// What the number stands for.
     pub reason: Reason,
-    /// The innermost named template; none for 1 to 10.
+    /// The innermost named template; none where the reason has no place.
     pub template: Option<String>,
-    /// The line of the innermost element, as the bundle has it; 0 for 1 to 10.
+    /// The line of the innermost element, as the bundle has it; 0 where the reason has no place.
     pub line: u64,
-    /// The column of the innermost element, as the bundle has it; 0 for 1 to 10.
+    /// The column of the innermost element, as the bundle has it; 0 where the reason has no place.
     pub column: u64,
 }
 
@@ -47,11 +49,16 @@ macro_rules! reasons {
                 }
             }
 
-            /// Only numbers that the core gives.
-            pub(crate) fn of_number(number: u32) -> Reason {
+            /// Whether a refusal of this kind tells a template, a line and a column.
+            pub fn has_place(self) -> bool {
+                has_place(self.number())
+            }
+
+            /// What this number stands for.
+            pub(crate) fn of_number(number: u32) -> Option<Reason> {
                 match number {
-                    $($number => Reason::$name,)*
-                    _ => unreachable!("the core has no refusal {number}"),
+                    $($number => Some(Reason::$name),)*
+                    _ => None,
                 }
             }
         }

@@ -19,10 +19,10 @@
 //!
 //! # Stack
 //!
-//! The core recurses as deeply as templates nest, and a bundle may nest them so deeply that a call needs some MiB of stack: more than
-//! the 2 MiB that a thread of Rust has by default. So every call here runs on a thread of its own with stack enough for any bundle,
-//! which takes some ten microseconds. To spare them, make many calls inside [`with_stack`]: it starts such a thread once, and the calls
-//! inside it run right there.
+//! The core recurses as deeply as templates nest. The deepest bundles take 3,024 KiB of stack by measure (docs/BUFFERS.md, which
+//! promises that 4 MiB do): more than the 2 MiB that a thread of Rust has by default. So every call here runs on a thread of its own
+//! with 8 MiB, which takes some ten microseconds. To spare them, make many calls inside [`with_stack`]: it starts such a thread once,
+//! and the calls inside it run right there.
 
 #![warn(missing_docs)]
 
@@ -43,7 +43,7 @@ pub const PAGE: usize = 65_536;
 pub struct Options {
     /// What is not there is refused ([`Reason::MissingVariable`]) instead of printing nothing.
     pub strict: bool,
-    /// A name that the current value lacks is looked for in the values around it.
+    /// A lone name that the current value lacks is looked for in the values around that one in the plan, up to the whole plan.
     pub recursive_lookup: bool,
     /// For `if` and `unless` an empty object is true, as the Handlebars guide has it. Not together with `strict`.
     pub guide_truth: bool,
@@ -172,7 +172,8 @@ impl Default for Renderer {
 fn refusal(bundle: &[u8], answer: &Answer) -> RenderError {
     RenderError {
         number: answer.number,
-        reason: Reason::of_number(answer.number),
+        // A test holds the reasons to include/handlebars.h.
+        reason: Reason::of_number(answer.number).expect("a number of the header"),
         template: template_name(bundle, answer.template_name),
         line: answer.line,
         column: answer.column,

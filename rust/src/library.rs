@@ -1,8 +1,11 @@
-//! What include/handlebars.h declares.
+//! What include/handlebars.h declares, for Rust: said here alone. The oracle's driver reads this file too (oracle/src/compare.rs).
+
+// Each of its users calls some of the functions.
+#![allow(dead_code)]
 
 /// `handlebars_answer`.
 #[repr(C)]
-#[derive(Clone, Copy)]
+#[derive(Clone, Copy, Debug, PartialEq, Eq)]
 pub struct Answer {
     pub number: u32,
     /// One more than the bit place of the template's name in the bundle; 0 is none.
@@ -12,13 +15,22 @@ pub struct Answer {
     pub length: usize,
 }
 
-// The lengths of the scratch buffers (docs/BUFFERS.md).
+/// Whether a refusal of this number tells a template, a line and a column.
+pub fn has_place(number: u32) -> bool {
+    (11..=25).contains(&number)
+}
+
+// The lengths of the scratch buffers (docs/BUFFERS.md). A table of the plan's values has as many entries as places.
 pub const PLACES: usize = 4_096;
 pub const ENTRIES: usize = 8_192;
 pub const TEXTS: usize = 16_384;
 pub const INDENT: usize = 256;
 
 extern "C" {
+    pub fn handlebars_check_bundle(bundle: *const u8, len: usize) -> u32;
+
+    pub fn handlebars_check_plan(plan: *const u8, len: usize, table: *mut u64, entries: usize) -> u32;
+
     pub fn handlebars_render(
         bundle: *const u8,
         bundle_len: usize,

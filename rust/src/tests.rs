@@ -188,9 +188,28 @@ fn the_deepest_bundle_prints() {
     assert_eq!(twice, [Ok("deep".to_owned()), Ok("deep".to_owned())]);
 }
 
+/// The numbers of refusals that the header defines.
+fn header_refusals() -> Vec<u32> {
+    let header = include_str!("../../include/handlebars.h");
+    let from = header.find("/* Why there is no page").expect("the refusals");
+    let to = header.find("typedef struct").expect("the answer");
+    let defines = header[from..to].lines().filter_map(|line| line.strip_prefix("#define HANDLEBARS_"));
+    let number = |define: &str| define.split_whitespace().nth(1).and_then(|n| n.parse().ok()).expect("a number");
+    defines.map(number).collect()
+}
+
 #[test]
-fn reasons_have_their_numbers() {
-    for number in 1..=25 {
-        assert_eq!(Reason::of_number(number).number(), number);
+fn every_refusal_of_the_header_has_its_reason() {
+    let numbers = header_refusals();
+    assert!(numbers.len() >= 25);
+    for number in numbers {
+        assert_eq!(Reason::of_number(number).map(Reason::number), Some(number));
     }
+    assert_eq!((Reason::of_number(0), Reason::of_number(99)), (None, None));
+}
+
+#[test]
+fn the_drawing_has_places() {
+    let placed: Vec<u32> = (1..=99).filter_map(Reason::of_number).filter(|r| r.has_place()).map(Reason::number).collect();
+    assert_eq!(placed, (11..=25).collect::<Vec<u32>>());
 }

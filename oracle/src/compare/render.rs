@@ -6,21 +6,13 @@
 use std::ops::BitOr;
 use std::time::Instant;
 
+use super::library::{ENTRIES, INDENT, PLACES, TEXTS};
 use super::Report;
 use crate::call::{caught, Answer, Ready};
 use crate::gen::{Case, GUIDE, STRICT};
 
-/// What a call gives: `handlebars_answer` of include/handlebars.h.
-#[repr(C)]
-#[derive(Clone, Copy, Debug, PartialEq, Eq)]
-pub struct Given {
-    pub number: u32,
-    /// One more than the bit place of the template's name in the bundle; 0 is none.
-    pub template_name: usize,
-    pub line: u64,
-    pub column: u64,
-    pub length: usize,
-}
+/// What a call gives.
+pub use super::library::Answer as Given;
 
 pub type In = (*const u8, usize);
 pub type Out<T> = (*mut T, usize);
@@ -48,8 +40,8 @@ pub trait Library {
     unsafe fn template_name(&self, bundle: In, template_name: usize, out: Out<u8>) -> usize;
 }
 
-/// The lengths of places, entries, texts and indent (docs/BUFFERS.md).
-pub const SCRATCH: [usize; 4] = [4_096, 8_192, 16_384, 256];
+/// The lengths of places, entries, texts and indent.
+pub const SCRATCH: [usize; 4] = [PLACES, ENTRIES, TEXTS, INDENT];
 
 /// A page on which the length of a text is learnt; texts that are longer have no exact page.
 const LARGE: usize = 1 << 20;
@@ -456,6 +448,7 @@ mod test {
     use std::slice::{from_raw_parts, from_raw_parts_mut};
 
     use super::{cases, Given, In, Lending, Lent, Library, Out, Rendered, SCRATCH};
+    use crate::compare::library::has_place;
     use crate::call::with_big_stack;
     use crate::gen::{self, Case, Order};
 
@@ -542,10 +535,10 @@ mod test {
     #[test]
     fn test_what_is_wrong_is_noticed() {
         noticed("number, line, column, length are", |g, _| g.length += usize::from(g.number == 0));
-        noticed("number, line, column, length are", |g, _| g.column += u64::from(g.number > 10));
+        noticed("number, line, column, length are", |g, _| g.column += u64::from(has_place(g.number)));
         noticed("no template's name", |g, _| g.template_name = 0);
         noticed("the template's name is", |g, _| {
-            g.template_name = if g.number > 10 { 1 } else { 0 };
+            g.template_name = usize::from(has_place(g.number));
         });
         noticed("where the oracle has none", |g, _| {
             if g.number == 0 {
