@@ -1,6 +1,7 @@
 -- Two byte strings compared byte by byte: what a loop that has passed i equal bytes may say.
-use Rattle.std.specs.Prelude.{ℕ, suc, ◌+◌, ◌≤◌, ◌<◌, Bool, true, false, ◌&&◌, ◌||◌, [], ◌∷◌, ◌≡◌, refl, eqb, ltb, length, get_or, drop}
+use Rattle.std.specs.Prelude.{ℕ, suc, min, ◌+◌, ◌≤◌, ◌<◌, Bool, true, false, ◌&&◌, ◌||◌, [], ◌∷◌, ◌≡◌, refl, eqb, ltb, length, get_or, drop}
 use Rattle.std.proofs.Common.{sym, ap, ◌∙◌, arith, add-one, drop_of_length-le, drop-cons, eq-eqb, ne_eqb, le-ltb}
+use borrow.Author.Tests.{ltb-true, ltb-false}
 use Rattle.rules.specs.Bytes.{Bytes, same, before}
 
 pub same_lengths : (s t : Bytes) → (length s ≡ length t → ⊥) → false ≡ same s t
@@ -41,6 +42,14 @@ module _ (s t : Bytes) (i : ℕ) where
 
 pub before_shorter : (s : Bytes) {t : Bytes} {i y : ℕ} → length s ≤ i → At t i y → true ≡ BeforeFrom s t i
 before_shorter s h b = rw (drop_of_length-le s h, from_here b)
+
+-- what is left where one of them has ended
+pub before_rest : (s t : Bytes) {i n m : ℕ} → length s ≡ n → length t ≡ m → i ≡ min n m → ltb n m ≡ BeforeFrom s t i
+before_rest s t {i} {n} {m} e f h = by_test (ltb n m) refl
+  where
+    by_test : (c : Bool) → ltb n m ≡ c → c ≡ BeforeFrom s t i
+    by_test true g = let l : n < m = ltb-true n m g in before_shorter s {t = t} {i = i} {y = get_or t i 0} (omega arith) (record { within = omega arith; is = refl })
+    by_test false g = before_end s t i (omega (arith, ltb-false n m g))
 
 module _ {s t : Bytes} {i x y : ℕ} (a : At s i x) (b : At t i y) where
   pub same_differ : (x ≡ y → ⊥) → false ≡ SameFrom s t i

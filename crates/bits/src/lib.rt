@@ -3,7 +3,7 @@
 // Where a string's end has to fit a usize, it does: a bundle has at most 65,536 bytes.
 #![tactic(auto)]
 
-ghost use Rattle.std.specs.Prelude.{◌≡◌, ◌+◌, ◌*◌, ◌^◌, ◌≤◌, ◌<◌, min, length};
+ghost use Rattle.std.specs.Prelude.{◌≡◌, ◌+◌, ◌*◌, ◌^◌, ◌≤◌, ◌<◌, length};
 ghost use Rattle.rules.specs.Bytes.{same, before};
 ghost use Rattle.rules.specs.Bits.{bits};
 ghost use Rattle.rules.specs.Layout.{field};
@@ -154,21 +154,12 @@ pub fn same_bytes(s: &[u8], p: usize, n: usize, t: &[u8]) -> bool
     if n != t.len() {
         return false;
     }
-    let mut i: usize = 0;
-    while i < n {
-        if byte(s, p + 8 * i) != t[i] {
+    for (i, &c) in t.iter().enumerate() {
+        if byte(s, p + 8 * i) != c {
             return false;
         }
-        i += 1;
     }
     true
-}
-
-// The smaller of two numbers, for all that reads or writes so many bytes.
-pub fn least(a: usize, b: usize) -> usize
-    ensures { result ≡ min a b }
-{
-    if a < b { a } else { b }
 }
 
 // Whether the n packed bytes at p are the m packed bytes at q. As many bytes as one load holds at any bit are compared at once.
@@ -181,7 +172,7 @@ pub fn same_at(s: &[u8], p: usize, n: usize, q: usize, m: usize) -> bool
     }
     let mut i: usize = 0;
     while i < n {
-        let k = least(n - i, 7);
+        let k = (n - i).min(7);
         if field(s, p + 8 * i, 8 * k) != field(s, q + 8 * i, 8 * k) {
             return false;
         }
@@ -195,17 +186,12 @@ pub fn before_at(s: &[u8], p: usize, n: usize, q: usize, m: usize) -> bool
     requires { (p + 8 * n < 2 ^ 64) × (q + 8 * m < 2 ^ 64) }
     ensures { result ≡ before (bytes_at (bits s.now) p n) (bytes_at (bits s.now) q m) }
 {
-    let mut i: usize = 0;
-    while i < m {
-        if n <= i {
-            return true;
-        }
+    for i in 0..n.min(m) {
         let x = byte(s, p + 8 * i);
         let y = byte(s, q + 8 * i);
         if x != y {
             return x < y;
         }
-        i += 1;
     }
-    false
+    n < m
 }

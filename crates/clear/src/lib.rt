@@ -1,12 +1,21 @@
-// Zeroes lent buffers, whole or from a place on: the same two functions for each width, each width in a file of its own.
+// Sets lent buffers to zero, whole or from a place on, whatever their entries are.
 #![tactic(auto)]
 
-mod of_u16;
-mod of_u32;
-mod of_u64;
-mod of_u8;
+ghost use Rattle.std.specs.Prelude.{◌≡◌, length, replicate};
+ghost use Rattle.clear.specs.Cleared.{cleared};
 
-pub use of_u8::{clear_u8, clear_u8_from};
-pub use of_u16::{clear_u16, clear_u16_from};
-pub use of_u32::{clear_u32, clear_u32_from};
-pub use of_u64::{clear_u64, clear_u64_from};
+// Sets every entry from the place on to zero. A place past the end leaves all as it is.
+pub fn clear_from<T: Copy>(b: &mut [T], at: usize, zero: T)
+    ensures { b.new ≡ cleared at zero b.old }
+{
+    for i in at..b.len() {
+        b[i] = zero;
+    }
+}
+
+// Sets every entry to zero.
+pub fn clear<T: Copy>(b: &mut [T], zero: T)
+    ensures { b.new ≡ replicate (length b.old) zero }
+{
+    clear_from(b, 0, zero);
+}

@@ -1,7 +1,6 @@
 -- The digits of a number: how many, and which one at each place.
 use Prim.Native.Nat.{ℕ, zero, suc, ◌+◌, ◌-◌, ◌/◌, ◌%◌, ◌^◌, ◌≤◌, ◌<◌}
 use native.Mathlib.Nat.{pow-suc, pow-succ', one-le-pow, mod-eq_of_lt, div-div-eq-div-mul, div-one, div-eq_of_lt, pow-le-pow_right}
-use native.Mathlib.Numerals.{add-one}
 use native.Mathlib.Omega.{arith}
 use mathlib.Core.Bool.{Bool, true, false}
 use mathlib.Core.List.{[], ◌∷◌, ◌++◌, append_assoc, append-nil}
@@ -99,10 +98,6 @@ digits_places n h = counted_digits (length (digits n)) n (counted n h)
 -- the i-th digit
 pub digits_at : (n i : ℕ) → n < 2 ^ 64 → i < length (digits n) → byte_at (digits n) i ≡ 48 + n / 10 ^ (length (digits n) - 1 - i) % 10
 digits_at n i h l = ap (λ s. byte_at s i) (digits_places n h) ∙ places_at (length (digits n)) n i l
-
--- without one digit more
-pub tenth : (n j : ℕ) → n / 10 ^ j / 10 ≡ n / 10 ^ (j + 1)
-tenth n j = div-div-eq-div-mul n (10 ^ j) 10 ∙ rw (add-one j, pow-suc 10 j)
 
 -- a u64 has no digit there
 pub no_place : (n k : ℕ) → n < 2 ^ 64 → 20 ≤ k → 48 ≡ 48 + n / 10 ^ k % 10

@@ -1,12 +1,10 @@
 -- `parse::<usize>` one byte at a time.
-use Rattle.std.specs.Prelude.{ℕ, ◌+◌, ◌-◌, ◌*◌, [], ◌∷◌, eqb, leb}
+use Rattle.std.specs.Prelude.{ℕ, ◌+◌, ◌-◌, ◌*◌, [], ◌∷◌, eqb, leb, Option as RustOption, Some, None}
 use Rattle.std.proofs.Math.Option.{Option, none, some}
 use Rattle.rules.specs.Bytes.{Bytes, pick, between}
 use Rattle.rules.specs.Context.{parse_digits, parse_usize}
 use Rattle.decimal.specs.declared.Parse.{Parse}
 use Rattle.decimal.specs.declared.Parse.TheVariants.{Empty, Plus, Is, Refused}
-use Rattle.decimal.specs.declared.Parsed.{Parsed}
-use Rattle.decimal.specs.declared.Parsed.TheVariants.{Is as Number, Refused as NoNumber}
 
 -- one digit more, if it is one and the number still fits 64 bits
 unfoldable pub with_digit : ℕ → ℕ → Parse
@@ -39,6 +37,6 @@ coming (Is n) s = parse_digits n s
 coming Refused s = none
 
 -- the answer
-abbrev pub parsed : Option ℕ → Parsed
-parsed none = NoNumber
-parsed (some n) = Number n
+abbrev pub parsed : Option ℕ → RustOption ℕ
+parsed none = None
+parsed (some n) = Some n

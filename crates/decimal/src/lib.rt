@@ -36,15 +36,12 @@ const POWERS: [u64; 20] = [
 pub fn digit_count(n: u64) -> usize
     ensures { result ≡ length (digits n) }
 {
-    let powers = POWERS;
-    let mut k: usize = 1;
-    while k < 20 {
-        if n < powers[k] {
+    for k in 1..20 {
+        if n < POWERS[k] {
             return k;
         }
-        k += 1;
     }
-    k
+    20
 }
 
 // The digit of n that k digits follow, as a character; `0` in front of the number.
@@ -52,15 +49,9 @@ fn place(n: u64, k: usize) -> u8
     ensures { result ≡ 48 + n / 10 ^ k % 10 }
 {
     if 20 <= k {
-        return 48;
+        return b'0';
     }
-    let mut rest = n;
-    let mut j: usize = 0;
-    while j < k {
-        rest = rest / 10;
-        j += 1;
-    }
-    48 + (rest % 10) as u8
+    b'0' + (n / POWERS[k] % 10) as u8
 }
 
 // The i-th digit of n, the most significant first; 0 past the last.
@@ -87,11 +78,9 @@ pub fn write_digits(out: &mut [u8], at: usize, n: u64) -> usize
         return at;
     }
     let mut rest = n;
-    let mut i = count;
-    while 0 < i {
-        i -= 1;
-        out[at + i] = 48 + (rest % 10) as u8;
-        rest = rest / 10;
+    for i in (0..count).rev() {
+        out[at + i] = b'0' + (rest % 10) as u8;
+        rest /= 10;
     }
     at + count
 }
@@ -101,12 +90,6 @@ pub fn write_digits(out: &mut [u8], at: usize, n: u64) -> usize
 pub enum Parse {
     Empty,
     Plus,
-    Is(u64),
-    Refused,
-}
-
-#[derive(Clone, Copy)]
-pub enum Parsed {
     Is(u64),
     Refused,
 }
@@ -160,26 +143,24 @@ pub fn feed(p: Parse, c: u8) -> Parse
     }
 }
 
-pub fn finish(p: Parse) -> Parsed
+pub fn finish(p: Parse) -> Option<u64>
     ensures { result ≡ parsed (value p) }
 {
     match p {
-        Parse::Empty => Parsed::Refused,
-        Parse::Plus => Parsed::Refused,
-        Parse::Is(n) => Parsed::Is(n),
-        Parse::Refused => Parsed::Refused,
+        Parse::Empty => None,
+        Parse::Plus => None,
+        Parse::Is(n) => Some(n),
+        Parse::Refused => None,
     }
 }
 
 // `parse::<usize>` of lent bytes.
-pub fn parse_usize(s: &[u8]) -> Parsed
+pub fn parse_usize(s: &[u8]) -> Option<u64>
     ensures { result ≡ parsed (parse_usize s.now) }
 {
     let mut p = start();
-    let mut i: usize = 0;
-    while i < s.len() {
-        p = feed(p, s[i]);
-        i += 1;
+    for c in s {
+        p = feed(p, *c);
     }
     finish(p)
 }

@@ -1,8 +1,8 @@
 -- When a text is stored at once, and the writer behind it.
 use Rattle.std.specs.Prelude.{ℕ, zero, suc, ◌+◌, ◌-◌, ◌*◌, ◌/◌, ◌%◌, ◌^◌, ◌≤◌, ◌<◌, Bool, true, false, ◌&&◌, not, [], ◌∷◌, ◌++◌, ◌≡◌, refl, eqb, ltb, leb, length, get_or, take}
 use Rattle.std.proofs.Math.Option.{none, some}
-use Rattle.std.proofs.Common.{sym, ap, ◌∙◌, add-zero, arith, ltb-false, eqb-true, ne_eqb, leb-true, get_or-take, length-take-le, take_all}
-use Rattle.std.proofs.lemmas.Bool.{eqb-false, not-true}
+use Rattle.std.proofs.Common.{sym, ap, ◌∙◌, add-zero, arith, ltb-false, eqb-true, ne_eqb, leb-true, length-take-le, take_all}
+use Rattle.std.proofs.lemmas.Bool.{eqb-false}
 use Rattle.std.proofs.lemmas.List.Edits.{sets}
 use Rattle.std.proofs.Math.Seq.{take-length}
 use Rattle.rules.specs.Bytes.{Bytes, pick, run}
@@ -14,12 +14,11 @@ use Rattle.rules.specs.Support.{newline_matcher}
 use Rattle.rules.specs.Output.{indent_or_empty, indented}
 use Rattle.bits.specs.Packed.{bytes_at, number_bytes, number_packed}
 use Rattle.output.specs.declared.Writer.{Writer}
-use Rattle.output.specs.Writer.{Output, output, over, advanced, filled, stored, room, place_of, limit_of, all_put, wrote}
-use Rattle.output.specs.Outputs.{indent_of}
+use Rattle.output.specs.Writer.{Output, output, over, advanced, filled, stored, room, place_of, limit_of, all_put}
 use Rattle.output.proofs.Steps.{all_put_append, limit_le}
 use Rattle.output.proofs.Written.{all_put_is, all_put_fits}
 use Rattle.output.proofs.Packed.{take_packed}
-use Rattle.support.specs.Feed.{begun, penned, marked, finished, due, wants_indent, indent_before, all_emitted, fed_text, escaped}
+use Rattle.support.specs.Feed.{begun, penned, marked, finished, indent_before, all_emitted, fed_text, escaped}
 use Rattle.support.specs.Runs.{calm, quiet_byte, line_length}
 use Rattle.support.proofs.Runs.{run_whole, calm_run, plain_run, line_calm}
 use Rattle.support.proofs.Fed.{after_text, fed_is}

@@ -27,18 +27,12 @@ pub fn takes(w: Writer, len: usize, n: usize) -> bool
     n <= output::room(w, len)
 }
 
-fn wide(x: u8) -> usize
-    ensures { (result ≡ x) × (result < 256) }
-{
-    x as usize
-}
-
 // The writer behind a text of n bytes whose last one is c.
 pub fn behind(w: Writer, n: usize, c: u8) -> Writer
     requires { place_of w + n < 2 ^ 64 }
     ensures { result ≡ behind n c w }
 {
-    let last = wide(c);
+    let last = usize::from(c);
     let newline = support::newline_matcher(last);
     let mut q = output::advance(w, n);
     q.pen = last + 1;
@@ -79,7 +73,7 @@ pub fn set_bytes(out: &mut [u8], w: Writer, v: &[u8]) -> usize
     if takes(w, out.len(), n) {
         let to = output::place(w);
         output::copy(out, to, v, n);
-        return 256 * n + wide(v[n - 1]);
+        return 256 * n + usize::from(v[n - 1]);
     }
     0
 }
@@ -89,7 +83,7 @@ fn leads(w: Writer, c: u8) -> bool
     ensures { result ≡ leads c w }
 {
     if w.has_indent & w.indent_before_write {
-        return !support::newline_matcher(wide(c));
+        return !support::newline_matcher(usize::from(c));
     }
     false
 }
@@ -98,7 +92,7 @@ fn leads(w: Writer, c: u8) -> bool
 fn lead(out: &mut [u8], indent: &[u8], w: Writer) -> Writer
     ensures { (result.has_indent ≡ w.has_indent) × ((c : ℕ) (v : Bytes) → leads c w ≡ true → written_text indent.now (c ∷ v) (output result out.new) ≡ written_text indent.now (c ∷ v) (output w out.old)) }
 {
-    let n = bits::least(w.indent, indent.len());
+    let n = w.indent.min(indent.len());
     if output::room(w, out.len()) < n {
         return w;
     }
@@ -133,10 +127,11 @@ fn led_packed(out: &mut [u8], indent: &[u8], w: Writer, s: &[u8], p: usize, n: u
 fn led_bytes(out: &mut [u8], indent: &[u8], w: Writer, v: &[u8]) -> Writer
     ensures { (result.has_indent ≡ w.has_indent) × (written_text indent.now v.now (output result out.new) ≡ written_text indent.now v.now (output w out.old)) }
 {
-    if v.len() == 0 {
-        return w;
+    if v.is_empty() {
+        w
+    } else {
+        led(out, indent, w, v[0])
     }
-    led(out, indent, w, v[0])
 }
 
 // Whether the n bytes of a packed string are stored at once.
@@ -216,10 +211,8 @@ fn store_short(out: &mut [u8], at: usize, n: usize, x: u64)
     requires { (n ≤ 7) × (n ≤ length out.old - at) }
     ensures { out.new ≡ sets out.old at (short_bytes n x) }
 {
-    let mut j = 0;
-    while j < n {
+    for j in 0..n {
         out[at + j] = short_byte(x, j);
-        j += 1;
     }
 }
 
@@ -228,12 +221,10 @@ fn short_line(x: u64, n: usize) -> usize
     requires { n ≤ 7 }
     ensures { result ≡ line_length true (short_bytes n x) }
 {
-    let mut j = 0;
-    while j + 1 < n {
-        if short_byte(x, j) == b'\n' {
-            return j + 1;
+    for j in 1..n {
+        if short_byte(x, j - 1) == b'\n' {
+            return j;
         }
-        j += 1;
     }
     n
 }
@@ -271,7 +262,7 @@ pub fn set_short(out: &mut [u8], w: Writer, n: usize, x: u64) -> usize
     if takes_short(w, out.len(), n, x) {
         let to = output::place(w);
         store_short(out, to, n, x);
-        return wide(short_byte(x, n - 1)) + 1;
+        return usize::from(short_byte(x, n - 1)) + 1;
     }
     0
 }

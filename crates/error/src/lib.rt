@@ -1,5 +1,8 @@
-// error.rs: the paper's number of each refusal.
+// error.rs: why a drawing ends, and the paper's number of each refusal.
 #![tactic(auto)]
+
+ghost use Rattle.std.specs.Prelude.{◌≡◌};
+ghost use Rattle.error.specs.Reasons.{number_of};
 
 // Checks in front of a call, in their order
 pub const SCRATCH_TOO_SHORT: u8 = 1;
@@ -22,34 +25,47 @@ pub const NUMBER_NOT_INTEGER: u8 = 9;
 
 pub const TOO_MANY_VALUES: u8 = 10;
 
-// `RenderErrorReason`
-pub const MISSING_VARIABLE: u8 = 11;
+#[derive(Clone, Copy, PartialEq, Eq)]
+pub enum RenderErrorReason {
+    MissingVariable,
+    PartialNotFound,
+    PartialBlockNotFound,
+    HelperNotFound,
+    ParamNotFoundForIndex,
+    DecoratorNotFound,
+    CannotIncludeSelf,
+    InvalidParamType,
+    BlockContentRequired,
+    InvalidJsonIndex,
+    // limits
+    IndentLimit,
+    EntriesLimit,
+    ScopesLimit,
+    BlockTextsLimit,
+    PageLimit,
+}
 
-pub const PARTIAL_NOT_FOUND: u8 = 12;
-
-pub const PARTIAL_BLOCK_NOT_FOUND: u8 = 13;
-
-pub const HELPER_NOT_FOUND: u8 = 14;
-
-pub const PARAM_NOT_FOUND_FOR_INDEX: u8 = 15;
-
-pub const DECORATOR_NOT_FOUND: u8 = 16;
-
-pub const CANNOT_INCLUDE_SELF: u8 = 17;
-
-pub const INVALID_PARAM_TYPE: u8 = 18;
-
-pub const BLOCK_CONTENT_REQUIRED: u8 = 19;
-
-pub const INVALID_JSON_INDEX: u8 = 20;
-
-// Limits
-pub const INDENT_LIMIT: u8 = 21;
-
-pub const ENTRIES_LIMIT: u8 = 22;
-
-pub const SCOPES_LIMIT: u8 = 23;
-
-pub const BLOCK_TEXTS_LIMIT: u8 = 24;
-
-pub const PAGE_LIMIT: u8 = 25;
+impl RenderErrorReason {
+    // Its number in the paper.
+    pub fn number(self) -> u32
+        ensures { result ≡ number_of self }
+    {
+        match self {
+            RenderErrorReason::MissingVariable => 11,
+            RenderErrorReason::PartialNotFound => 12,
+            RenderErrorReason::PartialBlockNotFound => 13,
+            RenderErrorReason::HelperNotFound => 14,
+            RenderErrorReason::ParamNotFoundForIndex => 15,
+            RenderErrorReason::DecoratorNotFound => 16,
+            RenderErrorReason::CannotIncludeSelf => 17,
+            RenderErrorReason::InvalidParamType => 18,
+            RenderErrorReason::BlockContentRequired => 19,
+            RenderErrorReason::InvalidJsonIndex => 20,
+            RenderErrorReason::IndentLimit => 21,
+            RenderErrorReason::EntriesLimit => 22,
+            RenderErrorReason::ScopesLimit => 23,
+            RenderErrorReason::BlockTextsLimit => 24,
+            RenderErrorReason::PageLimit => 25,
+        }
+    }
+}

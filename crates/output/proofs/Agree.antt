@@ -1,9 +1,9 @@
 -- The writer and the rules: a write leaves both alike, and the text grows by what the rules say.
 use mathlib.Core.Path.{◌≡◌, refl, sym, ap, subst, ◌∙◌}
 use mathlib.Core.Bool.{Bool, true, false}
-use mathlib.Core.List.{List, [], ◌∷◌, ◌++◌}
+use mathlib.Core.List.{◌++◌}
 use mathlib.Core.Option.{none, some}
-use Prim.Native.Nat.{ℕ, zero, suc, ◌+◌, ◌-◌, ◌≤◌, ◌<◌, min}
+use Prim.Native.Nat.{ℕ, ◌+◌, ◌-◌, ◌≤◌, ◌<◌, min}
 use native.Mathlib.Nat.{min-eq_left}
 use native.Mathlib.Omega.{arith}
 use borrow.Author.Tests.{leb-true, leb-false, ltb-true, ltb-false}
@@ -11,11 +11,10 @@ use lib.Dec.{leb, ltb}
 use lib.ListN.{length, take, drop}
 use lib.Seq.{sets, slice, length-sets}
 use Rattle.rules.specs.Bytes.{Bytes, pick}
-use Rattle.rules.specs.State.{Out, Marks, Room, RenderContext, set_marks, set_room, Res, ok, fail, choose}
+use Rattle.rules.specs.State.{Out, Marks, Room, RenderContext, set_marks, set_room, ok, fail, choose}
 use Rattle.rules.specs.Output.{left, less, full, write}
-use Rattle.output.specs.declared.Writer.{Writer}
-use Rattle.output.specs.Writer.{Output, output, over, stored, filled, room, all_put}
-use Rattle.output.specs.Outputs.{Outputs, outputs, in_force, on, marks_of, indent_of, out_of, room_of, Says, Sound, said, answer, so_far, Grown}
+use Rattle.output.specs.Writer.{Output, over, stored, filled, room, all_put}
+use Rattle.output.specs.Outputs.{Outputs, outputs, in_force, on, out_of, room_of, Says, Sound, said, answer, Grown}
 use Rattle.output.proofs.Texts.{drop_sets, take_sets, take_behind, slice_behind}
 use Rattle.output.proofs.Written.{all_put_fits, all_put_over}
 

@@ -1,5 +1,5 @@
 -- What is done to the output in force, where that is the page and where it is a block text: what a function that lends one of the two cites.
-use mathlib.Core.Path.{◌≡◌, refl, sym, ap, ◌∙◌}
+use mathlib.Core.Path.{◌≡◌, sym, ap, ◌∙◌}
 use mathlib.Core.Bool.{Bool, true, false}
 use Rattle.rules.specs.Bytes.{Bytes, pick}
 use Rattle.output.specs.declared.Writer.{Writer}

@@ -72,22 +72,14 @@ pub fn place(w: Writer) -> usize
 fn limit(w: Writer, n: usize) -> usize
     ensures { result ≡ limit_of w n }
 {
-    if w.block_text {
-        return bits::least(w.high, n);
-    }
-    n
+    if w.block_text { w.high.min(n) } else { n }
 }
 
 // The bytes that may still be taken, in a buffer of n bytes.
 pub fn room(w: Writer, n: usize) -> usize
     ensures { result ≡ limit_of w n - place_of w }
 {
-    let at = place(w);
-    let end = limit(w, n);
-    if at < end {
-        return end - at;
-    }
-    0
+    limit(w, n).saturating_sub(place(w))
 }
 
 // n bytes more of the output in force are taken.
@@ -97,9 +89,9 @@ pub fn advance(w: Writer, n: usize) -> Writer
 {
     let mut q = w;
     if q.block_text {
-        q.low = q.low + n;
+        q.low += n;
     } else {
-        q.written = q.written + n;
+        q.written += n;
     }
     q
 }
@@ -134,14 +126,13 @@ pub fn put(out: &mut [u8], w: Writer, c: u8) -> Writer
     q
 }
 
+// The first n of lent bytes, stored from a place on. (Where n is 0, the place may lie past the end, where not even an empty part begins.)
 pub fn copy(out: &mut [u8], at: usize, v: &[u8], n: usize)
     requires { (n ≤ length out.old - at) × (n ≤ length v.now) }
     ensures { out.new ≡ sets out.old at (take n v.now) }
 {
-    let mut i = 0;
-    while i < n {
-        out[at + i] = v[i];
-        i += 1;
+    if 0 < n {
+        out[at..at + n].copy_from_slice(&v[..n]);
     }
 }
 
@@ -149,7 +140,7 @@ pub fn copy(out: &mut [u8], at: usize, v: &[u8], n: usize)
 pub fn write(out: &mut [u8], w: Writer, v: &[u8]) -> Writer
     ensures { output result out.new ≡ all_put v.now (output w out.old) }
 {
-    let n = bits::least(v.len(), room(w, out.len()));
+    let n = v.len().min(room(w, out.len()));
     let at = place(w);
     copy(out, at, v, n);
     fill(advance(w, n), n, v.len())
@@ -175,10 +166,8 @@ fn copy_bytes(out: &mut [u8], at: usize, s: &[u8], p: usize, n: usize)
     requires { (n ≤ length out.old - at) × (p + 8 * n < 2 ^ 64) }
     ensures { out.new ≡ sets out.old at (bytes_at (bits s.now) p n) }
 {
-    let mut i = 0;
-    while i < n {
+    for i in 0..n {
         out[at + i] = bits::byte(s, p + 8 * i);
-        i += 1;
     }
 }
 
@@ -187,12 +176,11 @@ pub fn copy_packed(out: &mut [u8], at: usize, s: &[u8], p: usize, n: usize)
     requires { (n ≤ length out.old - at) × (p + 8 * n < 2 ^ 64) }
     ensures { out.new ≡ sets out.old at (bytes_at (bits s.now) p n) }
 {
-    let mut i = 0;
-    while i + 8 <= n {
-        put_word(out, at + i, bits::field(s, p + 8 * i, 64));
-        i += 8;
+    let words = n / 8;
+    for i in 0..words {
+        put_word(out, at + 8 * i, bits::field(s, p + 64 * i, 64));
     }
-    copy_bytes(out, at + i, s, p + 8 * i, n - i);
+    copy_bytes(out, at + 8 * words, s, p + 64 * words, n % 8);
 }
 
 // The same as `write` for the n bytes of a packed string that starts at the bit p. (Strings lie within a bundle, so the sum fits.)
@@ -200,7 +188,7 @@ pub fn write_packed(out: &mut [u8], w: Writer, s: &[u8], p: usize, n: usize) -> 
     requires { p + 8 * n < 2 ^ 64 }
     ensures { output result out.new ≡ all_put (bytes_at (bits s.now) p n) (output w out.old) }
 {
-    let m = bits::least(n, room(w, out.len()));
+    let m = n.min(room(w, out.len()));
     let at = place(w);
     copy_packed(out, at, s, p, m);
     fill(advance(w, m), m, n)
@@ -212,14 +200,9 @@ pub fn move_text(texts: &mut [u8], begin: usize, low: usize, high: usize) -> usi
     requires { (begin ≤ low) × (low ≤ high) × (high ≤ length texts.old) }
     ensures { (result ≡ high - (low - begin)) × (texts.new ≡ sets texts.old result (slice begin low texts.old)) }
 {
-    let mut i = low;
-    let mut j = high;
-    while begin < i {
-        i -= 1;
-        j -= 1;
-        texts[j] = texts[i];
-    }
-    j
+    let to = high - (low - begin);
+    texts.copy_within(begin..low, to);
+    to
 }
 
 // A finished block text into the one that is being drawn: in the same buffer, from above `high` to below it.
@@ -228,11 +211,9 @@ fn write_low(texts: &mut [u8], w: Writer, from: usize, n: usize) -> Writer
     ensures { output result texts.new ≡ all_put (take n (drop from texts.old)) (output w texts.old) }
 {
     let mut q = w;
-    let mut i = 0;
-    while i < n {
+    for i in 0..n {
         let c = texts[from + i];
         q = put(texts, q, c);
-        i += 1;
     }
     q
 }

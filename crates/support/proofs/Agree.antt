@@ -1,7 +1,7 @@
 -- Feeding a text and the rules' `indent_aware_write` leave writer and state alike.
 use mathlib.Core.Path.{◌≡◌, refl, sym, ap, subst, ◌∙◌}
 use mathlib.Core.Bool.{Bool, true, false, ◌&&◌, not}
-use mathlib.Core.List.{List, [], ◌∷◌, ◌++◌}
+use mathlib.Core.List.{[], ◌∷◌, ◌++◌}
 use mathlib.Core.Option.{Option}
 use Prim.Native.Nat.{ℕ}
 use Rattle.rules.specs.Bytes.{Bytes, pick}
@@ -9,7 +9,6 @@ use Rattle.rules.specs.Support.{starts_with_newline, ends_with_newline}
 use Rattle.rules.specs.Error.{RenderErrorReason}
 use Rattle.rules.specs.State.{Marks, RenderContext, Res, ok, fail, choose, ◌after◌}
 use Rattle.rules.specs.Output.{full, write, indent_or_empty, indented, first_indent, written, indent_aware_write}
-use Rattle.output.specs.declared.Writer.{Writer}
 use Rattle.output.specs.Writer.{Output, all_put}
 use Rattle.output.specs.Outputs.{Outputs, outputs, with_writer, in_force, on, out_of, Says, Sound, said, answer, Grown}
 use Rattle.output.proofs.Agree.{on_nothing, said_same, write_is, write_grown}

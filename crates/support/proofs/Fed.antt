@@ -1,7 +1,7 @@
 -- A text that is fed byte by byte is what `indent_aware_write` writes.
 use mathlib.Core.Path.{◌≡◌, refl, sym, ap, ◌∙◌}
 use mathlib.Core.Bool.{Bool, true, false, ◌&&◌, not}
-use mathlib.Core.List.{List, [], ◌∷◌, ◌++◌}
+use mathlib.Core.List.{[], ◌∷◌, ◌++◌}
 use mathlib.Core.Option.{none, some}
 use Prim.Native.Nat.{ℕ, suc}
 use native.Mathlib.Omega.{arith}
@@ -13,7 +13,7 @@ use Rattle.rules.specs.Bytes.{Bytes, pick}
 use Rattle.rules.specs.Support.{newline_matcher, with_indent, ends_with_newline}
 use Rattle.rules.specs.Output.{indent_or_empty, indented}
 use Rattle.output.specs.declared.Writer.{Writer}
-use Rattle.output.specs.Writer.{Output, over, moved, filled, stored, room, put, all_put}
+use Rattle.output.specs.Writer.{Output, over, moved, filled, stored, room, all_put}
 use Rattle.output.proofs.Steps.{all_put_append}
 use Rattle.output.proofs.Written.{all_put_is, all_put_moved}
 use Rattle.support.specs.Feed.{with_pen, penned, begun, marked, finished, due, indent_before, emitted, all_emitted, fed_text}

@@ -1,9 +1,10 @@
 -- Runs of quiet bytes.
 use mathlib.Core.Path.{◌≡◌, refl, sym, ap, ◌∙◌}
 use mathlib.Core.Bool.{Bool, true, false, ◌&&◌, not}
-use mathlib.Core.List.{List, [], ◌∷◌, ◌++◌, append_assoc}
-use Prim.Native.Nat.{ℕ, zero, suc, ◌+◌, ◌-◌, ◌≤◌, ◌<◌, min}
+use mathlib.Core.List.{[], ◌∷◌, ◌++◌, append_assoc}
+use Prim.Native.Nat.{ℕ, suc, ◌+◌, ◌-◌, ◌≤◌, ◌<◌}
 use native.Mathlib.Nat.{min_comm}
+use native.Mathlib.Numerals.{add-one}
 use native.Mathlib.Omega.{arith}
 use borrow.Author.Tests.{ltb-false, eqb-true, not-true}
 use lib.Dec.{T, eqb}
@@ -29,6 +30,21 @@ module _ (p : ℕ → Bool) (l : Bytes) (j : ℕ) (h : j < length l) where
   pub run_end : p (get_or l j 0) ≡ false → run p (drop j l) ≡ 0
   unfolding run
   run_end e = rw (drop-cons l j 0 h, e)
+
+  -- m bytes have passed, with those that still do
+  pub run_next : (m : ℕ) → p (get_or l j 0) ≡ true → m ≡ j + run p (drop j l) → m ≡ j + 1 + run p (drop (j + 1) l)
+  run_next m e f =
+      let g : run p (drop j l) ≡ run p (drop (j + 1) l) + 1 = rw (add-one (run p (drop (j + 1) l)), add-one j) (run_more e) in
+      omega arith
+
+  pub run_stop : (m : ℕ) → p (get_or l j 0) ≡ false → m ≡ j + run p (drop j l) → j ≡ m
+  run_stop m e f = let g = run_end e in omega arith
+
+pub run_over : (p : ℕ → Bool) (l : Bytes) (j m : ℕ) → length l ≤ j → m ≡ j + run p (drop j l) → j ≡ m
+unfolding run
+run_over p l j m h f =
+    let g : run p (drop j l) ≡ 0 = rw (drop_of_length-le l h) in
+    omega arith
 
 -- a quiet byte
 calm_by : (b has x : Bool) → pick b (not has) x ≡ true → not (has && b) ≡ true

@@ -1,39 +1,22 @@
 -- One byte more of a text: what the loops that feed cite.
-use mathlib.Core.Path.{◌≡◌, refl, sym, ap, ◌∙◌}
-use mathlib.Core.Bool.{Bool, true, false, not, ◌&&◌}
-use mathlib.Core.List.{List, [], ◌∷◌, ◌++◌}
+use mathlib.Core.Path.{◌≡◌, refl, ap, ◌∙◌}
+use mathlib.Core.Bool.{Bool, true, false}
+use mathlib.Core.List.{[], ◌∷◌, ◌++◌}
 use Prim.Native.Nat.{ℕ, zero, suc, ◌+◌, ◌-◌, ◌≤◌, ◌<◌}
 use native.Mathlib.Numerals.{add-one}
 use native.Mathlib.Omega.{arith}
-use lib.Dec.{eqb, eqb-suc-suc}
 use lib.ListN.{length, get_or, drop, drop_of_length-le}
 use lib.Seq.{drop-cons}
 use Rattle.rules.specs.Bytes.{Bytes}
 use Rattle.rules.specs.Support.{newline_matcher}
 use Rattle.output.specs.declared.Writer.{Writer}
 use Rattle.output.specs.Writer.{Output}
-use Rattle.support.specs.Feed.{due, wants_indent, marked, finished_by, emitted, all_emitted, entity_or, escaped}
+use Rattle.support.specs.Feed.{marked, finished_by, emitted, all_emitted, entity_or, escaped}
 
 -- the pen
-pub due_behind : (n : ℕ) (first : Bool) → (n ≡ 0 → ⊥) → eqb n 11 ≡ due n first
-due_behind zero first h = absurd (h refl)
-due_behind (suc c) first h = eqb-suc-suc c 10
-
 pub finished_marked : (w : Writer) (n : ℕ) (b : Bool) → (n ≡ 0 → ⊥) → b ≡ newline_matcher (n - 1) → marked b w ≡ finished_by n w
 finished_marked w zero b h e = absurd (h refl)
 finished_marked w (suc c) b h e = let k : suc c - 1 ≡ c = omega arith in ap (λ (t : Bool). marked t w) (e ∙ ap newline_matcher k)
-
--- what is wanted in front of a byte: nothing without an indent
-pub wants : (c : ℕ) (w : Writer) (h : Bool) → w.has_indent ≡ h → wants_indent c w ≡ h && due w.pen (not (newline_matcher c) && w.indent_before_write)
-wants c w h e = ap (λ (b : Bool). b && due w.pen (not (newline_matcher c) && w.indent_before_write)) e
-
--- and where a text begins, what the mark says, but for a newline
-pub wants_first : (c : ℕ) (w : Writer) (n : Bool) → w.has_indent ≡ true → w.pen ≡ 0 → newline_matcher c ≡ n
-    → not n && w.indent_before_write ≡ wants_indent c w
-wants_first c w n h p k =
-    sym (wants c w true h
-    ∙ ap (λ (m : ℕ). due m (not (newline_matcher c) && w.indent_before_write)) p
-    ∙ ap (λ (b : Bool). not b && w.indent_before_write) k)
 
 -- a text
 pub all_emitted_append : (i u v : Bytes) (o : Output) → all_emitted i (u ++ v) o ≡ all_emitted i v (all_emitted i u o)

@@ -1,5 +1,5 @@
 -- Feeding a text to a writer, byte by byte, and what comes of it.
-use Rattle.std.specs.Prelude.{ℕ, zero, suc, Bool, true, false, ◌&&◌, not, [], ◌∷◌, ◌++◌, eqb, take}
+use Rattle.std.specs.Prelude.{ℕ, zero, suc, Bool, true, ◌&&◌, not, [], ◌∷◌, ◌++◌, eqb, take}
 use Rattle.rules.specs.Bytes.{Bytes, pick}
 use Rattle.rules.specs.Support.{newline_matcher, starts_with_newline, entity, escape_html}
 use Rattle.rules.specs.Output.{indent_or_empty, indented}

@@ -70,19 +70,10 @@ const CARRIAGE_RETURN: usize = b'\r' as usize;
 // The pen behind a line feed.
 const BEHIND_LINE_FEED: usize = LINE_FEED + 1;
 
-fn wide(x: u8) -> usize
-    ensures { (result ≡ x) × (result < 256) }
-{
-    x as usize
-}
-
 pub fn newline_matcher(c: usize) -> bool
     ensures { result ≡ newline_matcher c }
 {
-    if c == LINE_FEED {
-        return true;
-    }
-    c == CARRIAGE_RETURN
+    c == LINE_FEED || c == CARRIAGE_RETURN
 }
 
 // Behind a line feed, or in front of a text that does not start with a newline.
@@ -92,13 +83,10 @@ fn wants_indent(w: Writer, c: u8) -> bool
     if !w.has_indent {
         return false;
     }
-    if w.pen != 0 {
-        return w.pen == BEHIND_LINE_FEED;
+    match w.pen {
+        0 => !newline_matcher(usize::from(c)) && w.indent_before_write,
+        pen => pen == BEHIND_LINE_FEED,
     }
-    if newline_matcher(wide(c)) {
-        return false;
-    }
-    w.indent_before_write
 }
 
 fn indent_before(out: &mut [u8], indent: &[u8], w: Writer, c: u8) -> Writer
@@ -106,7 +94,7 @@ fn indent_before(out: &mut [u8], indent: &[u8], w: Writer, c: u8) -> Writer
         ≡ all_put (before indent.now c w) (output w out.old) }
 {
     if wants_indent(w, c) {
-        let n = bits::least(w.indent, indent.len());
+        let n = w.indent.min(indent.len());
         return output::write(out, w, &indent[..n]);
     }
     w
@@ -127,7 +115,7 @@ fn feed(out: &mut [u8], indent: &[u8], w: Writer, c: u8) -> Writer
 {
     let q = indent_before(out, indent, w, c);
     let mut r = output::put(out, q, c);
-    r.pen = wide(c) + 1;
+    r.pen = usize::from(c) + 1;
     r
 }
 
@@ -143,7 +131,7 @@ fn feed_run(out: &mut [u8], indent: &[u8], w: Writer, v: &[u8]) -> Writer
     }
     let q = indent_before(out, indent, w, v[0]);
     let mut r = output::write(out, q, v);
-    r.pen = wide(v[n - 1]) + 1;
+    r.pen = usize::from(v[n - 1]) + 1;
     r
 }
 
@@ -174,15 +162,13 @@ fn entry(k: usize) -> Entity
 fn row(c: u8) -> usize
     ensures { result ≡ row_of c }
 {
-    let mut k = 0;
-    while k < ROWS {
+    for k in 0..ROWS {
         let e = entry(k);
         if e.character == c {
             return k;
         }
-        k += 1;
     }
-    k
+    ROWS
 }
 
 // Whether a character has an entity. (The table is constant, so the compiler makes one test of the loop over it: a bit of a
@@ -199,9 +185,8 @@ fn feed_entity(out: &mut [u8], indent: &[u8], w: Writer, k: usize) -> Writer
         ≡ all_emitted indent.now (row_bytes k) (output w out.old) }
 {
     let e = entry(k);
-    let n = wide(e.count);
-    let v = e.bytes;
-    feed_run(out, indent, w, &v[..n])
+    let n = usize::from(e.count);
+    feed_run(out, indent, w, &e.bytes[..n])
 }
 
 // A byte, or its entity.
@@ -223,12 +208,10 @@ fn is_quiet(c: u8, has_indent: bool, escape: bool) -> bool
     ensures { result ≡ quiet_byte has_indent escape c }
 {
     if c == b'\n' {
-        return !has_indent;
+        !has_indent
+    } else {
+        !(escape && is_escaped(c))
     }
-    if !escape {
-        return true;
-    }
-    !is_escaped(c)
 }
 
 // Where the quiet bytes from i on end.
@@ -237,14 +220,12 @@ pub fn quiet(v: &[u8], i: usize, has_indent: bool, escape: bool) -> usize
     ensures { (result ≡ i + run (quiet_byte has_indent escape) (drop i v.now))
         × (result ≤ length v.now) }
 {
-    let mut j = i;
-    while j < v.len() {
+    for j in i..v.len() {
         if !is_quiet(v[j], has_indent, escape) {
             return j;
         }
-        j += 1;
     }
-    j
+    v.len()
 }
 
 // All of a lent text, by runs: what needs no indent and no entity is copied at once.
@@ -274,12 +255,10 @@ pub fn line_end(s: &[u8], p: usize, i: usize, n: usize, has_indent: bool) -> usi
     if !has_indent {
         return n;
     }
-    let mut j = i;
-    while j < n {
+    for j in i..n {
         if bits::byte(s, p + 8 * j) == b'\n' {
             return j + 1;
         }
-        j += 1;
     }
     n
 }
@@ -295,7 +274,7 @@ fn feed_packed_run(out: &mut [u8], indent: &[u8], w: Writer, s: &[u8], p: usize,
     }
     let q = indent_before(out, indent, w, bits::byte(s, p));
     let mut r = output::write_packed(out, q, s, p, n);
-    r.pen = wide(bits::byte(s, p + 8 * (n - 1))) + 1;
+    r.pen = usize::from(bits::byte(s, p + 8 * (n - 1))) + 1;
     r
 }
 
@@ -321,14 +300,12 @@ fn quiet_packed(s: &[u8], p: usize, i: usize, n: usize, has_indent: bool) -> usi
     ensures { (result ≡ i + run (quiet_byte has_indent true) (drop i (bytes_at (bits s.now) p n)))
         × (result ≤ n) }
 {
-    let mut j = i;
-    while j < n {
+    for j in i..n {
         if !is_quiet(bits::byte(s, p + 8 * j), has_indent, true) {
             return j;
         }
-        j += 1;
     }
-    j
+    n
 }
 
 // All of a packed string, escaped, by runs: as `feed_bytes`. (`feed_packed_run` would do for a run, but with a second caller the

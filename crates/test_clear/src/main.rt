@@ -23,9 +23,9 @@ fn show_u8(rt: &impl Print, b: &[u8; 3]) -> io::Result<()> {
 
 fn cleared_u8(rt: &impl Print, at: usize) -> io::Result<()> {
     let mut b = [253u8, 254, 255];
-    clear::clear_u8_from(&mut b, at);
+    clear::clear_from(&mut b, at, 0);
     show_u8(rt, &b)?;
-    clear::clear_u8(&mut b);
+    clear::clear(&mut b, 0);
     show_u8(rt, &b)?;
     end_line(rt)
 }
@@ -42,9 +42,9 @@ fn show_u16(rt: &impl Print, b: &[u16; 3]) -> io::Result<()> {
 
 fn cleared_u16(rt: &impl Print, at: usize) -> io::Result<()> {
     let mut b = [65533u16, 65534, 65535];
-    clear::clear_u16_from(&mut b, at);
+    clear::clear_from(&mut b, at, 0);
     show_u16(rt, &b)?;
-    clear::clear_u16(&mut b);
+    clear::clear(&mut b, 0);
     show_u16(rt, &b)?;
     end_line(rt)
 }
@@ -61,9 +61,9 @@ fn show_u32(rt: &impl Print, b: &[u32; 3]) -> io::Result<()> {
 
 fn cleared_u32(rt: &impl Print, at: usize) -> io::Result<()> {
     let mut b = [4294967293u32, 4294967294, 4294967295];
-    clear::clear_u32_from(&mut b, at);
+    clear::clear_from(&mut b, at, 0);
     show_u32(rt, &b)?;
-    clear::clear_u32(&mut b);
+    clear::clear(&mut b, 0);
     show_u32(rt, &b)?;
     end_line(rt)
 }
@@ -80,17 +80,17 @@ fn cleared_u64(rt: &impl Print, at: usize) -> io::Result<()> {
         18446744073709551614,
         18446744073709551615,
     ];
-    clear::clear_u64_from(&mut b, at);
+    clear::clear_from(&mut b, at, 0);
     show_u64(rt, &b)?;
-    clear::clear_u64(&mut b);
+    clear::clear(&mut b, 0);
     show_u64(rt, &b)?;
     end_line(rt)
 }
 
 // A part that has nothing in it.
 fn none(b: &mut [u8]) {
-    clear::clear_u8(&mut b[..0]);
-    clear::clear_u8_from(&mut b[..0], 0);
+    clear::clear(&mut b[..0], 0);
+    clear::clear_from(&mut b[..0], 0, 0);
 }
 
 fn main(rt: HostRuntime) -> io::Result<()> {

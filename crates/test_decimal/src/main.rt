@@ -4,20 +4,17 @@
 ghost use Rattle.std.specs.Prelude.{◌≡◌, ◌≤◌};
 ghost use Rattle.decimal.specs.Parsing.{parsed};
 
-use decimal::Parsed;
 use std::io;
 use std::io::Write;
 
 // The digits of n, fed to the parser one by one, are n again.
-fn parse_digits_of(n: u64) -> Parsed
-    ensures { result ≡ Parsed.Is n }
+fn parse_digits_of(n: u64) -> Option<u64>
+    ensures { result ≡ Some n }
 {
     let count = decimal::digit_count(n);
     let mut p = decimal::start();
-    let mut i: usize = 0;
-    while i < count {
+    for i in 0..count {
         p = decimal::feed(p, decimal::digit(n, i));
-        i += 1;
     }
     decimal::finish(p)
 }
@@ -35,8 +32,8 @@ fn print_line_end(rt: &impl Print) -> io::Result<()> {
     print_byte(rt, 10)
 }
 
-fn print_parsed(rt: &impl Print, p: Parsed) -> io::Result<()> {
-    let Parsed::Is(n) = p else {
+fn print_parsed(rt: &impl Print, p: Option<u64>) -> io::Result<()> {
+    let Some(n) = p else {
         println!(rt; " refused")?;
         return Ok(());
     };

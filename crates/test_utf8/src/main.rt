@@ -14,10 +14,8 @@ fn fed(from: Utf, s: &[u8]) -> Utf
     ensures { wanted result ≡ after (wanted from) s.now }
 {
     let mut u = from;
-    let mut i: usize = 0;
-    while i < s.len() {
-        u = utf8::step(u, s[i]);
-        i += 1;
+    for c in s {
+        u = utf8::step(u, *c);
     }
     u
 }

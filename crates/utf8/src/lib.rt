@@ -18,34 +18,17 @@ pub enum Utf {
 fn lead(c: u8) -> Utf
     ensures { wanted result ≡ lead c }
 {
-    if c < 128 {
-        return Utf::Wants(0, 128, 191);
+    match c {
+        0..=127 => Utf::Wants(0, 128, 191),
+        194..=223 => Utf::Wants(1, 128, 191),
+        224 => Utf::Wants(2, 160, 191),
+        237 => Utf::Wants(2, 128, 159),
+        225..=239 => Utf::Wants(2, 128, 191),
+        240 => Utf::Wants(3, 144, 191),
+        241..=243 => Utf::Wants(3, 128, 191),
+        244 => Utf::Wants(3, 128, 143),
+        _ => Utf::Bad,
     }
-    if c < 194 {
-        return Utf::Bad;
-    }
-    if c < 224 {
-        return Utf::Wants(1, 128, 191);
-    }
-    if c == 224 {
-        return Utf::Wants(2, 160, 191);
-    }
-    if c == 237 {
-        return Utf::Wants(2, 128, 159);
-    }
-    if c < 240 {
-        return Utf::Wants(2, 128, 191);
-    }
-    if c == 240 {
-        return Utf::Wants(3, 144, 191);
-    }
-    if c < 244 {
-        return Utf::Wants(3, 128, 191);
-    }
-    if c == 244 {
-        return Utf::Wants(3, 128, 143);
-    }
-    Utf::Bad
 }
 
 // The machine before the first byte.
@@ -59,29 +42,18 @@ pub fn start() -> Utf
 pub fn step(u: Utf, c: u8) -> Utf
     ensures { wanted result ≡ more (wanted u) c }
 {
-    let Utf::Wants(left, low, high) = u else {
-        return Utf::Bad;
-    };
-    if left == 0 {
-        return lead(c);
+    match u {
+        Utf::Wants(0, ..) => lead(c),
+        Utf::Wants(left, low, high) if low <= c && c <= high => Utf::Wants(left - 1, 128, 191),
+        _ => Utf::Bad,
     }
-    if c < low {
-        return Utf::Bad;
-    }
-    if high < c {
-        return Utf::Bad;
-    }
-    Utf::Wants(left - 1, 128, 191)
 }
 
 // Whether the bytes fed so far are whole characters, or none.
 pub fn is_done(u: Utf) -> bool
     ensures { result ≡ done (wanted u) }
 {
-    match u {
-        Utf::Wants(left, _, _) => left == 0,
-        Utf::Bad => false,
-    }
+    matches!(u, Utf::Wants(0, ..))
 }
 
 // Whether a byte from low to high stands at i. Past the end the rules read a zero, which no low is.
@@ -89,13 +61,7 @@ fn stands(s: &[u8], i: usize, low: u8, high: u8) -> bool
     requires { 0 < low }
     ensures { result ≡ between low high (byte_at s.now i) }
 {
-    if s.len() <= i {
-        return false;
-    }
-    if s[i] < low {
-        return false;
-    }
-    s[i] <= high
+    i < s.len() && low <= s[i] && s[i] <= high
 }
 
 // The length of the character at i, from 1 to 4; 0 where none stands, and past the end.
@@ -133,13 +99,13 @@ pub fn utf8_length(s: &[u8], i: usize) -> usize
 pub fn is_utf8(s: &[u8]) -> bool
     ensures { result ≡ utf8 s.now }
 {
-    let mut i: usize = 0;
-    while i < s.len() {
-        let n = utf8_length(s, i);
+    let mut rest = s;
+    while !rest.is_empty() {
+        let n = utf8_length(rest, 0);
         if n == 0 {
             return false;
         }
-        i += n;
+        rest = &rest[n..];
     }
     true
 }

@@ -1,21 +1,15 @@
 use native.Mathlib.Omega.{arith}
 use mathlib.Core.Path.{◌≡◌, refl, ap, ◌∙◌}
-use borrow.Author.Rules.{rules}
 use Prim.Native.Nat.{ℕ, ◌+◌, ◌-◌, ◌*◌}
-use lib.ListN.{length}
 use Rattle.rules.specs.Bits.{bits}
 use Rattle.rules.specs.Layout.{field}
 use Rattle.rules.specs.BundleLaws.{bits_binary}
-use Rattle.bits.proofs.Laws.{byte_lt, bytes_more, bytes_lt, are_last}
+use Rattle.bits.proofs.Laws.{byte_lt, bytes_more, bytes_lt}
 use Rattle.bits.proofs.+bytes_or_zero.Goals as goal
 
 pub returns-then-n-eq0 : goal.returns-then-n-eq0
 unfolding field
 returns-then-n-eq0 t c = rw c.if-n-eq0.true refl
-
-pub last_bytes-requires : goal.last_bytes-requires
-last_bytes-requires t c = let a = c.args in
-    search (rules, are_last a.k (length a.s.now) c.if-len-k.true)
 
 pub overflow_mul-result : goal.overflow_mul-result
 overflow_mul-result t c = let a = c.args in

@@ -1,4 +1,3 @@
-use Prim.Native.Nat.{◌-◌, ◌≤◌}
 use mathlib.Core.Path.{◌≡◌}
 use Rattle.rules.specs.Bytes.{before}
 use Rattle.rules.specs.Bits.{bits}
@@ -7,7 +6,4 @@ use Rattle.bits.specs.Compare.{BeforeFrom}
 use Rattle.bits.proofs.before_at.Given as goal
 
 abbrev pub invariant-loop-i : goal.invariant-loop-i
-invariant-loop-i l = (l.i ≤ l.n) × (l.i ≤ l.m) × (BeforeFrom (bytes_at (bits l.s) l.p l.n) (bytes_at (bits l.s) l.q l.m) l.i ≡ before (bytes_at (bits l.s) l.p l.n) (bytes_at (bits l.s) l.q l.m))
-
-abbrev pub decreases-loop-i : goal.decreases-loop-i
-decreases-loop-i l = l.m - l.i
+invariant-loop-i l = BeforeFrom (bytes_at (bits l.s) l.p l.n) (bytes_at (bits l.s) l.q l.m) l.i ≡ before (bytes_at (bits l.s) l.p l.n) (bytes_at (bits l.s) l.q l.m)

@@ -17,17 +17,10 @@ returns-then-n-m c = let a = c.args in
     let b = bits a.s.now in
     same_lengths (bytes_at b a.p a.n) (bytes_at b a.q a.m) (λ e. c.if-n-m.true (sym (bytes_length b a.p a.n) ∙ e ∙ bytes_length b a.q a.m))
 
-pub loop-i-init : goal.loop-i-init
-loop-i-init c = let a = c.args in
-    let f : a.p + 8 * 0 ≡ a.p = omega arith in
-    let g : a.q + 8 * 0 ≡ a.q = omega arith in
-    let h : a.n - 0 ≡ a.n = omega arith in
-    (omega arith, rw (f, g, h, ← c.if-n-m.false))
-
 pub returns-then-field : goal.returns-then-field
 returns-then-field c = let a = c.args in
     let i = c.loop-i.i in
-    let k = c.least-k.result in
+    let k = c.min-k.result in
     let e : k + (a.n - i - k) ≡ a.n - i = omega arith in
     let d = differ_run (bits a.s.now) (bits_binary a.s.now) (a.n - i - k) k (a.p + 8 * i) (a.q + 8 * i) (λ f. c.if-field.true (c.field.ensures ∙ f ∙ sym c.field-in-loop-i.ensures)) in
     (rw e at d) ∙ c.loop-i.invariant.1
@@ -35,7 +28,7 @@ returns-then-field c = let a = c.args in
 pub loop-i-preserved : goal.loop-i-preserved
 loop-i-preserved c = let a = c.args in
     let i = c.loop-i.i in
-    let k = c.least-k.result in
+    let k = c.min-k.result in
     let e : k + (a.n - i - k) ≡ a.n - i = omega arith in
     let f : a.p + 8 * (i + k) ≡ a.p + 8 * i + 8 * k = omega arith in
     let g : a.q + 8 * (i + k) ≡ a.q + 8 * i + 8 * k = omega arith in

@@ -8,21 +8,18 @@ use Rattle.bits.proofs.same_bytes.Goals as goal
 pub returns-then-n-t : goal.returns-then-n-t
 returns-then-n-t c = let a = c.args in same_lengths (bytes_at (bits a.s.now) a.p a.n) a.t.now (λ e. c.if-n-t.true (sym (bytes_length (bits a.s.now) a.p a.n) ∙ e))
 
-pub loop-i-init : goal.loop-i-init
-loop-i-init c = (omega arith, refl)
-
-pub returns-then-byte-t : goal.returns-then-byte-t
-returns-then-byte-t c = let a = c.args in
+pub returns-then-byte-c : goal.returns-then-byte-c
+returns-then-byte-c c = let a = c.args in
     let l = c.loop-i in
-    same_differ (bytes_hold (bits a.s.now) a.p a.n l.i c.loop-i-test.true c.byte.ensures) (record { within = omega arith; is = refl }) c.if-byte-t.true ∙ l.invariant.1
+    same_differ (bytes_hold (bits a.s.now) a.p a.n l.i (omega arith) c.byte.ensures) (record { within = omega arith; is = refl }) c.if-byte-c.true ∙ l.invariant
 
 pub loop-i-preserved : goal.loop-i-preserved
 loop-i-preserved c = let a = c.args in
     let l = c.loop-i in
-    (omega arith, same_more (bytes_hold (bits a.s.now) a.p a.n l.i c.loop-i-test.true c.byte.ensures) (record { within = omega arith; is = refl }) c.if-byte-t.false ∙ l.invariant.1)
+    same_more (bytes_hold (bits a.s.now) a.p a.n l.i (omega arith) c.byte.ensures) (record { within = omega arith; is = refl }) c.if-byte-c.false ∙ l.invariant
 
 pub returns : goal.returns
 returns c = let a = c.args in
     let b = bits a.s.now in
     let l = c.loop-i in
-    same_end (bytes_at b a.p a.n) a.t.now l.i (omega (arith, bytes_length b a.p a.n)) (omega arith) ∙ l.invariant.1
+    same_end (bytes_at b a.p a.n) a.t.now l.i (omega (arith, bytes_length b a.p a.n)) (omega arith) ∙ l.invariant

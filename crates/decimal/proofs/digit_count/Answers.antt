@@ -5,25 +5,19 @@ use native.Mathlib.Omega.{arith}
 use Prim.Native.Nat.{◌+◌, ◌-◌}
 use Rattle.decimal.proofs.digit_count.Goals as goal
 
-pub loop-k-init : goal.loop-k-init
-loop-k-init c = (omega arith, omega arith, tt)
-
-pub returns-then-n-powers : goal.returns-then-n-powers
-returns-then-n-powers c = let l = c.loop-k in
+pub returns-then-n-k : goal.returns-then-n-k
+returns-then-n-k c = let l = c.loop-k in
     let n = c.args.n in
-    counted_length l.k n (record { some = l.invariant.0; few = l.invariant.1; below = rw (power_at l.k c.loop-k-test.true) at c.if-n-powers.true; reached = l.invariant.2 })
-
-pub loop-k-smaller : goal.loop-k-smaller
-loop-k-smaller c = omega arith
+    counted_length l.k n (record { some = omega arith; few = omega arith; below = rw (power_at l.k (omega arith)) at c.if-n-k.true; reached = l.invariant })
 
 pub loop-k-preserved : goal.loop-k-preserved
 loop-k-preserved c = let l = c.loop-k in
     let n = c.args.n in
     let e : l.k + 1 - 1 ≡ l.k = omega arith in
-    (omega arith, omega arith, rw e (at_least l.k n (rw (power_at l.k c.loop-k-test.true) at c.if-n-powers.false)))
+    rw e (at_least l.k n (rw (power_at l.k (omega arith)) at c.if-n-k.false))
 
 pub returns : goal.returns
 returns c = let l = c.loop-k in
     let n = c.args.n in
     let e : l.k ≡ 20 = omega arith in
-    counted_length l.k n (record { some = l.invariant.0; few = l.invariant.1; below = rw e (omega arith); reached = l.invariant.2 })
+    counted_length 20 n (record { some = omega arith; few = omega arith; below = omega arith; reached = rw e at l.invariant })

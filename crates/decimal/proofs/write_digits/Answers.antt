@@ -2,8 +2,8 @@ use Rattle.decimal.proofs.Writing.{Written, written_none, written_more, written_
 use Rattle.decimal.proofs.Putting.{behind_all, put_none, behind_none}
 use Rattle.decimal.proofs.Digits.{digits_places}
 use Rattle.rules.specs.Bytes.{digits}
-use lib.ListN.{length, length-set}
-use mathlib.Core.Path.{◌≡◌, refl, ap, subst, ◌∙◌, sym}
+use lib.ListN.{length}
+use mathlib.Core.Path.{◌≡◌, ap, subst, ◌∙◌, sym}
 use Prim.Native.Nat.{suc, ◌+◌, ◌-◌, ◌≤◌, ◌<◌}
 use native.Mathlib.Omega.{arith}
 use Rattle.decimal.proofs.write_digits.Goals as goal
@@ -20,37 +20,19 @@ returns-then-out-count-2 c = let a = c.args in
 
 pub loop-i-init : goal.loop-i-init
 loop-i-init c = let a = c.args in
-    (rw c.digit_count-count.ensures (written_none a.out.now a.at a.n (digits a.n) (digits_places a.n (omega arith))), refl)
-
-pub overflow_add-out : goal.overflow_add-out
-overflow_add-out c = omega (arith, c.digit_count-count.ensures)
-
-pub overflow_add-out-in-loop-i : goal.overflow_add-out-in-loop-i
-overflow_add-out-in-loop-i c = omega (arith, c.digit_count-count.ensures)
-
-pub bounds-out-at : goal.bounds-out-at
-bounds-out-at c = omega (arith, c.digit_count-count.ensures)
-
-pub loop-i-smaller : goal.loop-i-smaller
-loop-i-smaller c = omega arith
+    rw c.digit_count-count.ensures (written_none a.out.now a.at a.n (digits a.n) (digits_places a.n (omega arith)))
 
 pub loop-i-preserved : goal.loop-i-preserved
 loop-i-preserved c = let a = c.args in
     let l = c.loop-i in
     let e : l.i ≡ suc (l.i - 1) = omega arith in
     let room : a.at + length (digits a.n) ≤ length a.out.now = omega (arith, c.digit_count-count.ensures) in
-    (written_more a.out.now a.at (digits a.n) l.rest (l.i - 1) l.out room (subst (λ k. Written a.out.now a.at (digits a.n) l.rest k l.out) e l.invariant.0), simp length-set l.invariant.1)
-
-pub overflow_add-result : goal.overflow_add-result
-overflow_add-result c = omega (arith, c.digit_count-count.ensures)
-
-pub shape_of-out : goal.shape_of-out
-shape_of-out c = c.loop-i.invariant.1
+    written_more a.out.now a.at (digits a.n) l.rest (l.i - 1) l.out room (subst (λ k. Written a.out.now a.at (digits a.n) l.rest k l.out) e l.invariant)
 
 pub returns : goal.returns
 returns c = let a = c.args in
     let l = c.loop-i in
     let e : l.i ≡ 0 = omega arith in
     let room : a.at + length (digits a.n) ≤ length a.out.now = omega (arith, c.digit_count-count.ensures) in
-    let w = subst (λ k. Written a.out.now a.at (digits a.n) l.rest k l.out) e l.invariant.0 in
+    let w = subst (λ k. Written a.out.now a.at (digits a.n) l.rest k l.out) e l.invariant in
     (ap (λ k. a.at + k) c.digit_count-count.ensures ∙ sym (behind_all a.out.now a.at (digits a.n) room), written_all a.out.now a.at l.rest (digits a.n) l.out room w)

@@ -1,11 +1,6 @@
 use Rattle.decimal.proofs.Writing.{Written}
 use Rattle.rules.specs.Bytes.{digits}
-use lib.ListN.{length}
-use mathlib.Core.Path.{◌≡◌}
 use Rattle.decimal.proofs.write_digits.Given as goal
 
 abbrev pub invariant-loop-i : goal.invariant-loop-i
-invariant-loop-i l = Written l.initial.out l.at (digits l.n) l.rest l.i l.out × (length l.out ≡ length l.initial.out)
-
-abbrev pub decreases-loop-i : goal.decreases-loop-i
-decreases-loop-i l = l.i
+invariant-loop-i l = Written l.initial.out l.at (digits l.n) l.rest l.i l.out

@@ -1,17 +1,13 @@
 use native.Mathlib.Omega.{arith}
-use Prim.Native.Nat.{ℕ, ◌+◌, ◌≤◌}
+use Prim.Native.Nat.{◌≤◌}
 use mathlib.Core.Path.{◌≡◌, sym, ap, ◌∙◌}
-use mathlib.Core.Bool.{true}
-use lib.ListN.{length, take, drop}
+use lib.ListN.{length}
 use lib.Seq.{take_all}
 use borrow.Author.Tests.{eqb-true}
-use Rattle.rules.specs.Bytes.{Bytes}
-use Rattle.rules.specs.Order.{differ}
 use Rattle.rules.specs.Bits.{bits}
 use Rattle.bits.specs.Packed.{bytes_at, bytes_length}
 use Rattle.support.specs.Runs.{calm, line_length}
 use Rattle.support.proofs.Runs.{line_calm}
-use borrow.Author.Rules.{rules}
 use Rattle.direct.proofs.is_direct.Goals as goal
 
 pub returns-then-takes : goal.returns-then-takes
@@ -23,6 +19,3 @@ returns-then-takes c = let a = c.args in
     let e : c.line_end.result ≡ a.n = eqb-true c.line_end.result a.n h in
     let l : length v ≤ line_length has v = omega (arith, e, n, c.line_end.ensures) in
     (sym c.takes.ensures ∙ c.if-takes.true, ap (calm has) (sym (take_all (line_length has v) v l)) ∙ line_calm has v)
-
-pub returns : goal.returns
-returns c = λ h. differ (sym h)

@@ -1,26 +1,10 @@
-use Rattle.direct.specs.Direct.{behind, taken, stored_whole, takes}
-use Rattle.output.proofs.Steps.{limit_le}
-use Rattle.output.specs.Writer.{output, place_of}
-use Rattle.rules.specs.Bytes.{Bytes}
+use Rattle.direct.specs.Direct.{behind, stored_whole}
+use Rattle.output.specs.Writer.{output}
 use lib.Seq.{sets, take-length}
-use lib.ListN.{length, get_or, take}
-use mathlib.Core.Path.{◌≡◌, sym, ap, ◌∙◌}
-use Prim.Native.Nat.{ℕ, ◌+◌, ◌-◌, ◌*◌, ◌≤◌, ◌<◌}
-use native.Mathlib.Omega.{arith}
-use borrow.Author.Rules.{rules}
+use lib.ListN.{length, get_or}
+use mathlib.Core.Path.{ap, ◌∙◌}
+use Prim.Native.Nat.{ℕ, ◌-◌}
 use Rattle.direct.proofs.put_bytes.Goals as goal
-
-pub copy-requires : goal.copy-requires
-copy-requires c = let s = c in let t = taken s.args.w (length s.args.out.now) (length s.args.v.now) s.requires.0 in let e = limit_le s.args.w (length s.args.out.now) in (omega (arith, t.fits, c.place-at.ensures), omega arith)
-
-pub overflow_sub-n : goal.overflow_sub-n
-overflow_sub-n c = let s = c in let t = taken s.args.w (length s.args.out.now) (length s.args.v.now) s.requires.0 in omega (arith, t.some)
-
-pub bounds-v-n : goal.bounds-v-n
-bounds-v-n c = let s = c in let t = taken s.args.w (length s.args.out.now) (length s.args.v.now) s.requires.0 in omega (arith, t.some)
-
-pub behind-requires : goal.behind-requires
-behind-requires c = let s = c in let t = taken s.args.w (length s.args.out.now) (length s.args.v.now) s.requires.0 in let e = limit_le s.args.w (length s.args.out.now) in omega (arith, t.fits, t.some, s.well_formed)
 
 pub returns : goal.returns
 returns c = let a = c.args in

@@ -1,25 +1,13 @@
 use Rattle.direct.specs.Direct.{behind, taken, stored_whole, takes}
-use Rattle.output.proofs.Steps.{limit_le}
 use Rattle.output.specs.Writer.{output}
 use Rattle.bits.specs.Packed.{bytes_at, bytes_length, bytes_get}
 use Rattle.rules.specs.Bits.{bits}
-use Rattle.rules.specs.Bytes.{Bytes}
 use lib.Seq.{sets}
 use lib.ListN.{length, get_or}
 use mathlib.Core.Path.{◌≡◌, sym, ap, ◌∙◌}
-use Prim.Native.Nat.{ℕ, ◌+◌, ◌-◌, ◌*◌, ◌≤◌, ◌<◌}
+use Prim.Native.Nat.{ℕ, ◌-◌}
 use native.Mathlib.Omega.{arith}
-use borrow.Author.Rules.{rules}
 use Rattle.direct.proofs.put_packed.Goals as goal
-
-pub copy_packed-requires : goal.copy_packed-requires
-copy_packed-requires c = let s = c in let t = taken s.args.w (length s.args.out.now) s.args.n s.requires.1 in let e = limit_le s.args.w (length s.args.out.now) in (omega (arith, t.fits, c.place-at.ensures), s.requires.0)
-
-pub overflow_sub-n : goal.overflow_sub-n
-overflow_sub-n c = let s = c in let t = taken s.args.w (length s.args.out.now) s.args.n s.requires.1 in omega (arith, t.some)
-
-pub behind-requires : goal.behind-requires
-behind-requires c = let s = c in let t = taken s.args.w (length s.args.out.now) s.args.n s.requires.1 in let e = limit_le s.args.w (length s.args.out.now) in omega (arith, t.fits, t.some, s.well_formed)
 
 pub returns : goal.returns
 returns c = let a = c.args in

@@ -1,26 +1,12 @@
 use Rattle.direct.specs.Direct.{behind, taken, takes, stored_whole, short_bytes, short_length}
-use Rattle.output.proofs.Steps.{limit_le}
 use Rattle.output.specs.Writer.{output}
 use Rattle.bits.specs.Packed.{number_bytes}
 use lib.Seq.{sets, get_or-take}
 use lib.ListN.{length, get_or}
 use mathlib.Core.Path.{◌≡◌, sym, ap, ◌∙◌}
-use Prim.Native.Nat.{ℕ, ◌+◌, ◌-◌, ◌≤◌, ◌<◌}
+use Prim.Native.Nat.{ℕ, ◌-◌}
 use native.Mathlib.Omega.{arith}
-use borrow.Author.Rules.{rules}
 use Rattle.direct.proofs.put_short.Goals as goal
-
-pub store_short-requires : goal.store_short-requires
-store_short-requires c = let s = c in let t = taken s.args.w (length s.args.out.now) s.args.n s.requires.1 in let e = limit_le s.args.w (length s.args.out.now) in (s.requires.0, omega (arith, t.fits, c.place-at.ensures))
-
-pub overflow_sub-n : goal.overflow_sub-n
-overflow_sub-n c = let s = c in let t = taken s.args.w (length s.args.out.now) s.args.n s.requires.1 in omega (arith, t.some)
-
-pub short_byte-requires : goal.short_byte-requires
-short_byte-requires c = let s = c in let t = taken s.args.w (length s.args.out.now) s.args.n s.requires.1 in omega (arith, t.some, s.requires.0)
-
-pub behind-requires : goal.behind-requires
-behind-requires c = let s = c in let t = taken s.args.w (length s.args.out.now) s.args.n s.requires.1 in let e = limit_le s.args.w (length s.args.out.now) in omega (arith, t.fits, t.some, s.well_formed)
 
 pub returns : goal.returns
 returns c = let a = c.args in

@@ -1,5 +1,4 @@
 use Rattle.direct.specs.Direct.{short_get}
-use borrow.Author.Rules.{rules}
 use Rattle.direct.proofs.short_byte.Goals as goal
 
 pub returns : goal.returns

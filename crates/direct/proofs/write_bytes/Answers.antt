@@ -2,14 +2,9 @@ use Rattle.direct.specs.Direct.{plain_means, written_text}
 use Rattle.support.specs.Runs.{calm}
 use Rattle.output.specs.Writer.{output}
 use Rattle.rules.specs.Bytes.{Bytes}
-use borrow.Author.Tests.{not-false}
-use mathlib.Core.Path.{◌≡◌, sym, ap, ◌∙◌}
+use mathlib.Core.Path.{sym, ap, ◌∙◌}
 use mathlib.Core.Bool.{Bool}
-use borrow.Author.Rules.{rules}
 use Rattle.direct.proofs.write_bytes.Goals as goal
-
-pub returns-then-not-is_plain : goal.returns-then-not-is_plain
-returns-then-not-is_plain c = c.feed_bytes.ensures
 
 pub put_bytes-requires : goal.put_bytes-requires
 put_bytes-requires c = let a = c.args in let d = plain_means a.w.has_indent a.escape a.v.now (sym c.is_plain.ensures ∙ (c.if-not-is_plain.false)) in (sym c.takes.ensures ∙ c.if-takes.true, ap (λ (t : Bool). calm t c.args.v.now) c.led_bytes-u.ensures.0 ∙ d.0)

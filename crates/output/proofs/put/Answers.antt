@@ -1,27 +1,10 @@
-use Rattle.output.proofs.Steps.{put_fits, put_full, limit_le, low_more, written_more}
+use Rattle.output.proofs.Steps.{put_fits, put_full, low_more, written_more}
 use Rattle.output.specs.Writer.{output, advanced, place_of, limit_of}
 use Rattle.output.specs.declared.Writer.{Writer}
 use lib.ListN.{length, set}
-use native.Mathlib.Omega.{arith}
-use Prim.Native.Nat.{ℕ, ◌+◌, ◌<◌, ◌≤◌}
-use mathlib.Core.Path.{◌≡◌, ap, ◌∙◌}
-use borrow.Author.Rules.{rules}
+use Prim.Native.Nat.{ℕ, ◌<◌}
+use mathlib.Core.Path.{ap, ◌∙◌}
 use Rattle.output.proofs.put.Goals as goal
-
-pub bounds-out-at : goal.bounds-out-at
-bounds-out-at c = let a = c.args in
-    let e = limit_le a.w (length a.out.now) in
-    omega (arith, c.limit.ensures)
-
-pub overflow_add-q : goal.overflow_add-q
-overflow_add-q c = let a = c.args in
-    let e = limit_le a.w (length a.out.now) in
-    omega (arith, c.limit.ensures, c.if-at-limit.true)
-
-pub overflow_add-q-else-q : goal.overflow_add-q-else-q
-overflow_add-q-else-q c = let a = c.args in
-    let e = limit_le a.w (length a.out.now) in
-    omega (arith, c.limit.ensures, c.if-at-limit.true)
 
 pub returns-then-q : goal.returns-then-q
 returns-then-q c = let a = c.args in

@@ -1,9 +1,8 @@
-use mathlib.Core.Path.{◌≡◌, refl, sym, ap, ◌∙◌}
-use mathlib.Core.Bool.{true}
-use Prim.Native.Nat.{ℕ, ◌+◌, ◌-◌, ◌≤◌, ◌<◌}
+use mathlib.Core.Path.{◌≡◌, sym, ap, ◌∙◌}
+use Prim.Native.Nat.{ℕ, ◌+◌, ◌-◌}
 use native.Mathlib.Omega.{arith}
-use lib.ListN.{length, get_or, take, drop}
-use Rattle.rules.specs.Bytes.{Bytes, run}
+use lib.ListN.{take, drop}
+use Rattle.rules.specs.Bytes.{run}
 use Rattle.output.specs.Writer.{output}
 use Rattle.support.specs.Feed.{all_emitted, escaped}
 use Rattle.support.specs.Runs.{calm, quiet_byte}
@@ -33,9 +32,6 @@ returns-then-v-n c = let a = c.args in
     sym (feed_done a.indent.now a.v.now (l.i + (n - l.i)) a.escape o' (omega (arith, c.if-v-n.true)))
     ∙ run_step a.indent.now a.v.now l.i (n - l.i) a.escape (output l.q l.out) o' plain p.ensures
     ∙ l.invariant.2
-
-pub overflow_add-i : goal.overflow_add-i
-overflow_add-i c = omega (arith, c.well_formed, c.if-v-n.false)
 
 pub loop-i-preserved : goal.loop-i-preserved
 loop-i-preserved c = let a = c.args in

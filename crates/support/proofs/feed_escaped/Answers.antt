@@ -6,7 +6,6 @@ use Rattle.rules.specs.Bytes.{Bytes}
 use Rattle.support.proofs.feed_escaped.Goals.{then-escape+else-k-lt-ROWS, else-escape}
 use mathlib.Core.List.{[], ◌∷◌}
 use mathlib.Core.Path.{◌≡◌, ap, ◌∙◌}
-use borrow.Author.Rules.{rules}
 use Rattle.support.proofs.feed_escaped.Goals as goal
 
 pub returns-then-k-lt-ROWS : goal.returns-then-k-lt-ROWS

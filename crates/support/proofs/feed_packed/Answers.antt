@@ -1,8 +1,8 @@
 use mathlib.Core.Path.{◌≡◌, refl, sym, ap, ◌∙◌}
 use mathlib.Core.Bool.{false}
-use Prim.Native.Nat.{ℕ, ◌+◌, ◌-◌, ◌*◌, ◌≤◌, ◌<◌}
+use Prim.Native.Nat.{ℕ, ◌+◌, ◌-◌, ◌≤◌, ◌<◌}
 use native.Mathlib.Omega.{arith}
-use lib.ListN.{length, take, drop, length-drop}
+use lib.ListN.{take, drop, length-drop}
 use Rattle.rules.specs.Bytes.{Bytes}
 use Rattle.rules.specs.Bits.{bits}
 use Rattle.bits.specs.Packed.{bytes_at, bytes_length}
@@ -14,9 +14,6 @@ use Rattle.support.proofs.Steps.{emit_done}
 use Rattle.support.proofs.Runs.{run_step, line_calm, line_some, line_le}
 use borrow.Author.Rules.{rules}
 use Rattle.support.proofs.feed_packed.Goals as goal
-
-pub overflow_sub-e : goal.overflow_sub-e
-overflow_sub-e c = omega (arith, c.line_end-e.ensures)
 
 pub feed_packed_run-q-requires : goal.feed_packed_run-q-requires
 feed_packed_run-q-requires c = let a = c.args in

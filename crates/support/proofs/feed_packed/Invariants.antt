@@ -1,18 +1,10 @@
-use mathlib.Core.Path.{◌≡◌, refl, sym, ap, ◌∙◌}
-use mathlib.Core.Bool.{false}
-use Prim.Native.Nat.{ℕ, ◌+◌, ◌-◌, ◌*◌, ◌≤◌, ◌<◌}
-use native.Mathlib.Omega.{arith}
-use lib.ListN.{length, take, drop, length-drop}
-use Rattle.rules.specs.Bytes.{Bytes}
+use mathlib.Core.Path.{◌≡◌}
+use Prim.Native.Nat.{◌-◌, ◌≤◌}
+use lib.ListN.{length, drop}
 use Rattle.rules.specs.Bits.{bits}
-use Rattle.bits.specs.Packed.{bytes_at, bytes_length}
+use Rattle.bits.specs.Packed.{bytes_at}
 use Rattle.output.specs.Writer.{output}
-use Rattle.output.proofs.Packed.{part_packed}
 use Rattle.support.specs.Feed.{all_emitted}
-use Rattle.support.specs.Runs.{calm, line_length}
-use Rattle.support.proofs.Steps.{emit_done}
-use Rattle.support.proofs.Runs.{run_step, line_calm, line_some, line_le}
-use borrow.Author.Rules.{rules}
 use Rattle.support.proofs.feed_packed.Given as goal
 
 abbrev pub invariant-loop-i : goal.invariant-loop-i

@@ -1,8 +1,8 @@
-use mathlib.Core.Path.{◌≡◌, refl, sym, ap, ◌∙◌}
+use mathlib.Core.Path.{◌≡◌, sym, ap, ◌∙◌}
 use mathlib.Core.Bool.{true}
-use Prim.Native.Nat.{ℕ, ◌+◌, ◌-◌, ◌*◌, ◌≤◌, ◌<◌}
+use Prim.Native.Nat.{ℕ, ◌+◌, ◌-◌, ◌≤◌}
 use native.Mathlib.Omega.{arith}
-use lib.ListN.{length, get_or, take, drop, length-drop}
+use lib.ListN.{get_or, take, drop}
 use Rattle.rules.specs.Bytes.{Bytes, run}
 use Rattle.rules.specs.Bits.{bits}
 use Rattle.bits.specs.Packed.{bytes_at, bytes_length, bytes_get}
@@ -14,12 +14,6 @@ use Rattle.support.proofs.Steps.{feed_more, feed_done}
 use Rattle.support.proofs.Runs.{plain_run, run_step}
 use borrow.Author.Rules.{rules}
 use Rattle.support.proofs.feed_packed_escaped.Goals as goal
-
-pub overflow_sub-e : goal.overflow_sub-e
-overflow_sub-e c = omega (arith, c.quiet_packed-e.ensures.0)
-
-pub feed_packed-q-requires : goal.feed_packed-q-requires
-feed_packed-q-requires c = omega (arith, c.quiet_packed-e.ensures.0, c.quiet_packed-e.ensures.1)
 
 pub returns-then-n-e : goal.returns-then-n-e
 returns-then-n-e c = let a = c.args in
@@ -41,12 +35,6 @@ returns-then-n-e c = let a = c.args in
     sym (feed_done a.indent.now v (l.i + m) true o' (omega (arith, c.if-n-e.true)))
     ∙ run_step a.indent.now v l.i m true o o' plain fed
     ∙ l.invariant.2
-
-pub overflow_add-i : goal.overflow_add-i
-overflow_add-i c = omega (arith, c.if-n-e.false, c.requires)
-
-pub loop-i-smaller : goal.loop-i-smaller
-loop-i-smaller c = omega (arith, c.quiet_packed-e.ensures.0, c.if-n-e.false)
 
 pub loop-i-preserved : goal.loop-i-preserved
 loop-i-preserved c = let a = c.args in

@@ -1,18 +1,11 @@
-use mathlib.Core.Path.{◌≡◌, refl, sym, ap, ◌∙◌}
+use mathlib.Core.Path.{◌≡◌}
 use mathlib.Core.Bool.{true}
-use Prim.Native.Nat.{ℕ, ◌+◌, ◌-◌, ◌*◌, ◌≤◌, ◌<◌}
-use native.Mathlib.Omega.{arith}
-use lib.ListN.{length, get_or, take, drop, length-drop}
-use Rattle.rules.specs.Bytes.{Bytes, run}
+use Prim.Native.Nat.{◌-◌, ◌≤◌}
+use lib.ListN.{length, drop}
 use Rattle.rules.specs.Bits.{bits}
-use Rattle.bits.specs.Packed.{bytes_at, bytes_length, bytes_get}
+use Rattle.bits.specs.Packed.{bytes_at}
 use Rattle.output.specs.Writer.{output}
-use Rattle.output.proofs.Packed.{part_packed}
-use Rattle.support.specs.Feed.{all_emitted, entity_or, escaped}
-use Rattle.support.specs.Runs.{quiet_byte}
-use Rattle.support.proofs.Steps.{feed_more, feed_done}
-use Rattle.support.proofs.Runs.{plain_run, run_step}
-use borrow.Author.Rules.{rules}
+use Rattle.support.specs.Feed.{all_emitted, escaped}
 use Rattle.support.proofs.feed_packed_escaped.Given as goal
 
 abbrev pub invariant-loop-i : goal.invariant-loop-i

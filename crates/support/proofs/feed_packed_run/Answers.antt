@@ -10,7 +10,6 @@ use Rattle.output.specs.Writer.{output, over, all_put}
 use Rattle.support.specs.Feed.{with_pen, penned, indent_before}
 use Rattle.support.proofs.Runs.{run_whole}
 use Rattle.support.proofs.Steps.{emit_done}
-use borrow.Author.Rules.{rules}
 use Rattle.support.proofs.feed_packed_run.Goals as goal
 
 pub returns-then-n-eq0 : goal.returns-then-n-eq0
@@ -30,7 +29,7 @@ returns c = let a = c.args in
     let first : c.byte.result ≡ get_or v 0 0 = c.byte.ensures ∙ ap (field b 8) (sym z) ∙ sym (bytes_get b a.p a.n 0 some) in
     let x = get_or v (length v - 1) 0 in
     let last : c.byte-2.result ≡ x = c.byte-2.ensures ∙ sym (bytes_get b a.p a.n (a.n - 1) (omega arith)) ∙ ap (λ (k : ℕ). get_or v (k - 1) 0) (sym n) in
-    let e : c.wide.result + 1 ≡ suc x = ap (λ (k : ℕ). k + 1) (c.wide.ensures.0 ∙ last) ∙ add-one x in
+    let e : c.from.result + 1 ≡ suc x = ap (λ (k : ℕ). k + 1) (c.from.ensures ∙ last) ∙ add-one x in
     ap (λ (k : ℕ). output (with_pen k p.result) p.new.out) e
     ∙ ap (over (penned x)) (p.ensures ∙ ap (all_put v) (c.indent_before-q.ensures ∙ ap (λ (k : ℕ). all_put (indent_before a.indent.now k a.w) o) first))
     ∙ sym (run_whole a.indent.now v o (λ k. c.if-n-eq0.false (sym n ∙ k)) c.requires.1)

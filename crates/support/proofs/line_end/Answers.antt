@@ -1,16 +1,12 @@
 use mathlib.Core.Path.{◌≡◌, sym, ap, ◌∙◌}
 use mathlib.Core.Bool.{true, not}
-use Prim.Native.Nat.{ℕ, ◌+◌, ◌-◌, ◌≤◌}
-use native.Mathlib.Numerals.{add-one}
 use native.Mathlib.Omega.{arith}
-use borrow.Author.Tests.{ne_eqb, not-true, not-false}
-use lib.ListN.{get_or, drop}
-use Rattle.rules.specs.Bytes.{run}
+use borrow.Author.Tests.{ne_eqb}
+use lib.ListN.{get_or}
 use Rattle.rules.specs.Bits.{bits}
 use Rattle.bits.specs.Packed.{bytes_at, bytes_length, bytes_get}
 use Rattle.support.specs.Runs.{inner_byte}
-use Rattle.support.proofs.Runs.{run_more, line_found, line_last, line_all}
-use borrow.Author.Rules.{rules}
+use Rattle.support.proofs.Runs.{run_next, line_found, line_last, line_all}
 use Rattle.support.proofs.line_end.Goals as goal
 
 pub returns-then-not-has_indent : goal.returns-then-not-has_indent
@@ -25,7 +21,7 @@ returns-then-byte-eq10 c = let a = c.args in
     let b = bits a.s.now in
     let n = bytes_length b a.p a.n in
     let x : get_or (bytes_at b a.p a.n) l.j 0 ≡ 10 = bytes_get b a.p a.n l.j c.loop-j-test.true ∙ sym c.byte.ensures ∙ c.if-byte-eq10.true in
-    line_found a.has_indent (bytes_at b a.p a.n) a.i l.j (c.if-not-has_indent.false) l.invariant.0 l.invariant.2 (omega arith) (rw x)
+    line_found a.has_indent (bytes_at b a.p a.n) a.i l.j (c.if-not-has_indent.false) (omega arith) l.invariant (omega arith) (rw x)
 
 pub loop-j-preserved : goal.loop-j-preserved
 loop-j-preserved c = let a = c.args in
@@ -35,8 +31,7 @@ loop-j-preserved c = let a = c.args in
     let n = bytes_length b a.p a.n in
     let x : get_or v l.j 0 ≡ c.byte.result = bytes_get b a.p a.n l.j c.loop-j-test.true ∙ sym c.byte.ensures in
     let y : inner_byte (get_or v l.j 0) ≡ true = ap inner_byte x ∙ ap not (ne_eqb c.byte.result 10 c.if-byte-eq10.false) in
-    let e : run inner_byte (drop l.j v) ≡ run inner_byte (drop (l.j + 1) v) + 1 = rw (add-one (run inner_byte (drop (l.j + 1) v)), add-one l.j) (run_more inner_byte v l.j (omega arith) y) in
-    (search rules, search rules, omega (arith, l.invariant.2))
+    run_next inner_byte v l.j (omega arith) _ y l.invariant
 
 pub returns : goal.returns
 returns c = let a = c.args in
@@ -44,4 +39,4 @@ returns c = let a = c.args in
     let b = bits a.s.now in
     let n = bytes_length b a.p a.n in
     let e : l.j ≡ a.n = omega arith in
-    sym e ∙ line_last a.has_indent (bytes_at b a.p a.n) a.i l.j (c.if-not-has_indent.false) l.invariant.0 l.invariant.2 (omega arith)
+    sym e ∙ line_last a.has_indent (bytes_at b a.p a.n) a.i l.j (c.if-not-has_indent.false) (omega arith) l.invariant (omega arith)

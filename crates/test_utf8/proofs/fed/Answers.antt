@@ -8,19 +8,13 @@ use native.Mathlib.Omega.{arith}
 use native.Mathlib.Numerals.{add-one}
 use Rattle.test_utf8.proofs.fed.Goals as goal
 
-pub loop-i-init : goal.loop-i-init
-loop-i-init c = (omega arith, refl)
-
-pub loop-i-smaller : goal.loop-i-smaller
-loop-i-smaller c = omega arith
-
-pub loop-i-preserved : goal.loop-i-preserved
-loop-i-preserved c = let s = c.args.s.now in
-    let l = c.loop-i in
-    let more = fed_byte (wanted c.args.from) (take l.i s) (byte_at s l.i) (wanted l.u) (wanted c.step-u.result) l.invariant.1 c.step-u.ensures in
-    (omega arith, rw (add-one l.i, take-suc s l.i 0 c.loop-i-test.true) more)
+pub loop-c-preserved : goal.loop-c-preserved
+loop-c-preserved c = let s = c.args.s.now in
+    let l = c.loop-c in
+    let more = fed_byte (wanted c.args.from) (take l.c-index s) _ (wanted l.u) (wanted c.step-u.result) l.invariant c.step-u.ensures in
+    rw (add-one l.c-index, take-suc s l.c-index 0 c.loop-c-test.true) more
 
 pub returns : goal.returns
 returns c = let s = c.args.s.now in
-    let l = c.loop-i in
-    l.invariant.1 ∙ ap (after (wanted c.args.from)) (take_all l.i s c.loop-i-test.false)
+    let l = c.loop-c in
+    l.invariant ∙ ap (after (wanted c.args.from)) (take_all l.c-index s c.loop-c-test.false)
