@@ -31,8 +31,8 @@ param_of q (suc zero) = Path q
 param_of q (suc (suc zero)) = Literal q
 param_of q (suc (suc (suc k))) = Subexpression q
 
-pub three_more : (n : ℕ) → (n ≡ 0 → ⊥) → (n ≡ 1 → ⊥) → (n ≡ 2 → ⊥) → suc (suc (suc (n - 3))) ≡ n
-three_more n h k l = omega arith
+pub three_more : (n : ℕ) → 3 ≤ n → suc (suc (suc (n - 3))) ≡ n
+three_more n h = omega arith
 
 abbrev pub param_view : Bits → ℕ → Parameter
 param_view b p = param_of (p + 2) (field b 2 p)

@@ -1,5 +1,5 @@
 -- Calls by their name: a string alone, a string and one path, or a string and more.
-use Rattle.std.specs.Prelude.{ℕ, ◌+◌, ◌*◌, ◌/◌, ◌≤◌, ◌<◌, Bool, true, false, ◌≡◌, refl, eqb, ltb}
+use Rattle.std.specs.Prelude.{ℕ, ◌+◌, ◌*◌, ◌/◌, ◌≤◌, Bool, true, false, ◌≡◌, refl, eqb, ltb}
 use Rattle.std.proofs.Common.{sym, ap, ◌∙◌, subst, arith, eqb-true, ltb-false}
 use Rattle.rules.specs.Bytes.{pick}
 use Rattle.rules.specs.Template as rule
@@ -10,7 +10,7 @@ use Rattle.rules.specs.Bundle.{string, path, param, call_of}
 use Rattle.bits.specs.Fields.{field_append}
 use Rattle.layout.specs.Text.{text_at}
 use Rattle.parts.specs.Holds.{Holds, end, row}
-use Rattle.parts.specs.HoldsLaws.{Same, More, more_holds, counted_holds, moved, none_left, string_end}
+use Rattle.parts.specs.HoldsLaws.{More, more_holds, counted_holds, moved, none_left, string_end}
 use Rattle.parts.specs.Says.{path_at}
 use Rattle.calls.specs.declared.Parameter.TheVariants.{Name, Path}
 use Rattle.calls.specs.declared.Short.{Short}

@@ -24,18 +24,13 @@ pub fn param_at(b: &[u8], p: usize) -> Parameter
     requires { p ≤ 524288 }
     ensures { result ≡ param_view (bits b.now) p }
 {
-    let k = bits::field(b, p, 2);
     let q = p + 2;
-    if k == 0 {
-        return Parameter::Name(q);
+    match bits::field(b, p, 2) {
+        0 => Parameter::Name(q),
+        1 => Parameter::Path(q),
+        2 => Parameter::Literal(q),
+        _ => Parameter::Subexpression(q),
     }
-    if k == 1 {
-        return Parameter::Path(q);
-    }
-    if k == 2 {
-        return Parameter::Literal(q);
-    }
-    Parameter::Subexpression(q)
 }
 
 // The place behind the parameter at p.
@@ -44,18 +39,13 @@ pub fn skip_param(b: &[u8], p: usize, d: usize) -> usize
     requires { (length b.now ≤ 65536) × Holds (param d) (bits b.now) p }
     ensures { result ≡ end (param d) (bits b.now) p }
 {
-    let k = bits::field(b, p, 2);
     let q = p + 2;
-    if k == 0 {
-        return parts::skip_string(b, q);
+    match bits::field(b, p, 2) {
+        0 => parts::skip_string(b, q),
+        1 => parts::skip_path(b, q),
+        2 => parts::skip_literal(b, q),
+        _ => skip_call(b, q, d - 1),
     }
-    if k == 1 {
-        return parts::skip_path(b, q);
-    }
-    if k == 2 {
-        return parts::skip_literal(b, q);
-    }
-    skip_call(b, q, d - 1)
 }
 
 // The place behind the count and parameters at p.
@@ -66,10 +56,8 @@ fn skip_params(b: &[u8], p: usize, d: usize) -> usize
 {
     let n = bits::field(b, p, 4);
     let mut cur = p + 4;
-    let mut i: u64 = 0;
-    while i < n {
+    for _ in 0..n {
         cur = skip_param(b, cur, d);
-        i += 1;
     }
     cur
 }
@@ -82,10 +70,8 @@ fn skip_pairs(b: &[u8], p: usize, d: usize) -> usize
 {
     let n = bits::field(b, p, 4);
     let mut cur = p + 4;
-    let mut i: u64 = 0;
-    while i < n {
+    for _ in 0..n {
         cur = skip_param(b, parts::skip_string(b, cur), d);
-        i += 1;
     }
     cur
 }

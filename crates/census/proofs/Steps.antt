@@ -1,4 +1,5 @@
 -- The steps of the count: an element, a body's next element, a template.
+use Rattle.std.specs.Prelude.{Option as RustOption, Some, None}
 use Prim.Native.Nat.{ℕ, ◌+◌, ◌-◌, ◌≤◌, ◌<◌}
 use mathlib.Core.Bool.{Bool}
 use mathlib.Core.Path.{◌≡◌, sym, ap, ◌∙◌, subst}
@@ -11,8 +12,6 @@ use Rattle.rules.specs.Bundle.{string, body, templates, bundle}
 use Rattle.parts.specs.Holds.{Holds, end, value}
 use Rattle.parts.specs.HoldsLaws.{moved, none_left_value, Passed, passed_first, passed_again, passed_value}
 use Rattle.parts.specs.Says.{MaybeHolds}
-use Rattle.parts.specs.declared.Maybe.{Maybe}
-use Rattle.parts.specs.declared.Maybe.TheVariants.{At, Nothing}
 use Rattle.template.specs.Views.{in_body, template_at, element_view, body_says, element_says, ElementHolds}
 use Rattle.template.specs.Bodies.{elements_at, elements_end, elements_here}
 use Rattle.template.specs.declared.Element.{Element}
@@ -23,15 +22,15 @@ use Rattle.census.specs.Count.{bump, count_body, count_maybe, count_element, cou
 
 -- A body that may be there
 
-module _ (w d : ℕ) (b : Bits) (kind n : ℕ) (m : Maybe) where
-  pub maybe_nothing : m ≡ Nothing → n ≡ count_maybe kind (body_says w d b m) n
-  maybe_nothing e = ap (λ (m : Maybe). count_maybe kind (body_says w d b m) n) (sym e)
+module _ (w d : ℕ) (b : Bits) (kind n : ℕ) (m : RustOption ℕ) where
+  pub maybe_nothing : m ≡ None → n ≡ count_maybe kind (body_says w d b m) n
+  maybe_nothing e = ap (λ (m : RustOption ℕ). count_maybe kind (body_says w d b m) n) (sym e)
 
-  pub maybe_body : (q : ℕ) → m ≡ At q → MaybeHolds (body w d) b m → Holds (body w d) b q
+  pub maybe_body : (q : ℕ) → m ≡ Some q → MaybeHolds (body w d) b m → Holds (body w d) b q
   maybe_body q e h = subst (MaybeHolds (body w d) b) e h
 
-  pub maybe_count : (q : ℕ) → m ≡ At q → (r : ℕ) → r ≡ count_body kind (template_at w d b q) n → r ≡ count_maybe kind (body_says w d b m) n
-  maybe_count q e r h = h ∙ ap (λ (m : Maybe). count_maybe kind (body_says w d b m) n) (sym e)
+  pub maybe_count : (q : ℕ) → m ≡ Some q → (r : ℕ) → r ≡ count_body kind (template_at w d b q) n → r ≡ count_maybe kind (body_says w d b m) n
+  maybe_count q e r h = h ∙ ap (λ (m : RustOption ℕ). count_maybe kind (body_says w d b m) n) (sym e)
 
 -- An element: e is what was read, r the count behind it
 
@@ -39,28 +38,28 @@ module _ (w d : ℕ) (b : Bits) (kind n : ℕ) (e : Element) where
   pub plain : (v : Element) → e ≡ v → (r : ℕ) → r ≡ count_element kind (element_says w d b v) n → r ≡ count_element kind (element_says w d b e) n
   plain v h r g = g ∙ ap (λ (e : Element). count_element kind (element_says w d b e) n) (sym h)
 
-  pub helper_template : (c x : ℕ) (t i : Maybe) (f : Bool) → e ≡ HelperBlock c x t i f → ElementHolds w d b e → MaybeHolds (body w d) b t
+  pub helper_template : (c x : ℕ) (t i : RustOption ℕ) (f : Bool) → e ≡ HelperBlock c x t i f → ElementHolds w d b e → MaybeHolds (body w d) b t
   helper_template c x t i f h H = (subst (ElementHolds w d b) h H).2
 
-  pub helper_inverse : (c x : ℕ) (t i : Maybe) (f : Bool) → e ≡ HelperBlock c x t i f → ElementHolds w d b e → MaybeHolds (body w d) b i
+  pub helper_inverse : (c x : ℕ) (t i : RustOption ℕ) (f : Bool) → e ≡ HelperBlock c x t i f → ElementHolds w d b e → MaybeHolds (body w d) b i
   helper_inverse c x t i f h H = (subst (ElementHolds w d b) h H).3
 
-  pub helper : (c x : ℕ) (t i : Maybe) (f : Bool) → e ≡ HelperBlock c x t i f → (m : ℕ) → m ≡ bump kind 3 n
+  pub helper : (c x : ℕ) (t i : RustOption ℕ) (f : Bool) → e ≡ HelperBlock c x t i f → (m : ℕ) → m ≡ bump kind 3 n
       → (o : ℕ) → o ≡ count_maybe kind (body_says w d b t) m → (r : ℕ) → r ≡ count_maybe kind (body_says w d b i) o → r ≡ count_element kind (element_says w d b e) n
   helper c x t i f h m hm o ho r hr =
       plain (HelperBlock c x t i f) h r (hr ∙ ap (count_maybe kind (body_says w d b i)) (ho ∙ ap (count_maybe kind (body_says w d b t)) hm))
 
-  pub decorator_body : (c t : ℕ) (i : Maybe) (f : Bool) → e ≡ DecoratorBlock c t i f → ElementHolds w d b e → Holds (body w d) b t
+  pub decorator_body : (c t : ℕ) (i : RustOption ℕ) (f : Bool) → e ≡ DecoratorBlock c t i f → ElementHolds w d b e → Holds (body w d) b t
   decorator_body c t i f h H = (subst (ElementHolds w d b) h H).1
 
-  pub decorator : (c t : ℕ) (i : Maybe) (f : Bool) → e ≡ DecoratorBlock c t i f → (m : ℕ) → m ≡ bump kind 5 n
+  pub decorator : (c t : ℕ) (i : RustOption ℕ) (f : Bool) → e ≡ DecoratorBlock c t i f → (m : ℕ) → m ≡ bump kind 5 n
       → (r : ℕ) → r ≡ count_body kind (template_at w d b t) m → r ≡ count_element kind (element_says w d b e) n
   decorator c t i f h m hm r hr = plain (DecoratorBlock c t i f) h r (hr ∙ ap (count_body kind (template_at w d b t)) hm)
 
-  pub partial_body : (c t : ℕ) (i : Maybe) (f : Bool) → e ≡ PartialBlock c t i f → ElementHolds w d b e → Holds (body w d) b t
+  pub partial_body : (c t : ℕ) (i : RustOption ℕ) (f : Bool) → e ≡ PartialBlock c t i f → ElementHolds w d b e → Holds (body w d) b t
   partial_body c t i f h H = (subst (ElementHolds w d b) h H).1
 
-  pub partial : (c t : ℕ) (i : Maybe) (f : Bool) → e ≡ PartialBlock c t i f → (m : ℕ) → m ≡ bump kind 7 n
+  pub partial : (c t : ℕ) (i : RustOption ℕ) (f : Bool) → e ≡ PartialBlock c t i f → (m : ℕ) → m ≡ bump kind 7 n
       → (r : ℕ) → r ≡ count_body kind (template_at w d b t) m → r ≡ count_element kind (element_says w d b e) n
   partial c t i f h m hm r hr = plain (PartialBlock c t i f) h r (hr ∙ ap (count_body kind (template_at w d b t)) hm)
 

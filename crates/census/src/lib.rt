@@ -6,13 +6,11 @@ ghost use Rattle.std.specs.Prelude.{◌≡◌, ◌≤◌, ◌<◌, length};
 ghost use Rattle.rules.specs.Bits.{bits};
 ghost use Rattle.rules.specs.Bundle.{body, bundle};
 ghost use Rattle.layout.specs.Verdict.{verdict};
-ghost use Rattle.layout.specs.declared.Verdict.TheVariants.{Accepted};
 ghost use Rattle.parts.specs.Holds.{Holds};
 ghost use Rattle.parts.specs.Says.{MaybeHolds};
 ghost use Rattle.template.specs.Views.{template_at, body_says, element_says, ElementHolds};
 ghost use Rattle.census.specs.Count.{bump, count_body, count_maybe, count_element, count_bundle};
 
-use parts::Maybe;
 use template::Element;
 
 // The count n, one more where an element of kind k is met. It stops at 65,535; a bundle has no room for so many.
@@ -38,23 +36,21 @@ fn count_body(b: &[u8], p: usize, w: usize, d: usize, kind: u64, n: u64) -> u64
     let count = v.count;
     let mut sum = n;
     let mut cur = v.first;
-    let mut i: u64 = 0;
-    while i < count {
+    for _ in 0..count {
         let e = template::element_at(b, cur, w, d - 1);
         let element = e.element;
         sum = count_element(b, element, w, d - 1, kind, sum);
         cur = e.next;
-        i += 1;
     }
     sum
 }
 
 #[cycle(counting)]
-fn count_maybe(b: &[u8], m: Maybe, w: usize, d: usize, kind: u64, n: u64) -> u64
+fn count_maybe(b: &[u8], m: Option<usize>, w: usize, d: usize, kind: u64, n: u64) -> u64
     requires { (length b.now ≤ 65536) × (w ≤ 64) × MaybeHolds (body w d) (bits b.now) m }
     ensures { result ≡ count_maybe kind (body_says w d (bits b.now) m) n }
 {
-    let Maybe::At(p) = m else {
+    let Some(p) = m else {
         return n;
     };
     count_body(b, p, w, d, kind, n)
@@ -84,18 +80,16 @@ fn count_element(b: &[u8], e: Element, w: usize, d: usize, kind: u64, n: u64) ->
 
 // How many elements of a kind, 0 to 8, a bundle has that `layout::check_bundle` accepts.
 pub fn count(b: &[u8], kind: u64) -> u64
-    requires { verdict b.now ≡ Accepted }
+    requires { verdict b.now ≡ Ok tt }
     ensures { result ≡ count_bundle kind (bundle b.now) }
 {
     let n = registry::template_count(b);
     let mut sum: u64 = 0;
     let mut cur: usize = 16;
-    let mut i: usize = 0;
-    while i < n {
+    for _ in 0..n {
         let p = parts::skip_string(b, cur);
         sum = count_body(b, p, 16, 16, kind, sum);
         cur = template::skip_body(b, p, 16, 16);
-        i += 1;
     }
     sum
 }

@@ -1,13 +1,13 @@
 -- Bodies and elements: a row of parts for each kind, and the elements of a body one by one.
-use Prim.Native.Nat.{ℕ, zero, suc, ◌+◌, ◌-◌, ◌≤◌, ◌<◌}
-use mathlib.Core.Bool.{Bool, true, false, ◌||◌}
-use mathlib.Core.List.{List, [], ◌∷◌}
+use Prim.Native.Nat.{ℕ, suc, ◌-◌, ◌<◌}
+use mathlib.Core.Bool.{Bool, false, ◌||◌}
+use mathlib.Core.List.{List}
 use mathlib.Core.Logic.{inl, inr}
 use mathlib.Core.Path.{◌≡◌, refl, sym, ap, ◌∙◌}
 use native.Mathlib.Omega.{arith}
 use Rattle.rules.specs.Template.{Call, Template, Body, BlockParam}
 use Rattle.rules.specs.Bits.{Bits}
-use Rattle.rules.specs.Layout.{Layout, num, ◌then◌, shaped, dec_all, counted, tagged}
+use Rattle.rules.specs.Layout.{Layout, num, ◌then◌, dec_all, counted}
 use Rattle.rules.specs.Bundle.{string, flag, call_of, param, block_names, maybe_out, maybe_make, maybe_body, indent, Tail, element_out, element_make}
 use Rattle.rules.specs.Bundle.{element_of, Placed, body_out, body_make, placed, body, call_context, maybe_context, element_context, body_context}
 use Rattle.layout.specs.Walk.{Place, At, Broken, from, past, unmarked, after, number_at, ahead}
@@ -113,10 +113,6 @@ module _ (c : Layout Call) (t : Layout Template) (b : Bits) where
     element_other h =
         kind_none element_context element_out element_make 4 (element_kinds c t) b p q n hn hq
         (suc (suc (suc (suc (suc (suc (suc (suc (suc (n - 9)))))))))) (λ q. refl) (omega arith)
-
--- what is not the one before is above it
-pub above : {n : ℕ} (k : ℕ) → (n ≡ k → ⊥) → k ≤ n → k < n
-above k h l = omega arith
 
 -- Bodies, at a depth that is left
 

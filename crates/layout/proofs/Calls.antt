@@ -1,22 +1,22 @@
 -- Parameters, hash pairs and calls.
-use Prim.Native.Nat.{ℕ, zero, suc, ◌+◌, ◌-◌, ◌*◌, ◌^◌, ◌≤◌, ◌<◌}
+use Prim.Native.Nat.{ℕ, zero, suc, ◌+◌, ◌-◌, ◌≤◌, ◌<◌}
 use mathlib.Core.Bool.{Bool, true, false, ◌&&◌, ◌||◌}
 use mathlib.Core.List.{List, [], ◌∷◌}
 use mathlib.Core.Logic.{inl, inr}
 use mathlib.Core.Option.{Option, none, some}
 use mathlib.Core.Path.{◌≡◌, refl, sym, ap, ◌∙◌}
 use native.Mathlib.Omega.{arith}
-use lib.Dec.{leb, ltb, eqb}
+use lib.Dec.{leb, ltb}
 use borrow.Author.Tests.{lt-ltb, le-ltb, eq-eqb, ne_eqb}
 use Rattle.rules.specs.Bytes.{Bytes, pick, before}
-use Rattle.rules.specs.Template.{Parameter, Call, Params}
+use Rattle.rules.specs.Template.{Parameter, Call}
 use Rattle.rules.specs.Bits.{Bits}
-use Rattle.rules.specs.Layout.{Read, read, broken, onward, Layout, field, num, ◌then◌, shaped, dec_all, tagged}
-use Rattle.rules.specs.LayoutLaws.{not_read, onward_was, mapped_was, pick_was, shaped_was, tagged_was}
+use Rattle.rules.specs.Layout.{Read, read, broken, onward, Layout, field, ◌then◌, shaped, dec_all, tagged}
+use Rattle.rules.specs.LayoutLaws.{not_read, mapped_was, pick_was, shaped_was, tagged_was}
 use Rattle.rules.specs.Bundle.{string, path, literal, params_make, ascend_from, ascending, params, pairs, CallShape, call_out, call_make, call_of}
 use Rattle.rules.specs.Bundle.{ParamShape, param_out, param_make, param, name_or_path, params_context, call_context}
 use Rattle.layout.specs.Walk.{Place, At, Broken, next, from, past, unmarked, after, number_at, ahead, marked}
-use Rattle.layout.specs.WalkLaws.{or_false, past_shaped, past_ext, past_then, headed, counted_is, Arm, kind_is, kind_none}
+use Rattle.layout.specs.WalkLaws.{or_false, past_shaped, past_ext, past_then, headed, counted_is, kind_is, kind_none}
 use Rattle.layout.specs.Arms.{param_kinds, param_0, param_1, param_2, param_3}
 use Rattle.layout.specs.Text.{text_at}
 use Rattle.layout.specs.Names.{key_before, key_ok}

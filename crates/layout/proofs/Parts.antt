@@ -1,7 +1,6 @@
 -- What each function of this crate does, as a law of the layout that it checks.
 use Prim.Native.Nat.{ℕ, zero, suc, ◌+◌, ◌-◌, ◌*◌, ◌/◌, ◌%◌, ◌≤◌, ◌<◌}
 use mathlib.Core.Bool.{Bool, true, false}
-use mathlib.Core.List.{List, [], ◌∷◌}
 use mathlib.Core.Logic.{inl, inr}
 use mathlib.Core.Path.{◌≡◌, refl, sym, ap, ◌∙◌}
 use native.Mathlib.Omega.{arith}
@@ -11,7 +10,7 @@ use borrow.Author.Tests.{le-leb, lt-leb, leb-true, leb-false}
 use Rattle.rules.specs.Bytes.{Bytes, pick}
 use Rattle.rules.specs.Utf8.{Wants, done, follows, utf8}
 use Rattle.rules.specs.Bits.{Bits, bits}
-use Rattle.rules.specs.Layout.{Read, read, broken, onward, Layout, field, num, empty, ◌then◌, shaped, tested, dec_all, tagged}
+use Rattle.rules.specs.Layout.{Read, read, broken, onward, field, num, ◌then◌, shaped, tested, dec_all, tagged}
 use Rattle.rules.specs.Bundle.{string, flag_out, flag_make, flag, option_out, option_make, seg_out, seg_make, seg, segs, level, PathKind}
 use Rattle.rules.specs.Bundle.{path_out, path_make, path, twos_complement, top_bit_set, below_zero, literal_out, literal_make, literal}
 use Rattle.rules.specs.Bundle.{names_out, names_make, block_names, indent}
@@ -20,7 +19,7 @@ use Rattle.rules.specs.LayoutLaws.{Binary}
 use Rattle.bits.specs.Packed.{bytes_at, number_bytes}
 use Rattle.utf8.specs.Machine.{after as fed}
 use Rattle.layout.specs.Ascii.{follows_run}
-use Rattle.layout.specs.Walk.{Place, At, Broken, place_by, next, from, past, unmarked, after, number_at, ahead, marked}
+use Rattle.layout.specs.Walk.{Place, At, Broken, place_by, next, from, unmarked, after, number_at, ahead, marked}
 use Rattle.layout.specs.WalkLaws.{place_none, place_some, place_same, past_shaped, past_then, headed, after_num, ahead_in, kind_is, kind_stays, kind_none}
 use Rattle.layout.specs.Text.{bytes_read, bytes_broken}
 use Rattle.layout.specs.Arms.{seg_kinds, seg_0, path_kinds, path_0, path_1, literal_kinds, literal_3, literal_4, literal_5}

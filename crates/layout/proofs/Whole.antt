@@ -1,23 +1,24 @@
 -- The bundle as a whole: version, templates, zero bits to the end.
-use Prim.Native.Nat.{ℕ, zero, suc, ◌+◌, ◌-◌, ◌*◌, ◌≤◌, ◌<◌}
+use Rattle.std.specs.Prelude.{Err}
+use Prim.Native.Nat.{ℕ, ◌-◌, ◌*◌, ◌≤◌, ◌<◌}
 use mathlib.Core.Bool.{Bool, true, false, not}
-use mathlib.Core.List.{List, [], ◌∷◌}
-use mathlib.Core.Option.{Option, none, some}
+use mathlib.Core.List.{List}
+use mathlib.Core.Option.{none, some}
 use mathlib.Core.Path.{◌≡◌, refl, sym, ap, ◌∙◌}
 use native.Mathlib.Omega.{arith}
-use lib.Dec.{leb, eqb}
+use lib.Dec.{eqb}
 use lib.ListN.{length}
 use borrow.Author.Tests.{le-leb, lt-leb, eq-eqb, ne_eqb, eqb-true, eqb-false, not-true, not-false}
 use Rattle.rules.specs.Bytes.{Bytes, pick}
 use Rattle.rules.specs.Template.{Template}
 use Rattle.rules.specs.Bits.{Bits, bits}
 use Rattle.rules.specs.Layout.{Read, read, broken, onward, field, num, tested}
-use Rattle.rules.specs.Bundle.{templates, versioned, ends, whole, bundle_of, bundle, partial_context}
+use Rattle.rules.specs.Bundle.{templates, versioned, ends, whole, bundle_of, partial_context}
 use Rattle.rules.specs.BundleLaws.{bits_size, bundle_is}
 use Rattle.layout.specs.Walk.{Place, At, Broken, next, from, past, unmarked, after, ahead}
 use Rattle.layout.specs.WalkLaws.{or_false, next_at, past_then, headed}
-use Rattle.layout.specs.Verdict.{verdict_number, read_answer, bundle_answer}
-use Rattle.layout.specs.declared.Verdict.TheVariants.{Accepted, TooLong, BadLayout, PartialContext}
+use Rattle.layout.specs.Verdict.{accepted, verdict_number, read_answer, bundle_answer}
+use Rattle.layout.specs.declared.BundleError.TheVariants.{TooLong, BadLayout, PartialContext}
 
 abbrev Whole : Type 0
 Whole = ℕ × List (Bytes × Template)
@@ -55,7 +56,7 @@ module _ (b : Bits) where
         ∙ ap (past partial_context (templates 16) b) (sym hq)
         ∙ sym he
 
-pub too_long : (s : Bytes) → 65536 < length s → verdict_number TooLong ≡ bundle_answer s
+pub too_long : (s : Bytes) → 65536 < length s → verdict_number (Err TooLong) ≡ bundle_answer s
 unfolding bundle_answer
 too_long s h = rw (lt-leb (length s) 65536 h)
 
@@ -64,10 +65,10 @@ module _ (s : Bytes) (small : length s ≤ 65536) where
   unfolding bundle_answer bundle_of
   verdict_from r e = rw (le-leb (length s) 65536 small) (ap read_answer (bundle_is s ∙ ap (whole (bits s)) e))
 
-  pub verdict_broken : past whole_context (versioned 1 16) (bits s) start ≡ Broken → verdict_number BadLayout ≡ bundle_answer s
+  pub verdict_broken : past whole_context (versioned 1 16) (bits s) start ≡ Broken → verdict_number (Err BadLayout) ≡ bundle_answer s
   verdict_broken h = at ((versioned 1 16).dec (bits s) 0) refl h
     where
-      at : (r : Read Whole) → (versioned 1 16).dec (bits s) 0 ≡ r → next whole_context false r ≡ Broken → verdict_number BadLayout ≡ bundle_answer s
+      at : (r : Read Whole) → (versioned 1 16).dec (bits s) 0 ≡ r → next whole_context false r ≡ Broken → verdict_number (Err BadLayout) ≡ bundle_answer s
       at (read x p) e h = let z : ◌≡◌ {A = ℕ} 0 1 = cc in absurd (omega arith)
       at broken e h = sym (verdict_from broken e)
 
@@ -83,10 +84,10 @@ module _ (s : Bytes) (small : length s ≤ 65536) where
         picked true l = refl
         picked false l = refl
 
-    pub verdict_short : 8 * length s < at → verdict_number BadLayout ≡ bundle_answer s
+    pub verdict_short : 8 * length s < at → verdict_number (Err BadLayout) ≡ bundle_answer s
     verdict_short l = sym (verdict_ends false (rw (lt-leb at (bits s).size (omega (arith, bits_size s)))))
 
-    pub verdict_more : at ≤ 8 * length s → 7 < 8 * length s - at → verdict_number BadLayout ≡ bundle_answer s
+    pub verdict_more : at ≤ 8 * length s → 7 < 8 * length s - at → verdict_number (Err BadLayout) ≡ bundle_answer s
     verdict_more k l =
         let z = bits_size s in
         sym (verdict_ends false (rw (le-leb at (bits s).size (omega arith), lt-leb ((bits s).size - at) 7 (omega arith))))
@@ -98,11 +99,11 @@ module _ (s : Bytes) (small : length s ≤ 65536) where
           let e : field (bits s) ((bits s).size - at) at ≡ u = ap (λ (n : ℕ). field (bits s) (n - at) at) z ∙ sym hu in
           rw (le-leb at (bits s).size (omega arith), le-leb ((bits s).size - at) 7 (omega arith), e) ht
 
-      pub verdict_padding : (u ≡ 0 → ⊥) → verdict_number BadLayout ≡ bundle_answer s
+      pub verdict_padding : (u ≡ 0 → ⊥) → verdict_number (Err BadLayout) ≡ bundle_answer s
       verdict_padding f = sym (verdict_ends false (ended false (ne_eqb u 0 f)))
 
-      pub verdict_context : u ≡ 0 → m ≡ true → verdict_number PartialContext ≡ bundle_answer s
+      pub verdict_context : u ≡ 0 → m ≡ true → verdict_number (Err PartialContext) ≡ bundle_answer s
       verdict_context e f = sym (verdict_ends true (ended true (eq-eqb u 0 e)) ∙ ap (λ m. pick m 4 0) f)
 
-      pub verdict_accepted : u ≡ 0 → m ≡ false → verdict_number Accepted ≡ bundle_answer s
+      pub verdict_accepted : u ≡ 0 → m ≡ false → verdict_number accepted ≡ bundle_answer s
       verdict_accepted e f = sym (verdict_ends true (ended true (eq-eqb u 0 e)) ∙ ap (λ m. pick m 4 0) f)

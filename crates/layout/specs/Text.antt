@@ -1,11 +1,10 @@
 -- The bytes of a string that stands at a place.
-use Rattle.std.specs.Prelude.{ℕ, zero, suc, ◌+◌, ◌*◌, ◌≤◌, ◌<◌, Bool, true, false, List, [], ◌∷◌, ◌≡◌, refl, leb}
+use Rattle.std.specs.Prelude.{ℕ, zero, suc, ◌+◌, ◌*◌, ◌≤◌, ◌<◌, Bool, true, false, ◌∷◌, ◌≡◌, refl, leb}
 use Rattle.std.proofs.Common.{sym, ap, ◌∙◌, arith, le-leb, leb-true, leb-false}
-use Rattle.std.proofs.lemmas.Bool.{lt-leb}
 use Rattle.rules.specs.Bytes.{Bytes, pick}
 use Rattle.rules.specs.Utf8.{utf8}
 use Rattle.rules.specs.Bits.{Bits}
-use Rattle.rules.specs.Layout.{Read, read, broken, onward, field, num, dec_all, counted}
+use Rattle.rules.specs.Layout.{read, broken, onward, field, num, dec_all, counted}
 use Rattle.rules.specs.LayoutLaws.{not_read, tested_was, counted_was, pick_was}
 use Rattle.rules.specs.Bundle.{string}
 use Rattle.bits.specs.Packed.{bytes_at}

@@ -15,13 +15,11 @@ fn maybe_body(b: &[u8], p: usize, w: usize, d: usize) -> usize
 {
     let k = part::number(b, p, 1);
     let q = part::ahead(b, p, 1);
-    if k == 0 {
-        return q;
+    match k {
+        0 => q,
+        1 => body(b, q, w, d),
+        _ => BROKEN,
     }
-    if k == 1 {
-        return body(b, q, w, d);
-    }
-    BROKEN
 }
 
 // Kind (4) and what it holds; d depths are left for parameters and bodies in it.
@@ -33,37 +31,23 @@ fn element(b: &[u8], p: usize, w: usize, d: usize) -> usize
 {
     let k = part::number(b, p, 4);
     let q = part::ahead(b, p, 4);
-    if k == 0 {
-        return part::string(b, q);
+    match k {
+        0 => part::string(b, q),
+        1 => part::flag(b, call::call(b, q, d)),
+        2 => part::flag(b, call::call(b, q, d)),
+        3 => {
+            let names = part::block_names(b, call::call(b, q, d));
+            let template = maybe_body(b, names, w, d);
+            let inverse = maybe_body(b, template, w, d);
+            part::flag(b, inverse)
+        }
+        4 => part::tail(b, call::call(b, q, d)),
+        5 => part::tail(b, body(b, call::call(b, q, d), w, d)),
+        6 => part::tail(b, call::partial_call(b, q, d)),
+        7 => part::tail(b, body(b, call::partial_call(b, q, d), w, d)),
+        8 => part::string(b, q),
+        _ => BROKEN,
     }
-    if k == 1 {
-        return part::flag(b, call::call(b, q, d));
-    }
-    if k == 2 {
-        return part::flag(b, call::call(b, q, d));
-    }
-    if k == 3 {
-        let names = part::block_names(b, call::call(b, q, d));
-        let template = maybe_body(b, names, w, d);
-        let inverse = maybe_body(b, template, w, d);
-        return part::flag(b, inverse);
-    }
-    if k == 4 {
-        return part::tail(b, call::call(b, q, d));
-    }
-    if k == 5 {
-        return part::tail(b, body(b, call::call(b, q, d), w, d));
-    }
-    if k == 6 {
-        return part::tail(b, call::partial_call(b, q, d));
-    }
-    if k == 7 {
-        return part::tail(b, body(b, call::partial_call(b, q, d), w, d));
-    }
-    if k == 8 {
-        return part::string(b, q);
-    }
-    BROKEN
 }
 
 // Body: element count (12), each: line (w), column (w), element; d depths are left, its own included.
@@ -77,11 +61,9 @@ pub fn body(b: &[u8], p: usize, w: usize, d: usize) -> usize
     }
     let n = part::number(b, p, 12);
     let mut cur = part::ahead(b, p, 12);
-    let mut i: usize = 0;
-    while i < n {
+    for _ in 0..n {
         let kind = part::ahead(b, part::ahead(b, cur, w), w);
         cur = element(b, kind, w, d - 1);
-        i += 1;
     }
     cur
 }

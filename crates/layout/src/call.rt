@@ -33,19 +33,13 @@ fn param(b: &[u8], p: usize, d: usize) -> usize
     }
     let k = part::number(b, p, 2);
     let q = part::ahead(b, p, 2);
-    if k == 0 {
-        return part::string(b, q);
+    match k {
+        0 => part::string(b, q),
+        1 => part::path(b, q),
+        2 => part::literal(b, q),
+        3 => call(b, q, d - 1),
+        _ => BROKEN,
     }
-    if k == 1 {
-        return part::path(b, q);
-    }
-    if k == 2 {
-        return part::literal(b, q);
-    }
-    if k == 3 {
-        return call(b, q, d - 1);
-    }
-    BROKEN
 }
 
 // Count (4) and parameters.
@@ -56,10 +50,8 @@ fn params(b: &[u8], p: usize, d: usize) -> usize
 {
     let n = part::number(b, p, 4);
     let mut cur = part::ahead(b, p, 4);
-    let mut i: usize = 0;
-    while i < n {
+    for _ in 0..n {
         cur = param(b, cur, d);
-        i += 1;
     }
     cur
 }
@@ -73,8 +65,7 @@ fn pairs(b: &[u8], p: usize, d: usize) -> usize
     let n = part::number(b, p, 4);
     let mut cur = part::ahead(b, p, 4);
     let mut prev: usize = 0;
-    let mut i: usize = 0;
-    while i < n {
+    for i in 0..n {
         if cur < START {
             return BROKEN;
         }
@@ -88,7 +79,6 @@ fn pairs(b: &[u8], p: usize, d: usize) -> usize
         }
         prev = at;
         cur = param(b, value, d);
-        i += 1;
     }
     cur
 }

@@ -12,15 +12,15 @@ ghost use Rattle.rules.specs.Bits.{bits};
 ghost use Rattle.rules.specs.Bundle.{among, templates, partial_context};
 ghost use Rattle.layout.specs.Walk.{At, place_by, past, ahead, number_at};
 ghost use Rattle.layout.specs.Listed.{Listed, BundleListed};
-ghost use Rattle.layout.specs.declared.Verdict.TheVariants.{Accepted};
 ghost use Rattle.layout.specs.Text.{text_at};
 ghost use Rattle.layout.specs.Names.{seen_at};
-ghost use Rattle.layout.specs.Verdict.{verdict_number, bundle_answer};
+ghost use Rattle.layout.specs.Verdict.{error_number, verdict_number, bundle_answer};
 
 mod body;
 mod call;
 mod part;
 
+use error::{BUNDLE_LAYOUT, BUNDLE_TOO_LARGE, PARTIAL_PARAMETER};
 use part::{BROKEN, START};
 
 const VERSION: u64 = 1;
@@ -51,9 +51,7 @@ fn known(b: &[u8], places: &[u32], n: usize, at: usize) -> bool
     ensures { result
         ≡ among (text_at (bits b.now) at) (seen_at (bits b.now) places.now n) }
 {
-    let mut j = n;
-    while 0 < j {
-        j -= 1;
+    for j in (0..n).rev() {
         if same_text(b, places[j] as usize, at) {
             return true;
         }
@@ -78,10 +76,9 @@ fn templates(b: &[u8], p: usize, w: usize, places: &mut [u32]) -> usize
     if TEMPLATES < n {
         return BROKEN;
     }
-    clear::clear_u32(places);
+    clear::clear(places, 0);
     let mut cur = part::ahead(b, p, 8);
-    let mut i: usize = 0;
-    while i < n {
+    for i in 0..n {
         if cur < START {
             return BROKEN;
         }
@@ -95,57 +92,68 @@ fn templates(b: &[u8], p: usize, w: usize, places: &mut [u32]) -> usize
         }
         places[i] = at as u32;
         cur = body::body(b, template, w, DEPTH);
-        i += 1;
     }
     cur
 }
 
-// What the checks 2, 3 and 4 answer; `verdict-number` in specs/Verdict is the paper's number of each.
-#[derive(Clone, Copy)]
-pub enum Verdict {
-    Accepted,
+// The first of the checks 2, 3 and 4 that a bundle does not pass.
+#[derive(Clone, Copy, Debug, PartialEq, Eq)]
+pub enum BundleError {
     TooLong,
     BadLayout,
     PartialContext,
 }
 
+// The paper's number of each.
+impl From<BundleError> for u8 {
+    ghost from_gives = { λ e n. n ≡ error_number e };
+
+    fn from(e: BundleError) -> u8 {
+        match e {
+            BundleError::TooLong => BUNDLE_TOO_LARGE,
+            BundleError::BadLayout => BUNDLE_LAYOUT,
+            BundleError::PartialContext => PARTIAL_PARAMETER,
+        }
+    }
+}
+
 // Checks 2, 3 and 4, and the places of the templates where all are passed.
-fn checked(b: &[u8], places: &mut [u32]) -> Verdict
+fn checked(b: &[u8], places: &mut [u32]) -> Result<(), BundleError>
     requires { 64 ≤ length places.old }
     ensures { (verdict_number result ≡ bundle_answer b.now)
         × (length places.new ≡ length places.old)
-        × (result ≡ Accepted → BundleListed (bits b.now) places.new) }
+        × (result ≡ Ok tt → BundleListed (bits b.now) places.new) }
 {
     if BYTES < b.len() {
-        return Verdict::TooLong;
+        return Err(BundleError::TooLong);
     }
     if !reader::is_version(b, VERSION) {
-        return Verdict::BadLayout;
+        return Err(BundleError::BadLayout);
     }
     let last = templates(b, part::ahead(b, START, 8), POSITION, places);
     if last < START {
-        return Verdict::BadLayout;
+        return Err(BundleError::BadLayout);
     }
     let at = last / 2 - 1;
     let end = 8 * b.len();
     if end < at {
-        return Verdict::BadLayout;
+        return Err(BundleError::BadLayout);
     }
     let left = end - at;
     if 7 < left {
-        return Verdict::BadLayout;
+        return Err(BundleError::BadLayout);
     }
     if bits::field(b, at, left) != 0 {
-        return Verdict::BadLayout;
+        return Err(BundleError::BadLayout);
     }
     if last % 2 == 1 {
-        return Verdict::PartialContext;
+        return Err(BundleError::PartialContext);
     }
-    Verdict::Accepted
+    Ok(())
 }
 
 // Checks 2, 3 and 4 of any bytes.
-pub fn check_bundle(b: &[u8]) -> Verdict
+pub fn check_bundle(b: &[u8]) -> Result<(), BundleError>
     ensures { verdict_number result ≡ bundle_answer b.now }
 {
     let mut places: [u32; TEMPLATES] = [0; TEMPLATES];
@@ -153,25 +161,16 @@ pub fn check_bundle(b: &[u8]) -> Verdict
 }
 
 // The same, with the places of the templates in the table, and zero behind them; all zero where a check refuses.
-pub fn check_indexed(b: &[u8], places: &mut [u32]) -> Verdict
+pub fn check_indexed(b: &[u8], places: &mut [u32]) -> Result<(), BundleError>
     requires { 64 ≤ length places.old }
     ensures { (verdict_number result ≡ bundle_answer b.now)
         × (length places.new ≡ length places.old)
-        × (result ≡ Accepted → BundleListed (bits b.now) places.new)
-        × ((result ≡ Accepted → ⊥) → places.new ≡ replicate (length places.old) 0) }
+        × (result ≡ Ok tt → BundleListed (bits b.now) places.new)
+        × ((result ≡ Ok tt → ⊥) → places.new ≡ replicate (length places.old) 0) }
 {
     let r = checked(b, places);
-    match r {
-        Verdict::Accepted => {}
-        Verdict::TooLong => {
-            clear::clear_u32(places);
-        }
-        Verdict::BadLayout => {
-            clear::clear_u32(places);
-        }
-        Verdict::PartialContext => {
-            clear::clear_u32(places);
-        }
+    if r.is_err() {
+        clear::clear(places, 0);
     }
     r
 }

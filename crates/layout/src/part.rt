@@ -83,9 +83,7 @@ fn stepped(u: utf8::Utf, x: u64, k: usize) -> utf8::Utf
     ensures { wanted result ≡ fed (wanted u) (number_bytes k x) }
 {
     let mut v = u;
-    let mut i = k;
-    while 0 < i {
-        i -= 1;
+    for i in (0..k).rev() {
         v = utf8::step(v, ((x >> (8 * i)) % 256) as u8);
     }
     v
@@ -112,7 +110,7 @@ fn mixed_at(b: &[u8], at: usize, n: usize) -> bool
     let mut u = utf8::start();
     let mut i: usize = 0;
     while i < n {
-        let k = bits::least(n - i, 7);
+        let k = (n - i).min(7);
         u = fed(u, bits::field(b, at + 8 * i, 8 * k), k);
         i += k;
     }
@@ -126,7 +124,7 @@ fn utf8_at(b: &[u8], at: usize, n: usize) -> bool
 {
     let mut i: usize = 0;
     while i < n {
-        let k = bits::least(n - i, 7);
+        let k = (n - i).min(7);
         if !is_ascii(bits::field(b, at + 8 * i, 8 * k)) {
             return mixed_at(b, at + 8 * i, n - i);
         }
@@ -158,13 +156,11 @@ fn segment(b: &[u8], p: usize) -> usize
 {
     let k = number(b, p, 2);
     let q = ahead(b, p, 2);
-    if k == 0 {
-        return string(b, q);
+    match k {
+        0 => string(b, q),
+        1 | 2 => q,
+        _ => BROKEN,
     }
-    if k <= 2 {
-        return q;
-    }
-    BROKEN
 }
 
 // Segment count (8) and segments.
@@ -174,10 +170,8 @@ fn segments(b: &[u8], p: usize) -> usize
 {
     let n = number(b, p, 8);
     let mut cur = ahead(b, p, 8);
-    let mut i: usize = 0;
-    while i < n {
+    for _ in 0..n {
         cur = segment(b, cur);
-        i += 1;
     }
     cur
 }
@@ -198,13 +192,11 @@ pub fn path(b: &[u8], p: usize) -> usize
     let raw = string(b, p);
     let k = number(b, raw, 1);
     let q = ahead(b, raw, 1);
-    if k == 0 {
-        return segments(b, q);
+    match k {
+        0 => segments(b, q),
+        1 => level(b, q),
+        _ => BROKEN,
     }
-    if k == 1 {
-        return level(b, q);
-    }
-    BROKEN
 }
 
 // A negative number: 64 bits, two's complement, the top bit set.
@@ -225,19 +217,13 @@ pub fn literal(b: &[u8], p: usize) -> usize
 {
     let k = number(b, p, 3);
     let q = ahead(b, p, 3);
-    if k <= 2 {
-        return q;
+    match k {
+        0..=2 => q,
+        3 => ahead(b, q, 64),
+        4 => negative(b, q),
+        5 => string(b, q),
+        _ => BROKEN,
     }
-    if k == 3 {
-        return ahead(b, q, 64);
-    }
-    if k == 4 {
-        return negative(b, q);
-    }
-    if k == 5 {
-        return string(b, q);
-    }
-    BROKEN
 }
 
 // Block names (2): 0 none, 1 one string, 2 two.
@@ -247,16 +233,12 @@ pub fn block_names(b: &[u8], p: usize) -> usize
 {
     let k = number(b, p, 2);
     let q = ahead(b, p, 2);
-    if k == 0 {
-        return q;
+    match k {
+        0 => q,
+        1 => string(b, q),
+        2 => string(b, string(b, q)),
+        _ => BROKEN,
     }
-    if k == 1 {
-        return string(b, q);
-    }
-    if k == 2 {
-        return string(b, string(b, q));
-    }
-    BROKEN
 }
 
 // The indent bit, the indent if it is 1, and the `indent_before_write` bit: the end of decorators and partials.
@@ -266,11 +248,9 @@ pub fn tail(b: &[u8], p: usize) -> usize
 {
     let k = number(b, p, 1);
     let q = ahead(b, p, 1);
-    if k == 0 {
-        return flag(b, q);
+    match k {
+        0 => flag(b, q),
+        1 => flag(b, string(b, q)),
+        _ => BROKEN,
     }
-    if k == 1 {
-        return flag(b, string(b, q));
-    }
-    BROKEN
 }

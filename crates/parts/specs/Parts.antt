@@ -18,11 +18,11 @@ use Rattle.parts.specs.HoldsLaws.{Then, then_holds, Same, shaped_holds, tested_h
 pub one_more : (n : ℕ) → (n ≡ 0 → ⊥) → suc (n - 1) ≡ n
 one_more n h = omega arith
 
-pub two_more : (n : ℕ) → (n ≡ 0 → ⊥) → (n ≡ 1 → ⊥) → suc (suc (n - 2)) ≡ n
-two_more n h k = omega arith
+pub two_more : (n : ℕ) → 2 ≤ n → suc (suc (n - 2)) ≡ n
+two_more n h = omega arith
 
-pub five_more : (n : ℕ) → (n ≡ 0 → ⊥) → (n ≡ 1 → ⊥) → (n ≡ 2 → ⊥) → (n ≡ 3 → ⊥) → (n ≡ 4 → ⊥) → suc (suc (suc (suc (suc (n - 5))))) ≡ n
-five_more n h k l m o = omega arith
+pub five_more : (n : ℕ) → 5 ≤ n → suc (suc (suc (suc (suc (n - 5))))) ≡ n
+five_more n h = omega arith
 
 -- Segments
 

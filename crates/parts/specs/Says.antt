@@ -1,5 +1,5 @@
 -- What the readers' answers say, as the values of the rules, and what stands at the places they hold: one record for each kind of part.
-use Rattle.std.specs.Prelude.{ℕ, zero, suc, ◌+◌, List, [], ◌≡◌, refl}
+use Rattle.std.specs.Prelude.{ℕ, zero, suc, ◌+◌, List, [], ◌≡◌, refl, Option as RustOption, Some, None}
 use Rattle.std.proofs.Math.Option.{Option, none, some}
 use Rattle.std.proofs.Common.{sym, ap, ◌∙◌, subst, arith}
 use Rattle.rules.specs.Bytes.{Bytes}
@@ -23,8 +23,6 @@ use Rattle.parts.specs.declared.Literal.{Literal}
 use Rattle.parts.specs.declared.Literal.TheVariants.{Null, Boolean, Unsigned, Negative, String}
 use Rattle.parts.specs.declared.BlockParam.{BlockParam}
 use Rattle.parts.specs.declared.BlockParam.TheVariants.{None, Single, Pair}
-use Rattle.parts.specs.declared.Maybe.{Maybe}
-use Rattle.parts.specs.declared.Maybe.TheVariants.{At, Nothing}
 
 -- Segments
 
@@ -208,18 +206,18 @@ names_read b p H v e = subst (NamesStand b p) (sym e) (names_stand b p H)
 
 -- Indents: a bit and a string
 
-abbrev pub MaybeHolds : {A : Type 0} → Layout A → Bits → Maybe → Type 0
-MaybeHolds c b (At q) = Holds c b q
-MaybeHolds c b Nothing = Unit {0}
+abbrev pub MaybeHolds : {A : Type 0} → Layout A → Bits → RustOption ℕ → Type 0
+MaybeHolds c b (Some q) = Holds c b q
+MaybeHolds c b None = Unit {0}
 
 abbrev pub indent_at : Bits → ℕ → Option Bytes
 indent_at b p = value none indent b p
 
-abbrev pub indent_says : Bits → Maybe → Option Bytes
-indent_says b (At q) = some (text_at b q)
-indent_says b Nothing = none
+abbrev pub indent_says : Bits → RustOption ℕ → Option Bytes
+indent_says b (Some q) = some (text_at b q)
+indent_says b None = none
 
-pub record IndentStands (b : Bits) (p : ℕ) (v : Maybe) : Type 0 where
+pub record IndentStands (b : Bits) (p : ℕ) (v : RustOption ℕ) : Type 0 where
   pub is : indent_at b p ≡ indent_says b v
   pub parts : MaybeHolds string b v
 
@@ -233,5 +231,5 @@ indent_stands b p H = at (field b 1 p) refl
         let m = indent_some b p H f in
         record { is = value_is none H ∙ sym (ap some (string_found b (p + 1) m.inner) ∙ m.is); parts = m.inner }
 
-pub indent_read : (b : Bits) (p : ℕ) → Holds indent b p → (v : Maybe) → v ≡ maybe_view b p → IndentStands b p v
+pub indent_read : (b : Bits) (p : ℕ) → Holds indent b p → (v : RustOption ℕ) → v ≡ maybe_view b p → IndentStands b p v
 indent_read b p H v e = subst (IndentStands b p) (sym e) (indent_stands b p H)

@@ -1,5 +1,5 @@
 -- What the readers answer, as functions of the tag that stands at a place.
-use Rattle.std.specs.Prelude.{ℕ, zero, suc, ◌+◌, ◌-◌, true, false, ◌≡◌}
+use Rattle.std.specs.Prelude.{ℕ, zero, suc, ◌+◌, ◌-◌, true, false, ◌≡◌, Option as RustOption, Some, None}
 use Rattle.std.proofs.Common.{sym, ap, ◌∙◌, arith}
 use Rattle.rules.specs.Bits.{Bits}
 use Rattle.rules.specs.Layout.{field}
@@ -14,8 +14,6 @@ use Rattle.parts.specs.declared.Literal.{Literal}
 use Rattle.parts.specs.declared.Literal.TheVariants.{Null, Boolean, Unsigned, Negative, String}
 use Rattle.parts.specs.declared.BlockParam.{BlockParam}
 use Rattle.parts.specs.declared.BlockParam.TheVariants.{None, Single, Pair}
-use Rattle.parts.specs.declared.Maybe.{Maybe}
-use Rattle.parts.specs.declared.Maybe.TheVariants.{At, Nothing}
 
 abbrev pub text_view : Bits → ℕ → Text
 text_view b p = record { count = field b 16 p; first = p + 16 }
@@ -72,9 +70,9 @@ names_of b q (suc (suc k)) = Pair q (end string b q)
 abbrev pub names_view : Bits → ℕ → BlockParam
 names_view b p = names_of b (p + 2) (field b 2 p)
 
-abbrev pub maybe_of : ℕ → ℕ → Maybe
-maybe_of q zero = Nothing
-maybe_of q (suc k) = At q
+abbrev pub maybe_of : ℕ → ℕ → RustOption ℕ
+maybe_of q zero = None
+maybe_of q (suc k) = Some q
 
-abbrev pub maybe_view : Bits → ℕ → Maybe
+abbrev pub maybe_view : Bits → ℕ → RustOption ℕ
 maybe_view b p = maybe_of (p + 1) (field b 1 p)

@@ -90,10 +90,8 @@ fn skip_row(b: &[u8], p: usize, n: u64) -> usize
     ensures { result ≡ end (row seg n) (bits b.now) p }
 {
     let mut cur = p;
-    let mut i: u64 = 0;
-    while i < n {
+    for _ in 0..n {
         cur = skip_segment(b, cur);
-        i += 1;
     }
     cur
 }
@@ -157,24 +155,15 @@ pub fn literal_at(b: &[u8], p: usize) -> Literal
     requires { (length b.now ≤ 65536) × Holds literal (bits b.now) p }
     ensures { result ≡ literal_view (bits b.now) p }
 {
-    let k = bits::field(b, p, 3);
     let q = p + 3;
-    if k == 0 {
-        return Literal::Null;
+    match bits::field(b, p, 3) {
+        0 => Literal::Null,
+        1 => Literal::Boolean(false),
+        2 => Literal::Boolean(true),
+        3 => Literal::Unsigned(bits::field(b, q, 64)),
+        4 => Literal::Negative(18446744073709551615 - bits::field(b, q, 64) + 1),
+        _ => Literal::String(q),
     }
-    if k == 1 {
-        return Literal::Boolean(false);
-    }
-    if k == 2 {
-        return Literal::Boolean(true);
-    }
-    if k == 3 {
-        return Literal::Unsigned(bits::field(b, q, 64));
-    }
-    if k == 4 {
-        return Literal::Negative(18446744073709551615 - bits::field(b, q, 64) + 1);
-    }
-    Literal::String(q)
 }
 
 // The place behind the literal at p.
@@ -205,15 +194,12 @@ pub fn block_names_at(b: &[u8], p: usize) -> BlockParam
     requires { (length b.now ≤ 65536) × Holds block_names (bits b.now) p }
     ensures { result ≡ names_view (bits b.now) p }
 {
-    let k = bits::field(b, p, 2);
     let q = p + 2;
-    if k == 0 {
-        return BlockParam::None;
+    match bits::field(b, p, 2) {
+        0 => BlockParam::None,
+        1 => BlockParam::Single(q),
+        _ => BlockParam::Pair(q, skip_string(b, q)),
     }
-    if k == 1 {
-        return BlockParam::Single(q);
-    }
-    BlockParam::Pair(q, skip_string(b, q))
 }
 
 // The place behind the block names at p.
@@ -221,32 +207,23 @@ pub fn skip_block_names(b: &[u8], p: usize) -> usize
     requires { (length b.now ≤ 65536) × Holds block_names (bits b.now) p }
     ensures { result ≡ end block_names (bits b.now) p }
 {
-    let k = bits::field(b, p, 2);
     let q = p + 2;
-    if k == 0 {
-        return q;
+    match bits::field(b, p, 2) {
+        0 => q,
+        1 => skip_string(b, q),
+        _ => skip_string(b, skip_string(b, q)),
     }
-    if k == 1 {
-        return skip_string(b, q);
-    }
-    skip_string(b, skip_string(b, q))
 }
 
 // What may follow a bit: an indent or a body.
-#[derive(Clone, Copy)]
-pub enum Maybe {
-    At(usize),
-    Nothing,
-}
-
-pub fn maybe_at(b: &[u8], p: usize) -> Maybe
+pub fn maybe_at(b: &[u8], p: usize) -> Option<usize>
     requires { p ≤ 524288 }
     ensures { result ≡ maybe_view (bits b.now) p }
 {
     if bits::field(b, p, 1) == 0 {
-        return Maybe::Nothing;
+        return None;
     }
-    Maybe::At(p + 1)
+    Some(p + 1)
 }
 
 // The place behind the indent at p.

@@ -1,6 +1,6 @@
 -- The places of the templates in a lent table.
 use Prim.Native.Nat.{ℕ, zero, suc, ◌+◌, ◌≤◌, ◌<◌}
-use Rattle.std.specs.Prelude.{Bool, true, false, List, ◌≡◌, length, get_or}
+use Rattle.std.specs.Prelude.{Bool, true, false, List, ◌≡◌, get_or, Option as RustOption, Some, None}
 use Rattle.std.proofs.Math.Path.{refl, sym, ap}
 use Rattle.std.proofs.Common.{◌∙◌, subst, arith, le-leb}
 use Rattle.rules.specs.Template as rule
@@ -14,8 +14,6 @@ use Rattle.layout.specs.WalkLaws.{next_at}
 use Rattle.layout.specs.Listed.{template_place, count_place, BundleListed, listed_all, never_at}
 use Rattle.parts.specs.Holds.{Holds, end}
 use Rattle.parts.specs.HoldsLaws.{end_is, tested_holds, counted_holds}
-use Rattle.registry.specs.declared.Found.{Found}
-use Rattle.registry.specs.declared.Found.TheVariants.{Template as Is, Missing}
 use Rattle.registry.specs.Templates.{templates_at, place_of, place_zero, found_view, Searching, search_start, search_here, search_on, search_end, number_at as template-number-at}
 
 -- those of the first n, and zero behind them
@@ -85,10 +83,10 @@ look_start w b m H n e =
     (search_start w b m H n e)
 
 module _ (w : ℕ) (b : Bits) (m : Bytes) (n i : ℕ) (S : Looking w b m n i) where
-  abbrev goal : Found
+  abbrev goal : RustOption (ℕ × ℕ × ℕ)
   goal = found_view (body w 16) b (find_template (templates_at w b) m)
 
-  pub look_end : n ≤ i → Missing ≡ goal
+  pub look_end : n ≤ i → None ≡ goal
   look_end le = search_end (body w 16) b m n i (place_of (body w 16) b i) (end (templates w) b 8) goal S le
 
   module _ (lt : i < n) (x : Bool) (e : x ≡ same (text_at b (place_of (body w 16) b i)) m) where
@@ -97,6 +95,6 @@ module _ (w : ℕ) (b : Bits) (m : Bytes) (n i : ℕ) (S : Looking w b m n i) wh
         let T = search_on (body w 16) b m n i (place_of (body w 16) b i) (end (templates w) b 8) goal S lt _ _ x refl refl e f in
         subst (λ (p : ℕ). Searching (body w 16) b m n (i + 1) p (end (templates w) b 8) goal) T.place T
 
-    pub look_here : x ≡ true → (p q : ℕ) → p ≡ place_of (body w 16) b i → q ≡ end string b (place_of (body w 16) b i) → Is i p q ≡ goal
+    pub look_here : x ≡ true → (p q : ℕ) → p ≡ place_of (body w 16) b i → q ≡ end string b (place_of (body w 16) b i) → Some (i, p, q) ≡ goal
     look_here f p q h g =
-        ap (λ (p : ℕ). Is i p q) h ∙ search_here (body w 16) b m n i (place_of (body w 16) b i) (end (templates w) b 8) goal S lt q x g e f
+        ap (λ (p : ℕ). Some (i, p, q)) h ∙ search_here (body w 16) b m n i (place_of (body w 16) b i) (end (templates w) b 8) goal S lt q x g e f

@@ -1,7 +1,7 @@
 -- The templates of a bundle, and what check_bundle's acceptance gives: they stand at bit 8.
 -- The laws hold for any layout c of a template's body; a bundle has `body w 16`.
 use Prim.Native.Nat.{ℕ, zero, suc, ◌+◌, ◌-◌, ◌≤◌, ◌<◌}
-use Rattle.std.specs.Prelude.{Bool, true, false, List, [], ◌∷◌, ◌≡◌, refl, leb, eqb, length}
+use Rattle.std.specs.Prelude.{Bool, true, false, Err, List, [], ◌∷◌, ◌≡◌, refl, leb, eqb, length, Option as RustOption, Some, None}
 use Rattle.std.proofs.Math.Option.{Option, none, some}
 use Rattle.std.proofs.Common.{sym, ◌∙◌, add-one, leb-true}
 use Rattle.std.proofs.Math.Path.{ap, subst}
@@ -17,13 +17,11 @@ use Rattle.rules.specs.LayoutLaws.{then_was, tested_was, pick_was}
 use Rattle.rules.specs.Bundle.{string, body, templates_allowed, template, templates, versioned, ends, whole, bundle_of, bundle, partial_context, find_from, find_template}
 use Rattle.rules.specs.BundleLaws.{bundle_is}
 use Rattle.layout.specs.Text.{text_at}
-use Rattle.layout.specs.Verdict.{read_verdict, verdict}
-use Rattle.layout.specs.declared.Verdict.TheVariants.{Accepted, TooLong, PartialContext}
+use Rattle.layout.specs.Verdict.{accepted, read_verdict, verdict}
+use Rattle.layout.specs.declared.BundleError.TheVariants.{TooLong, PartialContext}
 use Rattle.parts.specs.Holds.{Holds, end, value, row}
 use Rattle.parts.specs.HoldsLaws.{value_is, then_holds, Same, tested_holds, Counted, counted_holds, none_left_value, more_value, row_length, Passed, counted_start, passed_first, passed_again, passed_value, string_found, string_in}
 use Rattle.registry.specs.declared.Template.{Template}
-use Rattle.registry.specs.declared.Found.{Found}
-use Rattle.registry.specs.declared.Found.TheVariants.{Template as Is, Missing}
 
 -- what a bundle that stands holds
 abbrev pub templates_at : ℕ → Bits → List (Bytes × rule.Template)
@@ -41,21 +39,21 @@ place_of c b (suc k) = end (string then c) b (place_of c b k)
 abbrev pub template_view : Bits → ℕ → Template
 template_view b p = record { name = p; body = end string b p }
 
-abbrev pub found_view : Layout rule.Template → Bits → Option ℕ → Found
-found_view c b (some k) = Is k (place_of c b k) (end string b (place_of c b k))
-found_view c b none = Missing
+abbrev pub found_view : Layout rule.Template → Bits → Option ℕ → RustOption (ℕ × ℕ × ℕ)
+found_view c b (some k) = Some (k, place_of c b k, end string b (place_of c b k))
+found_view c b none = None
 
 -- What a search finds: a number below n, a name that is m, and a body that is what the rules get
 
-abbrev pub found_says : Layout rule.Template → Bits → Found → Option rule.Template
-found_says c b (Is k p q) = some (value rule.tnil c b q)
-found_says c b Missing = none
+abbrev pub found_says : Layout rule.Template → Bits → RustOption (ℕ × ℕ × ℕ) → Option rule.Template
+found_says c b (Some (k, p, q)) = some (value rule.tnil c b q)
+found_says c b None = none
 
-abbrev pub FoundHolds : Layout rule.Template → Bits → ℕ → Bytes → Found → Type 0
-FoundHolds c b n m (Is k p q) = (k < n) × Holds string b p × (text_at b p ≡ m) × Holds c b q
-FoundHolds c b n m Missing = Unit {0}
+abbrev pub FoundHolds : Layout rule.Template → Bits → ℕ → Bytes → RustOption (ℕ × ℕ × ℕ) → Type 0
+FoundHolds c b n m (Some (k, p, q)) = (k < n) × Holds string b p × (text_at b p ≡ m) × Holds c b q
+FoundHolds c b n m None = Unit {0}
 
-pub record FoundStands (c : Layout rule.Template) (b : Bits) (n : ℕ) (m : Bytes) (l : List (Bytes × rule.Template)) (v : Found) : Type 0 where
+pub record FoundStands (c : Layout rule.Template) (b : Bits) (n : ℕ) (m : Bytes) (l : List (Bytes × rule.Template)) (v : RustOption (ℕ × ℕ × ℕ)) : Type 0 where
   pub is : get_template l m ≡ found_says c b v
   pub parts : FoundHolds c b n m v
 
@@ -113,13 +111,13 @@ place_next c b i p z e h = h ∙ ap (end (string then c) b) e ∙ ap (place_of c
 
 -- A search that has passed i templates of n and stands at p, that of the next
 
-pub record Searching (c : Layout rule.Template) (b : Bits) (m : Bytes) (n i p q : ℕ) (f : Found) : Type 0 where
+pub record Searching (c : Layout rule.Template) (b : Bits) (m : Bytes) (n i p q : ℕ) (f : RustOption (ℕ × ℕ × ℕ)) : Type 0 where
   pub passed : Passed (string then c) b n i p q
   pub place : p ≡ place_of c b i
   pub is : found_view c b (find_from i (rest_at c (n - i) b p) m) ≡ f
 
-module _ (c : Layout rule.Template) (b : Bits) (m : Bytes) (n i p q : ℕ) (f : Found) (S : Searching c b m n i p q f) where
-  pub search_end : n ≤ i → Missing ≡ f
+module _ (c : Layout rule.Template) (b : Bits) (m : Bytes) (n i p q : ℕ) (f : RustOption (ℕ × ℕ × ℕ)) (S : Searching c b m n i p q f) where
+  pub search_end : n ≤ i → None ≡ f
   search_end h =
       let e : n - i ≡ 0 = omega arith in
       ap (λ l. found_view c b (find_from i l m)) (sym (ap (λ (k : ℕ). rest_at c k b p) e ∙ none_left_value (string then c) b p)) ∙ S.is
@@ -143,9 +141,9 @@ module _ (c : Layout rule.Template) (b : Bits) (m : Bytes) (n i p q : ℕ) (f : 
         ∙ ap (λ l. found_view c b (find_from i l m)) (sym (passed_value (string then c) b n i p q S.passed h x))
         ∙ S.is
 
-    pub search_here : (r : ℕ) (t : Bool) → r ≡ end string b p → t ≡ same (text_at b p) m → t ≡ true → Is i p r ≡ f
+    pub search_here : (r : ℕ) (t : Bool) → r ≡ end string b p → t ≡ same (text_at b p) m → t ≡ true → Some (i, p, r) ≡ f
     search_here r t hr e g =
-        ap (Is i p) hr ∙ ap (λ (p : ℕ). Is i p (end string b p)) S.place ∙ step true (sym g ∙ e)
+        ap (λ (u : ℕ). Some (i, p, u)) hr ∙ ap (λ (p : ℕ). Some (i, p, end string b p)) S.place ∙ step true (sym g ∙ e)
 
     pub search_on : (r z : ℕ) (t : Bool) → r ≡ end string b p → z ≡ end c b r → t ≡ same (text_at b p) m → t ≡ false → Searching c b m n (i + 1) z q f
     search_on r z t hr hz e g =
@@ -278,20 +276,20 @@ whole_read s l small plain (read x p) f g e =
     said true g = cc
     said false g = let z : ◌≡◌ {A = ℕ} 0 1 = cc in absurd (omega arith)
 
-accepted_list : (s : Bytes) → length s ≤ 65536 → (o : Option (List (Bytes × rule.Template))) → bundle s ≡ o → read_verdict o ≡ Accepted → Standing s
+accepted_list : (s : Bytes) → length s ≤ 65536 → (o : Option (List (Bytes × rule.Template))) → bundle s ≡ o → read_verdict o ≡ accepted → Standing s
 unfolding bundle_of
 accepted_list s small none e h = let z : ◌≡◌ {A = ℕ} 0 1 = cc in absurd (omega arith)
 accepted_list s small (some l) e h = whole_read s l small (plain (partial_context l) h) ((versioned 1 16).dec (bits s) 0) refl (sym (bundle_is s) ∙ e) e
   where
-    plain : (t : Bool) → pick t PartialContext Accepted ≡ Accepted → t ≡ false
+    plain : (t : Bool) → pick t (Err PartialContext) accepted ≡ accepted → t ≡ false
     plain true h = let z : ◌≡◌ {A = ℕ} 0 1 = cc in absurd (omega arith)
     plain false h = refl
 
 -- what check_bundle accepts stands
-pub accepted_holds : (s : Bytes) → verdict s ≡ Accepted → Standing s
+pub accepted_holds : (s : Bytes) → verdict s ≡ accepted → Standing s
 unfolding verdict
 accepted_holds s h = sized (leb (length s) 65536) refl h
   where
-    sized : (t : Bool) → leb (length s) 65536 ≡ t → pick t (read_verdict (bundle s)) TooLong ≡ Accepted → Standing s
+    sized : (t : Bool) → leb (length s) 65536 ≡ t → pick t (read_verdict (bundle s)) (Err TooLong) ≡ accepted → Standing s
     sized true e h = accepted_list s (leb-true _ _ e) (bundle s) refl h
     sized false e h = let z : ◌≡◌ {A = ℕ} 0 1 = cc in absurd (omega arith)

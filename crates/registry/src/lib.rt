@@ -53,31 +53,22 @@ pub fn indexed_at(b: &[u8], places: &[u32], k: usize) -> Template
     }
 }
 
-#[derive(Clone, Copy)]
-pub enum Found {
-    // the template's number from 0, its name's string, and its body
-    Template(usize, usize, usize),
-    Missing,
-}
-
-// The template with the given name.
-pub fn get_template(b: &[u8], w: usize, name: &[u8]) -> Found
+// The template with the given name: its number from 0, its name's string, and its body.
+pub fn get_template(b: &[u8], w: usize, name: &[u8]) -> Option<(usize, usize, usize)>
     requires { (length b.now ≤ 65536) × Holds (templates w) (bits b.now) 8 }
     ensures { result ≡ found_view (body w 16) (bits b.now)
         (find_template (templates_at w (bits b.now)) name.now) }
 {
     let n = template_count(b);
     let mut cur: usize = FIRST;
-    let mut i: usize = 0;
-    while i < n {
+    for i in 0..n {
         let body = parts::skip_string(b, cur);
         if parts::text_is(b, cur, name) {
-            return Found::Template(i, cur, body);
+            return Some((i, cur, body));
         }
         cur = template::skip_body(b, body, w, DEPTH);
-        i += 1;
     }
-    Found::Missing
+    None
 }
 
 // Whether the string at p is the one at q, which starts with y: its count and its first byte, read at once. Most start otherwise, and then they are the
@@ -95,7 +86,7 @@ fn is_named(b: &[u8], p: usize, q: usize, y: u64) -> bool
 }
 
 // The template that has the name of the string at the bit at, by the places of the templates.
-pub fn get_indexed(b: &[u8], places: &[u32], at: usize) -> Found
+pub fn get_indexed(b: &[u8], places: &[u32], at: usize) -> Option<(usize, usize, usize)>
     requires { (length b.now ≤ 65536)
         × Holds (templates 16) (bits b.now) 8
         × (field (bits b.now) 8 8 ≤ length places.now)
@@ -106,13 +97,11 @@ pub fn get_indexed(b: &[u8], places: &[u32], at: usize) -> Found
 {
     let n = template_count(b);
     let y = bits::field(b, at, COUNT_AND_BYTE);
-    let mut i: usize = 0;
-    while i < n {
+    for i in 0..n {
         let p = places[i] as usize;
         if is_named(b, p, at, y) {
-            return Found::Template(i, p, parts::skip_string(b, p));
+            return Some((i, p, parts::skip_string(b, p)));
         }
-        i += 1;
     }
-    Found::Missing
+    None
 }

@@ -5,8 +5,7 @@
 ghost use Rattle.std.specs.Prelude.{◌≡◌, ◌+◌, ◌≤◌, ◌<◌, length, IfOk};
 ghost use Rattle.layout.specs.Verdict.{verdict_number};
 
-use error::{BUNDLE_LAYOUT, BUNDLE_TOO_LARGE, PARTIAL_PARAMETER};
-use layout::Verdict;
+use layout::BundleError;
 use std::alloc::{AllocError, Global};
 use std::io::Read;
 use std::rt::Files;
@@ -157,15 +156,13 @@ fn unpack(f: &[u8], at: usize, out: &mut [u8], to: usize) -> Unpacked
     }
 }
 
-// The paper's numbers.
-fn number_of(v: Verdict) -> usize
+// The paper's number of a check that is not passed, or 0.
+fn number_of(v: Result<(), BundleError>) -> usize
     ensures { (result ≡ verdict_number v) × (result < 5) }
 {
     match v {
-        Verdict::Accepted => 0,
-        Verdict::TooLong => BUNDLE_TOO_LARGE as usize,
-        Verdict::BadLayout => BUNDLE_LAYOUT as usize,
-        Verdict::PartialContext => PARTIAL_PARAMETER as usize,
+        Ok(()) => 0,
+        Err(e) => u8::from(e) as usize,
     }
 }
 
@@ -185,8 +182,7 @@ fn count_kinds(bundle: &[u8], kinds: &mut [u64; 9]) {
     if 4096 < bundle.len() {
         return;
     }
-    let v = layout::check_bundle(bundle);
-    let Verdict::Accepted = v else {
+    let Ok(()) = layout::check_bundle(bundle) else {
         return;
     };
     for k in 0..9 {

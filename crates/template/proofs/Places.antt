@@ -1,4 +1,5 @@
 -- What the readers meet on their way: the parts of an element at the places that the code has worked out, and the answers made of them.
+use Rattle.std.specs.Prelude.{Option as RustOption, Some, None}
 use Prim.Native.Nat.{ℕ, zero, suc, ◌+◌, ◌-◌, ◌*◌, ◌%◌, ◌≤◌, ◌<◌}
 use mathlib.Core.Bool.{Bool}
 use mathlib.Core.Path.{◌≡◌, refl, sym, ap, ◌∙◌}
@@ -14,8 +15,6 @@ use Rattle.parts.specs.Holds.{Holds, end}
 use Rattle.parts.specs.HoldsLaws.{moved, Same}
 use Rattle.parts.specs.Views.{maybe_of, maybe_view}
 use Rattle.parts.specs.Parts.{indent_fits, indent_none, indent_some, indent_there, names_none}
-use Rattle.parts.specs.declared.Maybe.{Maybe}
-use Rattle.parts.specs.declared.Maybe.TheVariants.{At, Nothing}
 use Rattle.template.specs.Views.{flag_at, tail_view, call_end, flagged_view, names_end, template_end, inverse_end, body_end, bodied_view, block_view, kind_view, content_of, content_view, element_view, placed_element_is}
 use Rattle.template.specs.Content.{tail_indent, tail_fits, tail_end, maybe_fits, maybe_none, maybe_some, maybe_there, FlaggedHolds, written_holds, BodilessHolds, bodiless_holds, BodiedHolds, bodied_holds, BlockHolds, block_holds}
 use Rattle.template.specs.Content.{raw_string_holds, html_holds, expression_holds, helper_holds, decorator_holds, decorator_block_holds, partial_holds, partial_block_holds, comment_holds, element_never}
@@ -50,9 +49,9 @@ module _ (b : Bits) (p : ℕ) (H : Holds (indent then flag) b p) (f : ℕ) (hf :
   pub tail_here : (p + 1 ≤ b.size) × (f + 1 ≤ b.size)
   tail_here = (indent_fits b p (tail_indent b p H), omega (arith, hf, tail_fits b p H))
 
-  pub tail_made : (i : Maybe) → i ≡ maybe_view b p → (g : Bool) → g ≡ flag_at b f → ◌≡◌ {A = Tail} (record { indent = i; before = g; next = f + 1 }) (tail_view b p)
+  pub tail_made : (i : RustOption ℕ) → i ≡ maybe_view b p → (g : Bool) → g ≡ flag_at b f → ◌≡◌ {A = Tail} (record { indent = i; before = g; next = f + 1 }) (tail_view b p)
   tail_made i hi g hg =
-      ap (λ (i : Maybe). record { indent = i; before = g; next = f + 1 }) hi
+      ap (λ (i : RustOption ℕ). record { indent = i; before = g; next = f + 1 }) hi
       ∙ ap (λ (g : Bool). record { indent = maybe_view b p; before = g; next = f + 1 }) hg
       ∙ ap (λ (f : ℕ). record { indent = maybe_view b p; before = flag_at b f; next = f + 1 }) hf
 
@@ -71,12 +70,12 @@ module _ (b : Bits) (p : ℕ) (H : Holds (indent then flag) b p) (y : ℕ) (hy :
     pub plain_tail_fits : p + 2 ≤ b.size
     plain_tail_fits = omega (arith, (tail_here b p H (p + 1) at_bit).1)
 
-    pub plain_tail_made : ◌≡◌ {A = Tail} (record { indent = Nothing; before = eqb y 1; next = p + 2 }) (tail_view b p)
+    pub plain_tail_made : ◌≡◌ {A = Tail} (record { indent = None; before = eqb y 1; next = p + 2 }) (tail_view b p)
     plain_tail_made =
         let e : p + 2 ≡ p + 1 + 1 = omega arith in
         let k : y ≡ field b 1 (p + 1) = omega (arith, tail_bits, no_indent) in
-        ap (λ (m : ℕ). record { indent = Nothing; before = eqb y 1; next = m }) e
-        ∙ tail_made b p H (p + 1) at_bit Nothing (sym (ap (maybe_of (p + 1)) no_indent)) (eqb y 1) (ap (λ (m : ℕ). eqb m 1) k)
+        ap (λ (m : ℕ). record { indent = None; before = eqb y 1; next = m }) e
+        ∙ tail_made b p H (p + 1) at_bit None (sym (ap (maybe_of (p + 1)) no_indent)) (eqb y 1) (ap (λ (m : ℕ). eqb m 1) k)
 
   module _ (bin : Binary b) (ge : 2 ≤ y) where
     an_indent : field b 1 p ≡ 1
@@ -95,8 +94,8 @@ module _ (b : Bits) (p : ℕ) (H : Holds (indent then flag) b p) (y : ℕ) (hy :
       pub indented_last : f + 1 ≤ b.size
       indented_last = (tail_here b p H f at_last_bit).1
 
-      pub indented_made : (g : Bool) → g ≡ flag_at b f → ◌≡◌ {A = Tail} (record { indent = At (p + 1); before = g; next = f + 1 }) (tail_view b p)
-      indented_made g hg = tail_made b p H f at_last_bit (At (p + 1)) (sym (ap (maybe_of (p + 1)) an_indent)) g hg
+      pub indented_made : (g : Bool) → g ≡ flag_at b f → ◌≡◌ {A = Tail} (record { indent = Some (p + 1); before = g; next = f + 1 }) (tail_view b p)
+      indented_made g hg = tail_made b p H f at_last_bit (Some (p + 1)) (sym (ap (maybe_of (p + 1)) an_indent)) g hg
 
 -- A call, which ends at q, an indent and a bit
 
@@ -174,11 +173,11 @@ module _ (w d : ℕ) (b : Bits) (p : ℕ) (H : Holds (call_of (param d) then blo
           pub block_ends : f + 1 ≡ end (call_of (param d) then block_names then maybe_body (body w d) then maybe_body (body w d) then flag) b p
           block_ends = ap (λ (n : ℕ). n + 1) at_flag ∙ block.ends
 
-          pub block_made : (x y : Maybe) → x ≡ maybe_view b t → y ≡ maybe_view b i → (g : Bool) → g ≡ flag_at b f
+          pub block_made : (x y : RustOption ℕ) → x ≡ maybe_view b t → y ≡ maybe_view b i → (g : Bool) → g ≡ flag_at b f
               → ◌≡◌ {A = Block} (record { names = n; template = x; inverse = y; before = g; next = f + 1 }) (block_view w d b p)
           block_made x y hx hy g hg =
-              ap (λ (x : Maybe). record { names = n; template = x; inverse = y; before = g; next = f + 1 }) hx
-              ∙ ap (λ (y : Maybe). record { names = n; template = maybe_view b t; inverse = y; before = g; next = f + 1 }) hy
+              ap (λ (x : RustOption ℕ). record { names = n; template = x; inverse = y; before = g; next = f + 1 }) hx
+              ∙ ap (λ (y : RustOption ℕ). record { names = n; template = maybe_view b t; inverse = y; before = g; next = f + 1 }) hy
               ∙ ap (λ (g : Bool). record { names = n; template = maybe_view b t; inverse = maybe_view b i; before = g; next = f + 1 }) hg
               ∙ ap (λ (f : ℕ). record { names = n; template = maybe_view b t; inverse = maybe_view b i; before = flag_at b f; next = f + 1 }) at_flag
               ∙ ap (λ (i : ℕ). record { names = n; template = maybe_view b t; inverse = maybe_view b i; before = flag_at b (inverse_end w d b p); next = inverse_end w d b p + 1 }) at_inverse
@@ -208,8 +207,8 @@ module _ (w d : ℕ) (b : Bits) (p : ℕ) (H : Holds (call_of (param d) then blo
       pub plain_fits : n + 3 ≤ b.size
       plain_fits = omega (arith, maybe_fits (body w d) b (n + 2) (block_template (n + 2) at_plain))
 
-      plain_template : At (n + 3) ≡ maybe_view b (n + 2)
-      plain_template = ap At (sym behind_bit) ∙ sym (ap (maybe_of (n + 2 + 1)) there)
+      plain_template : Some (n + 3) ≡ maybe_view b (n + 2)
+      plain_template = ap Some (sym behind_bit) ∙ sym (ap (maybe_of (n + 2 + 1)) there)
 
       module _ (i : ℕ) (hi : i ≡ end (body w d) b (n + 3)) where
         at_other : i ≡ end (maybe_body (body w d)) b (n + 2)
@@ -233,12 +232,12 @@ module _ (w d : ℕ) (b : Bits) (p : ℕ) (H : Holds (call_of (param d) then blo
             pub none_fits : i + 2 ≤ b.size
             none_fits = omega (arith, (block_fits (n + 2) at_plain i at_other (i + 1) at_last).2)
 
-            pub none_made : ◌≡◌ {A = Block} (record { names = n; template = At (n + 3); inverse = Nothing; before = eqb y 1; next = i + 2 }) (block_view w d b p)
+            pub none_made : ◌≡◌ {A = Block} (record { names = n; template = Some (n + 3); inverse = None; before = eqb y 1; next = i + 2 }) (block_view w d b p)
             none_made =
                 let e : i + 2 ≡ i + 1 + 1 = omega arith in
                 let k : y ≡ field b 1 (i + 1) = omega (arith, two_bits, no_inverse) in
-                ap (λ (m : ℕ). record { names = n; template = At (n + 3); inverse = Nothing; before = eqb y 1; next = m }) e
-                ∙ block_made (n + 2) at_plain i at_other (i + 1) at_last (At (n + 3)) Nothing plain_template (sym (ap (maybe_of (i + 1)) no_inverse)) (eqb y 1) (ap (λ (m : ℕ). eqb m 1) k)
+                ap (λ (m : ℕ). record { names = n; template = Some (n + 3); inverse = None; before = eqb y 1; next = m }) e
+                ∙ block_made (n + 2) at_plain i at_other (i + 1) at_last (Some (n + 3)) None plain_template (sym (ap (maybe_of (i + 1)) no_inverse)) (eqb y 1) (ap (λ (m : ℕ). eqb m 1) k)
 
           module _ (bin : Binary b) (ge : 2 ≤ y) where
             an_inverse : field b 1 i ≡ 1
@@ -257,16 +256,9 @@ module _ (w d : ℕ) (b : Bits) (p : ℕ) (H : Holds (call_of (param d) then blo
               pub some_last : f + 1 ≤ b.size
               some_last = (block_fits (n + 2) at_plain i at_other f (hf ∙ inverse_some.ends)).2
 
-              pub some_made : (g : Bool) → g ≡ flag_at b f → ◌≡◌ {A = Block} (record { names = n; template = At (n + 3); inverse = At (i + 1); before = g; next = f + 1 }) (block_view w d b p)
+              pub some_made : (g : Bool) → g ≡ flag_at b f → ◌≡◌ {A = Block} (record { names = n; template = Some (n + 3); inverse = Some (i + 1); before = g; next = f + 1 }) (block_view w d b p)
               some_made g hg =
-                  block_made (n + 2) at_plain i at_other f (hf ∙ inverse_some.ends) (At (n + 3)) (At (i + 1)) plain_template (sym (ap (maybe_of (i + 1)) an_inverse)) g hg
-
--- a number that is none of the first eight
-four_more : (n k : ℕ) → n ≤ k → (k ≡ n → ⊥) → (k ≡ n + 1 → ⊥) → (k ≡ n + 2 → ⊥) → (k ≡ n + 3 → ⊥) → n + 4 ≤ k
-four_more n k h a b c d = omega arith
-
-pub eight_on : (k : ℕ) → (k ≡ 0 → ⊥) → (k ≡ 1 → ⊥) → (k ≡ 2 → ⊥) → (k ≡ 3 → ⊥) → (k ≡ 4 → ⊥) → (k ≡ 5 → ⊥) → (k ≡ 6 → ⊥) → (k ≡ 7 → ⊥) → 8 ≤ k
-eight_on k a b c d e f g h = four_more 4 k (four_more 0 k (omega arith) a b c d) e f g h
+                  block_made (n + 2) at_plain i at_other f (hf ∙ inverse_some.ends) (Some (n + 3)) (Some (i + 1)) plain_template (sym (ap (maybe_of (i + 1)) an_inverse)) g hg
 
 -- The nine kinds: what stands behind kind k, and the answer
 

@@ -1,5 +1,5 @@
 -- What stands behind an element's kind, and where it ends.
-use Rattle.std.specs.Prelude.{ℕ, zero, suc, ◌+◌, ◌-◌, ◌≤◌, Bool, [], ◌≡◌, refl}
+use Rattle.std.specs.Prelude.{ℕ, zero, suc, ◌+◌, ◌≤◌, Bool, [], ◌≡◌, refl}
 use Rattle.std.proofs.Common.{inl, inr, sym, ◌∙◌, arith}
 use Rattle.std.proofs.Math.Option.{Option, none}
 use Rattle.std.proofs.Math.Path.{ap}
@@ -18,7 +18,6 @@ use Rattle.parts.specs.Views.{maybe_of, maybe_view}
 use Rattle.parts.specs.Says.{MaybeHolds, indent_says, indent_stands}
 use Rattle.calls.specs.Calls.{call_at}
 use Rattle.template.specs.declared.Element.{Element}
-use Rattle.template.specs.declared.Body.{Body}
 use Rattle.template.specs.Views.{template_at, flag_at, tail_view, call_end, names_end, template_end, inverse_end, body_end, kind_view, content_view, body_says, element_says, ElementHolds}
 
 -- Where the parts stand

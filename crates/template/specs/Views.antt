@@ -1,5 +1,5 @@
 -- Elements and bodies: what the readers answer, what the answers say as the rules have it, and what stands at their places.
-use Rattle.std.specs.Prelude.{ℕ, zero, suc, ◌+◌, ◌-◌, Bool, ◌≡◌, eqb}
+use Rattle.std.specs.Prelude.{ℕ, zero, suc, ◌+◌, Bool, ◌≡◌, eqb, Option as RustOption, Some, None}
 use Rattle.std.proofs.Common.{ap}
 use Rattle.rules.specs.Template as rule
 use Rattle.rules.specs.Bits.{Bits}
@@ -10,8 +10,6 @@ use Rattle.layout.specs.Text.{text_at}
 use Rattle.parts.specs.Holds.{Holds, end, value}
 use Rattle.parts.specs.Views.{maybe_view}
 use Rattle.parts.specs.Says.{names_at, MaybeHolds, indent_says}
-use Rattle.parts.specs.declared.Maybe.{Maybe}
-use Rattle.parts.specs.declared.Maybe.TheVariants.{At, Nothing}
 use Rattle.calls.specs.Calls.{call_at}
 use Rattle.template.specs.declared.Element.{Element}
 use Rattle.template.specs.declared.Element.TheVariants.{RawString, HtmlExpression, Expression, HelperBlock, DecoratorExpression, DecoratorBlock, PartialExpression, PartialBlock, Comment}
@@ -117,9 +115,9 @@ body_view b p = record { count = field b 12 p; first = p + 12 }
 
 -- What an answer says, and what stands
 
-abbrev pub body_says : ℕ → ℕ → Bits → Maybe → rule.Body
-body_says w d b (At q) = rule.body (template_at w d b q)
-body_says w d b Nothing = rule.no_body
+abbrev pub body_says : ℕ → ℕ → Bits → RustOption ℕ → rule.Body
+body_says w d b (Some q) = rule.body (template_at w d b q)
+body_says w d b None = rule.no_body
 
 module _ (w d : ℕ) (b : Bits) where
   abbrev pub element_says : Element → rule.TemplateElement

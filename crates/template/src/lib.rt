@@ -10,8 +10,6 @@ ghost use Rattle.rules.specs.Bundle.{flag, block_names, indent, param, call_of, 
 ghost use Rattle.parts.specs.Holds.{Holds, end};
 ghost use Rattle.template.specs.Views.{flag_at, flagged_view, tail_view, bodied_view, block_view, content_of, content_view, in_body, element_view, body_view};
 
-use parts::Maybe;
-
 // Where the content of an element stands: its call, block names, bodies and indent, and the `indent_before_write` bit.
 #[derive(Clone, Copy)]
 pub enum Element {
@@ -20,13 +18,13 @@ pub enum Element {
     HtmlExpression(usize, bool),
     Expression(usize, bool),
     // call, block names, template, inverse
-    HelperBlock(usize, usize, Maybe, Maybe, bool),
+    HelperBlock(usize, usize, Option<usize>, Option<usize>, bool),
     // call, indent
-    DecoratorExpression(usize, Maybe, bool),
+    DecoratorExpression(usize, Option<usize>, bool),
     // call, body, indent
-    DecoratorBlock(usize, usize, Maybe, bool),
-    PartialExpression(usize, Maybe, bool),
-    PartialBlock(usize, usize, Maybe, bool),
+    DecoratorBlock(usize, usize, Option<usize>, bool),
+    PartialExpression(usize, Option<usize>, bool),
+    PartialBlock(usize, usize, Option<usize>, bool),
     // the string
     Comment(usize),
 }
@@ -63,7 +61,7 @@ struct Flagged {
 
 #[derive(Clone, Copy)]
 struct Tail {
-    indent: Maybe,
+    indent: Option<usize>,
     before: bool,
     next: usize,
 }
@@ -71,7 +69,7 @@ struct Tail {
 #[derive(Clone, Copy)]
 struct Bodied {
     body: usize,
-    indent: Maybe,
+    indent: Option<usize>,
     before: bool,
     next: usize,
 }
@@ -79,8 +77,8 @@ struct Bodied {
 #[derive(Clone, Copy)]
 struct Block {
     names: usize,
-    template: Maybe,
-    inverse: Maybe,
+    template: Option<usize>,
+    inverse: Option<usize>,
     before: bool,
     next: usize,
 }
@@ -154,14 +152,14 @@ fn tail_at(b: &[u8], p: usize) -> Tail
     let y = bits::field(b, p, 2);
     if y < 2 {
         return Tail {
-            indent: Maybe::Nothing,
+            indent: None,
             before: y == 1,
             next: p + 2,
         };
     }
     let f = parts::skip_string(b, p + 1);
     Tail {
-        indent: Maybe::At(p + 1),
+        indent: Some(p + 1),
         before: flag_at(b, f),
         next: f + 1,
     }
@@ -205,8 +203,8 @@ fn block_at(b: &[u8], p: usize, w: usize, d: usize) -> Block
         if y < 2 {
             return Block {
                 names,
-                template: Maybe::At(names + 3),
-                inverse: Maybe::Nothing,
+                template: Some(names + 3),
+                inverse: None,
                 before: y == 1,
                 next: other + 2,
             };
@@ -214,8 +212,8 @@ fn block_at(b: &[u8], p: usize, w: usize, d: usize) -> Block
         let g = skip_body(b, other + 1, w, d);
         return Block {
             names,
-            template: Maybe::At(names + 3),
-            inverse: Maybe::At(other + 1),
+            template: Some(names + 3),
+            inverse: Some(other + 1),
             before: flag_at(b, g),
             next: g + 1,
         };
@@ -281,55 +279,55 @@ pub fn content_at(b: &[u8], p: usize, w: usize, d: usize) -> Content
 {
     let k = bits::field(b, p, 4);
     let q = p + 4;
-    if k == 0 {
-        return found(Element::RawString(q), parts::skip_string(b, q));
-    }
-    if k == 1 {
-        let r = flagged_at(b, q, d);
-        return found(Element::HtmlExpression(q, r.before), r.next);
-    }
-    if k == 2 {
-        let r = flagged_at(b, q, d);
-        return found(Element::Expression(q, r.before), r.next);
-    }
-    if k == 3 {
-        let r = block_at(b, q, w, d);
-        let template = r.template;
-        let inverse = r.inverse;
-        return found(
-            Element::HelperBlock(q, r.names, template, inverse, r.before),
-            r.next,
-        );
-    }
-    if k == 4 {
-        let r = bodiless_at(b, q, d);
-        let indent = r.indent;
-        return found(Element::DecoratorExpression(q, indent, r.before), r.next);
-    }
-    if k == 5 {
-        let r = bodied_at(b, q, w, d);
-        let indent = r.indent;
-        return found(Element::DecoratorBlock(q, r.body, indent, r.before), r.next);
-    }
-    if k == 6 {
-        // the most frequent of those with a tail: read here, for a tail that is handed back goes through memory
-        let e = skip_bare(b, q, d);
-        let y = bits::field(b, e, 2);
-        if y < 2 {
-            return found(Element::PartialExpression(q, Maybe::Nothing, y == 1), e + 2);
+    match k {
+        0 => found(Element::RawString(q), parts::skip_string(b, q)),
+        1 => {
+            let r = flagged_at(b, q, d);
+            found(Element::HtmlExpression(q, r.before), r.next)
         }
-        let f = parts::skip_string(b, e + 1);
-        return found(
-            Element::PartialExpression(q, Maybe::At(e + 1), flag_at(b, f)),
-            f + 1,
-        );
+        2 => {
+            let r = flagged_at(b, q, d);
+            found(Element::Expression(q, r.before), r.next)
+        }
+        3 => {
+            let r = block_at(b, q, w, d);
+            let template = r.template;
+            let inverse = r.inverse;
+            found(
+                Element::HelperBlock(q, r.names, template, inverse, r.before),
+                r.next,
+            )
+        }
+        4 => {
+            let r = bodiless_at(b, q, d);
+            let indent = r.indent;
+            found(Element::DecoratorExpression(q, indent, r.before), r.next)
+        }
+        5 => {
+            let r = bodied_at(b, q, w, d);
+            let indent = r.indent;
+            found(Element::DecoratorBlock(q, r.body, indent, r.before), r.next)
+        }
+        6 => {
+            // the most frequent of those with a tail: read here, for a tail that is handed back goes through memory
+            let e = skip_bare(b, q, d);
+            let y = bits::field(b, e, 2);
+            if y < 2 {
+                return found(Element::PartialExpression(q, None, y == 1), e + 2);
+            }
+            let f = parts::skip_string(b, e + 1);
+            found(
+                Element::PartialExpression(q, Some(e + 1), flag_at(b, f)),
+                f + 1,
+            )
+        }
+        7 => {
+            let r = bodied_at(b, q, w, d);
+            let indent = r.indent;
+            found(Element::PartialBlock(q, r.body, indent, r.before), r.next)
+        }
+        _ => found(Element::Comment(q), parts::skip_string(b, q)),
     }
-    if k == 7 {
-        let r = bodied_at(b, q, w, d);
-        let indent = r.indent;
-        return found(Element::PartialBlock(q, r.body, indent, r.before), r.next);
-    }
-    found(Element::Comment(q), parts::skip_string(b, q))
 }
 
 fn found(element: Element, next: usize) -> Content
@@ -346,10 +344,8 @@ pub fn skip_body(b: &[u8], p: usize, w: usize, d: usize) -> usize
 {
     let n = bits::field(b, p, 12);
     let mut cur = p + 12;
-    let mut i: u64 = 0;
-    while i < n {
+    for _ in 0..n {
         cur = skip_content(b, cur + w + w, w, d - 1);
-        i += 1;
     }
     cur
 }

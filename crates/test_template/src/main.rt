@@ -9,9 +9,7 @@ ghost use Rattle.parts.specs.Holds.{Holds, row};
 ghost use Rattle.template.specs.Views.{ElementHolds};
 
 use calls::Parameter;
-use layout::Verdict;
-use parts::{Literal, Maybe, Path};
-use registry::Found;
+use parts::{Literal, Path};
 use std::io;
 use std::io::Write;
 use template::Element;
@@ -134,8 +132,8 @@ fn print_pairs(rt: &impl Print, b: &[u8], n: u64, p: usize, d: usize) -> io::Res
     Ok(())
 }
 
-fn print_maybe(rt: &impl Print, m: Maybe) -> io::Result<()> {
-    let Maybe::At(_) = m else {
+fn print_maybe(rt: &impl Print, m: Option<usize>) -> io::Result<()> {
+    let Some(_) = m else {
         print(rt, b" none")?;
         return Ok(());
     };
@@ -227,12 +225,11 @@ fn print_version(rt: &impl Print, b: &[u8]) -> io::Result<()> {
 
 fn print_main(rt: &impl Print, b: &[u8]) -> io::Result<()> {
     print_version(rt, b)?;
-    let v = layout::check_bundle(b);
-    let Verdict::Accepted = v else {
+    let Ok(()) = layout::check_bundle(b) else {
         return Ok(());
     };
     let f = registry::get_template(b, 16, b"main");
-    let Found::Template(k, _, p) = f else {
+    let Some((k, _, p)) = f else {
         return Ok(());
     };
     print_number(rt, k as u64)?;

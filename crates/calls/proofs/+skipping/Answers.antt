@@ -1,15 +1,13 @@
 use native.Mathlib.Omega.{arith}
 use mathlib.Core.Path.{ap, sym, ◌∙◌}
-use Prim.Native.Nat.{ℕ, ◌+◌, ◌-◌, ◌*◌, ◌<◌}
 use Rattle.calls.specs.Calls.{call_name, call_params, call_pairs, call_end, bare_end_at, pairs_fits, pairs_start, pair_stands, pair_content, pair_next}
 use Rattle.calls.specs.Calls.{param_deep, param_fits, param_name, param_path, param_literal, param_call, param_last}
-use Rattle.parts.specs.HoldsLaws.{moved, Passed, counted_holds, counted_start, passed_first, passed_again, passed_end}
+use Rattle.parts.specs.HoldsLaws.{moved, counted_holds, counted_start, passed_first, passed_again, passed_end}
 use Rattle.parts.specs.Holds.{end}
 use Rattle.rules.specs.Layout.{◌then◌}
 use Rattle.rules.specs.BundleLaws.{bits_size}
 use Rattle.rules.specs.Bundle.{string, param, params, pairs}
 use Rattle.rules.specs.Bits.{bits}
-use borrow.Author.Rules.{rules}
 use Rattle.calls.proofs.+skipping.Goals as goal
 
 pub skip_call-skip_param-q-requires : goal.skip_call-skip_param-q-requires
@@ -33,62 +31,62 @@ skip_call-returns t c = let s = c in c.skip_pairs.ensures ∙ ap (end (pairs (pa
 pub skip_pairs-overflow_add-cur : goal.skip_pairs-overflow_add-cur
 skip_pairs-overflow_add-cur t c = let s = c in omega (arith, pairs_fits s.args.d (bits s.args.b.now) s.args.p s.requires.1, bits_size s.args.b.now)
 
-pub skip_pairs-loop-i-init : goal.skip_pairs-loop-i-init
-skip_pairs-loop-i-init t c = let s = c in pairs_start s.args.d (bits s.args.b.now) s.args.p s.requires.1 _ c.field-n.ensures
+pub skip_pairs-loop-init : goal.skip_pairs-loop-init
+skip_pairs-loop-init t c = let s = c in pairs_start s.args.d (bits s.args.b.now) s.args.p s.requires.1 _ c.field-n.ensures
 
 pub skip_pairs-skip_string-requires : goal.skip_pairs-skip_string-requires
-skip_pairs-skip_string-requires t c = let s = c in (s.requires.0, (pair_stands s.args.d (bits s.args.b.now) _ (passed_first (string then param s.args.d) (bits s.args.b.now) _ _ _ _ c.loop-i.invariant (omega arith))).key)
+skip_pairs-skip_string-requires t c = let s = c in (s.requires.0, (pair_stands s.args.d (bits s.args.b.now) _ (passed_first (string then param s.args.d) (bits s.args.b.now) _ _ _ _ c.loop.invariant (omega arith))).key)
 
 pub skip_pairs-skip_param-cur-requires : goal.skip_pairs-skip_param-cur-requires
-skip_pairs-skip_param-cur-requires t c = let s = c in (omega arith, (s.requires.0, pair_content s.args.d (bits s.args.b.now) _ (passed_first (string then param s.args.d) (bits s.args.b.now) _ _ _ _ c.loop-i.invariant (omega arith)) _ c.skip_string.ensures))
+skip_pairs-skip_param-cur-requires t c = let s = c in (omega arith, (s.requires.0, pair_content s.args.d (bits s.args.b.now) _ (passed_first (string then param s.args.d) (bits s.args.b.now) _ _ _ _ c.loop.invariant (omega arith)) _ c.skip_string.ensures))
 
-pub skip_pairs-loop-i-preserved : goal.skip_pairs-loop-i-preserved
-skip_pairs-loop-i-preserved t c = let s = c in passed_again (string then param s.args.d) (bits s.args.b.now) _ _ _ _ c.loop-i.invariant (omega arith) _ (pair_next s.args.d (bits s.args.b.now) _ (passed_first (string then param s.args.d) (bits s.args.b.now) _ _ _ _ c.loop-i.invariant (omega arith)) _ c.skip_string.ensures _ c.skip_param-cur.ensures)
+pub skip_pairs-loop-preserved : goal.skip_pairs-loop-preserved
+skip_pairs-loop-preserved t c = let s = c in passed_again (string then param s.args.d) (bits s.args.b.now) _ _ _ _ c.loop.invariant (omega arith) _ (pair_next s.args.d (bits s.args.b.now) _ (passed_first (string then param s.args.d) (bits s.args.b.now) _ _ _ _ c.loop.invariant (omega arith)) _ c.skip_string.ensures _ c.skip_param-cur.ensures)
 
 pub skip_pairs-returns : goal.skip_pairs-returns
-skip_pairs-returns t c = let s = c in passed_end (string then param s.args.d) (bits s.args.b.now) _ _ _ _ c.loop-i.invariant (omega arith)
+skip_pairs-returns t c = let s = c in passed_end (string then param s.args.d) (bits s.args.b.now) _ _ _ _ c.loop.invariant (omega arith)
 
 pub skip_param-overflow_add-q : goal.skip_param-overflow_add-q
 skip_param-overflow_add-q t c = let s = c in omega (arith, param_fits s.args.d (bits s.args.b.now) s.args.p s.requires.1, bits_size s.args.b.now)
 
 pub skip_param-skip_string-requires : goal.skip_param-skip_string-requires
-skip_param-skip_string-requires t c = let s = c in (s.requires.0, (param_name s.args.d (bits s.args.b.now) s.args.p s.requires.1 (sym c.field-k.ensures ∙ c.if-k-eq0.true)).inner)
+skip_param-skip_string-requires t c = let s = c in (s.requires.0, (param_name s.args.d (bits s.args.b.now) s.args.p s.requires.1 (sym c.field.ensures ∙ c.in-0.is)).inner)
 
-pub skip_param-returns-then-k-eq0 : goal.skip_param-returns-then-k-eq0
-skip_param-returns-then-k-eq0 t c = let s = c in c.skip_string.ensures ∙ (param_name s.args.d (bits s.args.b.now) s.args.p s.requires.1 (sym c.field-k.ensures ∙ c.if-k-eq0.true)).ends
+pub skip_param-returns-in-0 : goal.skip_param-returns-in-0
+skip_param-returns-in-0 t c = let s = c in c.skip_string.ensures ∙ (param_name s.args.d (bits s.args.b.now) s.args.p s.requires.1 (sym c.field.ensures ∙ c.in-0.is)).ends
 
 pub skip_param-skip_path-requires : goal.skip_param-skip_path-requires
-skip_param-skip_path-requires t c = let s = c in (s.requires.0, (param_path s.args.d (bits s.args.b.now) s.args.p s.requires.1 (sym c.field-k.ensures ∙ c.if-k-eq1.true)).inner)
+skip_param-skip_path-requires t c = let s = c in (s.requires.0, (param_path s.args.d (bits s.args.b.now) s.args.p s.requires.1 (sym c.field.ensures ∙ c.in-1.is)).inner)
 
-pub skip_param-returns-then-k-eq1 : goal.skip_param-returns-then-k-eq1
-skip_param-returns-then-k-eq1 t c = let s = c in c.skip_path.ensures ∙ (param_path s.args.d (bits s.args.b.now) s.args.p s.requires.1 (sym c.field-k.ensures ∙ c.if-k-eq1.true)).ends
+pub skip_param-returns-in-1 : goal.skip_param-returns-in-1
+skip_param-returns-in-1 t c = let s = c in c.skip_path.ensures ∙ (param_path s.args.d (bits s.args.b.now) s.args.p s.requires.1 (sym c.field.ensures ∙ c.in-1.is)).ends
 
 pub skip_param-skip_literal-requires : goal.skip_param-skip_literal-requires
-skip_param-skip_literal-requires t c = let s = c in (s.requires.0, (param_literal s.args.d (bits s.args.b.now) s.args.p s.requires.1 (sym c.field-k.ensures ∙ c.if-k-eq2.true)).inner)
+skip_param-skip_literal-requires t c = let s = c in (s.requires.0, (param_literal s.args.d (bits s.args.b.now) s.args.p s.requires.1 (sym c.field.ensures ∙ c.in-2.is)).inner)
 
-pub skip_param-returns-then-k-eq2 : goal.skip_param-returns-then-k-eq2
-skip_param-returns-then-k-eq2 t c = let s = c in c.skip_literal.ensures ∙ (param_literal s.args.d (bits s.args.b.now) s.args.p s.requires.1 (sym c.field-k.ensures ∙ c.if-k-eq2.true)).ends
+pub skip_param-returns-in-2 : goal.skip_param-returns-in-2
+skip_param-returns-in-2 t c = let s = c in c.skip_literal.ensures ∙ (param_literal s.args.d (bits s.args.b.now) s.args.p s.requires.1 (sym c.field.ensures ∙ c.in-2.is)).ends
 
 pub skip_param-overflow_sub-d : goal.skip_param-overflow_sub-d
 skip_param-overflow_sub-d t c = let s = c in omega (arith, param_deep s.args.d (bits s.args.b.now) s.args.p s.requires.1)
 
 pub skip_param-skip_call-requires : goal.skip_param-skip_call-requires
-skip_param-skip_call-requires t c = let s = c in (omega (arith, param_deep s.args.d (bits s.args.b.now) s.args.p s.requires.1), (s.requires.0, (param_call s.args.d (bits s.args.b.now) s.args.p s.requires.1 (param_last s.args.d (bits s.args.b.now) s.args.p s.requires.1 (λ e. c.if-k-eq0.false (c.field-k.ensures ∙ e)) (λ e. c.if-k-eq1.false (c.field-k.ensures ∙ e)) (λ e. c.if-k-eq2.false (c.field-k.ensures ∙ e)))).inner))
+skip_param-skip_call-requires t c = let s = c in (omega (arith, param_deep s.args.d (bits s.args.b.now) s.args.p s.requires.1), (s.requires.0, (param_call s.args.d (bits s.args.b.now) s.args.p s.requires.1 (param_last s.args.d (bits s.args.b.now) s.args.p s.requires.1 (λ e. omega (arith, c.field.ensures)) (λ e. omega (arith, c.field.ensures)) (λ e. omega (arith, c.field.ensures)))).inner))
 
-pub skip_param-returns : goal.skip_param-returns
-skip_param-returns t c = let s = c in c.skip_call.ensures ∙ (param_call s.args.d (bits s.args.b.now) s.args.p s.requires.1 (param_last s.args.d (bits s.args.b.now) s.args.p s.requires.1 (λ e. c.if-k-eq0.false (c.field-k.ensures ∙ e)) (λ e. c.if-k-eq1.false (c.field-k.ensures ∙ e)) (λ e. c.if-k-eq2.false (c.field-k.ensures ∙ e)))).ends
+pub skip_param-returns-in_default : goal.skip_param-returns-in_default
+skip_param-returns-in_default t c = let s = c in c.skip_call.ensures ∙ (param_call s.args.d (bits s.args.b.now) s.args.p s.requires.1 (param_last s.args.d (bits s.args.b.now) s.args.p s.requires.1 (λ e. omega (arith, c.field.ensures)) (λ e. omega (arith, c.field.ensures)) (λ e. omega (arith, c.field.ensures)))).ends
 
 pub skip_params-overflow_add-cur : goal.skip_params-overflow_add-cur
 skip_params-overflow_add-cur t c = let s = c in omega (arith, (counted_holds 4 (param s.args.d) (bits s.args.b.now) s.args.p s.requires.1).fits, bits_size s.args.b.now)
 
-pub skip_params-loop-i-init : goal.skip_params-loop-i-init
-skip_params-loop-i-init t c = let s = c in counted_start (param s.args.d) (bits s.args.b.now) 4 s.args.p s.requires.1 _ c.field-n.ensures
+pub skip_params-loop-init : goal.skip_params-loop-init
+skip_params-loop-init t c = let s = c in counted_start (param s.args.d) (bits s.args.b.now) 4 s.args.p s.requires.1 _ c.field-n.ensures
 
 pub skip_params-skip_param-cur-requires : goal.skip_params-skip_param-cur-requires
-skip_params-skip_param-cur-requires t c = let s = c in (omega arith, (s.requires.0, passed_first (param s.args.d) (bits s.args.b.now) _ _ _ _ c.loop-i.invariant (omega arith)))
+skip_params-skip_param-cur-requires t c = let s = c in (omega arith, (s.requires.0, passed_first (param s.args.d) (bits s.args.b.now) _ _ _ _ c.loop.invariant (omega arith)))
 
-pub skip_params-loop-i-preserved : goal.skip_params-loop-i-preserved
-skip_params-loop-i-preserved t c = let s = c in passed_again (param s.args.d) (bits s.args.b.now) _ _ _ _ c.loop-i.invariant (omega arith) _ c.skip_param-cur.ensures
+pub skip_params-loop-preserved : goal.skip_params-loop-preserved
+skip_params-loop-preserved t c = let s = c in passed_again (param s.args.d) (bits s.args.b.now) _ _ _ _ c.loop.invariant (omega arith) _ c.skip_param-cur.ensures
 
 pub skip_params-returns : goal.skip_params-returns
-skip_params-returns t c = let s = c in passed_end (param s.args.d) (bits s.args.b.now) _ _ _ _ c.loop-i.invariant (omega arith)
+skip_params-returns t c = let s = c in passed_end (param s.args.d) (bits s.args.b.now) _ _ _ _ c.loop.invariant (omega arith)

@@ -4,7 +4,6 @@ use Rattle.parts.specs.HoldsLaws.{counted_holds}
 use Rattle.rules.specs.BundleLaws.{bits_size}
 use Rattle.rules.specs.Bundle.{param}
 use Rattle.rules.specs.Bits.{bits}
-use borrow.Author.Rules.{rules}
 use Rattle.calls.proofs.call_behind.Goals as goal
 
 pub overflow_add-result : goal.overflow_add-result

@@ -4,7 +4,6 @@ use Rattle.calls.specs.Shorts.{short_ends, only_path, only_fits}
 use Rattle.rules.specs.BundleLaws.{bits_size, bits_binary}
 use Rattle.rules.specs.Bits.{bits}
 use Rattle.rules.specs.Picks.{picks}
-use borrow.Author.Rules.{rules}
 use Rattle.calls.proofs.short_at.Goals.{then-y-eq5+else-field-eq0, else-y-eq5}
 use Rattle.calls.proofs.short_at.Goals as goal
 

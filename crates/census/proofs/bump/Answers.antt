@@ -1,7 +1,6 @@
 use native.Mathlib.Omega.{arith}
 use borrow.Author.Tests.{eq-eqb, ne_eqb, le-leb, lt-leb}
 use Rattle.census.specs.Count.{bump}
-use borrow.Author.Rules.{rules}
 use Rattle.census.proofs.bump.Goals as goal
 
 pub returns-then-k-kind : goal.returns-then-k-kind

@@ -5,7 +5,6 @@ use Rattle.bits.specs.Packed.{bytes_at}
 use Rattle.layout.specs.Text.{text_at}
 use Rattle.rules.specs.Bits.{bits}
 use Rattle.rules.specs.Bytes.{same}
-use borrow.Author.Rules.{rules}
 use mathlib.Core.Path.{◌∙◌, ap}
 use native.Mathlib.Omega.{arith}
 use Rattle.layout.proofs.same_text.Goals as goal

@@ -2,7 +2,6 @@ use mathlib.Core.Path.{ap, sym, ◌∙◌}
 use Prim.Native.Nat.{◌+◌}
 use Rattle.parts.specs.Views.{maybe_of}
 use Rattle.parts.specs.Parts.{one_more}
-use borrow.Author.Rules.{rules}
 use Rattle.parts.proofs.maybe_at.Goals as goal
 
 pub returns-then-field-eq0 : goal.returns-then-field-eq0

@@ -4,7 +4,6 @@ use Rattle.parts.specs.Views.{path_relative_view, path_local_view}
 use Rattle.parts.specs.Parts.{path_raw, path_fits, kind_relative, kind_local}
 use Rattle.rules.specs.BundleLaws.{bits_size, bits_binary}
 use Rattle.rules.specs.Bits.{bits}
-use borrow.Author.Rules.{rules}
 use Rattle.parts.proofs.path_at.Goals as goal
 
 pub skip_string-q-requires : goal.skip_string-q-requires

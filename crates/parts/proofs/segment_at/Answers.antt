@@ -6,7 +6,6 @@ use Rattle.parts.specs.Views.{segment_of}
 use Rattle.parts.specs.Parts.{seg_fits, kind_named, kind_root, kind_up, named_end}
 use Rattle.rules.specs.BundleLaws.{bits_size, bits_binary}
 use Rattle.rules.specs.Bits.{bits}
-use borrow.Author.Rules.{rules}
 use Rattle.parts.proofs.segment_at.Goals as goal
 
 pub overflow_add-q : goal.overflow_add-q

@@ -3,7 +3,6 @@ use mathlib.Core.Path.{sym, ◌∙◌}
 use Rattle.parts.specs.Parts.{indent_fits, indent_none, indent_some, indent_there}
 use Rattle.rules.specs.BundleLaws.{bits_size}
 use Rattle.rules.specs.Bits.{bits}
-use borrow.Author.Rules.{rules}
 use Rattle.parts.proofs.skip_indent.Goals as goal
 
 pub overflow_add-q : goal.overflow_add-q

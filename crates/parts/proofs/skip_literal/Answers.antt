@@ -3,7 +3,6 @@ use mathlib.Core.Path.{◌∙◌}
 use Rattle.parts.specs.Parts.{literal_fits, literal_bare, literal_number, literal_string, literal_text}
 use Rattle.rules.specs.BundleLaws.{bits_size}
 use Rattle.rules.specs.Bits.{bits}
-use borrow.Author.Rules.{rules}
 use Rattle.parts.proofs.skip_literal.Goals as goal
 
 pub overflow_add-q : goal.overflow_add-q

@@ -3,7 +3,6 @@ use mathlib.Core.Path.{◌∙◌}
 use Rattle.parts.specs.Parts.{path_raw, path_fits, skip_none, skip_one, skip_row, skip_name}
 use Rattle.rules.specs.BundleLaws.{bits_size, bits_binary}
 use Rattle.rules.specs.Bits.{bits}
-use borrow.Author.Rules.{rules}
 use Rattle.parts.proofs.skip_path.Goals as goal
 
 pub skip_string-q-requires : goal.skip_string-q-requires

@@ -2,7 +2,6 @@ use native.Mathlib.Omega.{arith}
 use Rattle.parts.specs.Parts.{seg_fits, named_end, unnamed_end}
 use Rattle.rules.specs.BundleLaws.{bits_size, bits_binary}
 use Rattle.rules.specs.Bits.{bits}
-use borrow.Author.Rules.{rules}
 use Rattle.parts.proofs.skip_segment.Goals as goal
 
 pub overflow_add-q : goal.overflow_add-q

@@ -2,7 +2,6 @@ use native.Mathlib.Omega.{arith}
 use Rattle.parts.specs.HoldsLaws.{string_end, string_in}
 use Rattle.rules.specs.BundleLaws.{bits_size}
 use Rattle.rules.specs.Bits.{bits}
-use borrow.Author.Rules.{rules}
 use Rattle.parts.proofs.skip_string.Goals as goal
 
 pub overflow_add-result : goal.overflow_add-result

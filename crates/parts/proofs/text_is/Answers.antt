@@ -6,7 +6,6 @@ use Rattle.rules.specs.LayoutLaws.{field_lt}
 use Rattle.rules.specs.BundleLaws.{bits_binary}
 use Rattle.rules.specs.Bytes.{same}
 use Rattle.rules.specs.Bits.{bits}
-use borrow.Author.Rules.{rules}
 use Rattle.parts.proofs.text_is.Goals as goal
 
 pub same_bytes-requires : goal.same_bytes-requires

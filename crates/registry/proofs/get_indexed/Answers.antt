@@ -1,4 +1,4 @@
-use Rattle.registry.specs.Index.{Looking, look_start, look_on, look_here, look_end, indexed_place, indexed_name}
+use Rattle.registry.specs.Index.{look_start, look_on, look_here, look_end, indexed_place, indexed_name}
 use Rattle.parts.specs.HoldsLaws.{string_in}
 use Rattle.parts.specs.Holds.{end}
 use Rattle.layout.specs.Text.{text_at}
@@ -6,10 +6,9 @@ use Rattle.rules.specs.BundleLaws.{bits_size}
 use Rattle.rules.specs.Bundle.{string}
 use Rattle.rules.specs.Bytes.{same}
 use Rattle.rules.specs.Bits.{bits}
-use Prim.Native.Nat.{ℕ, ◌-◌}
+use Prim.Native.Nat.{ℕ}
 use mathlib.Core.Path.{ap, ◌∙◌}
 use native.Mathlib.Omega.{arith}
-use borrow.Author.Rules.{rules}
 use Rattle.registry.proofs.get_indexed.Goals as goal
 
 pub loop-i-init : goal.loop-i-init

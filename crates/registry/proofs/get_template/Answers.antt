@@ -2,13 +2,10 @@ use Rattle.registry.specs.Templates.{search_fits}
 use Rattle.rules.specs.BundleLaws.{bits_size}
 use native.Mathlib.Omega.{arith}
 use mathlib.Core.Path.{sym}
-use Prim.Native.Nat.{◌-◌}
-use Rattle.registry.specs.Templates.{templates_at, found_view, Searching, search_start, search_template, search_here, search_on, search_end}
+use Rattle.registry.specs.Templates.{search_start, search_template, search_here, search_on, search_end}
 use Rattle.parts.specs.HoldsLaws.{moved}
-use Rattle.parts.specs.Holds.{end}
-use Rattle.rules.specs.Bundle.{body, templates, find_template}
+use Rattle.rules.specs.Bundle.{body}
 use Rattle.rules.specs.Bits.{bits}
-use borrow.Author.Rules.{rules}
 use Rattle.registry.proofs.get_template.Goals as goal
 
 pub loop-i-init : goal.loop-i-init

@@ -5,7 +5,6 @@ use lib.ListN.{get_or}
 use Prim.Native.Nat.{ℕ}
 use mathlib.Core.Path.{ap}
 use native.Mathlib.Omega.{arith}
-use borrow.Author.Rules.{rules}
 use Rattle.registry.proofs.indexed_at.Goals as goal
 
 pub overflow_cast-p : goal.overflow_cast-p

@@ -1,42 +1,40 @@
 use native.Mathlib.Omega.{arith}
 use mathlib.Core.Path.{sym, ◌∙◌}
-use Prim.Native.Nat.{ℕ, ◌+◌, ◌-◌, ◌*◌, ◌<◌}
+use Prim.Native.Nat.{◌+◌, ◌-◌}
 use Rattle.template.proofs.Places.{block_named, block_template, block_inverse, block_fits, block_ends}
 use Rattle.template.proofs.Places.{text_here, call_here, written_skip, helper_at, helper_end, bodiless_here, bodied_here, bodied_behind, tail_skip}
 use Rattle.template.specs.Bodies.{body_deep, body_fits, body_start, placed_fits, placed_holds, placed_next}
 use Rattle.template.specs.Content.{tail_indent, maybe_fits, maybe_none, maybe_some, maybe_there, element_fits}
 use Rattle.template.specs.Views.{in_body}
-use Rattle.parts.specs.HoldsLaws.{Passed, passed_first, passed_again, passed_end}
-use Rattle.parts.specs.Holds.{end}
+use Rattle.parts.specs.HoldsLaws.{passed_first, passed_again, passed_end}
 use Rattle.rules.specs.BundleLaws.{bits_size}
 use Rattle.rules.specs.Bundle.{body, call_of, param}
 use Rattle.rules.specs.Bits.{bits}
-use borrow.Author.Rules.{rules}
 use Rattle.template.proofs.+skipping.Goals as goal
 
 pub skip_body-overflow_add-cur : goal.skip_body-overflow_add-cur
 skip_body-overflow_add-cur t c = let s = c in omega (arith, body_fits s.args.w s.args.d (bits s.args.b.now) s.args.p s.requires.1, bits_size s.args.b.now)
 
-pub skip_body-loop-i-init : goal.skip_body-loop-i-init
-skip_body-loop-i-init t c = let s = c in body_start s.args.w s.args.d (bits s.args.b.now) s.args.p s.requires.1 _ c.field-n.ensures
+pub skip_body-loop-init : goal.skip_body-loop-init
+skip_body-loop-init t c = let s = c in body_start s.args.w s.args.d (bits s.args.b.now) s.args.p s.requires.1 _ c.field-n.ensures
 
-pub skip_body-overflow_add-cur-in-loop-i : goal.skip_body-overflow_add-cur-in-loop-i
-skip_body-overflow_add-cur-in-loop-i t c = let s = c in omega (arith, placed_fits s.args.w (call_of (param (s.args.d - 1))) (body s.args.w (s.args.d - 1)) (bits s.args.b.now) _ (passed_first (in_body s.args.w (s.args.d - 1)) (bits s.args.b.now) _ _ _ _ c.loop-i.invariant (omega arith)), bits_size s.args.b.now)
+pub skip_body-overflow_add-cur-in-loop : goal.skip_body-overflow_add-cur-in-loop
+skip_body-overflow_add-cur-in-loop t c = let s = c in omega (arith, placed_fits s.args.w (call_of (param (s.args.d - 1))) (body s.args.w (s.args.d - 1)) (bits s.args.b.now) _ (passed_first (in_body s.args.w (s.args.d - 1)) (bits s.args.b.now) _ _ _ _ c.loop.invariant (omega arith)), bits_size s.args.b.now)
 
-pub skip_body-overflow_add-cur-in-loop-i-2 : goal.skip_body-overflow_add-cur-in-loop-i-2
-skip_body-overflow_add-cur-in-loop-i-2 t c = let s = c in omega (arith, placed_fits s.args.w (call_of (param (s.args.d - 1))) (body s.args.w (s.args.d - 1)) (bits s.args.b.now) _ (passed_first (in_body s.args.w (s.args.d - 1)) (bits s.args.b.now) _ _ _ _ c.loop-i.invariant (omega arith)), bits_size s.args.b.now)
+pub skip_body-overflow_add-cur-in-loop-2 : goal.skip_body-overflow_add-cur-in-loop-2
+skip_body-overflow_add-cur-in-loop-2 t c = let s = c in omega (arith, placed_fits s.args.w (call_of (param (s.args.d - 1))) (body s.args.w (s.args.d - 1)) (bits s.args.b.now) _ (passed_first (in_body s.args.w (s.args.d - 1)) (bits s.args.b.now) _ _ _ _ c.loop.invariant (omega arith)), bits_size s.args.b.now)
 
 pub skip_body-overflow_sub-d : goal.skip_body-overflow_sub-d
 skip_body-overflow_sub-d t c = let s = c in omega (arith, body_deep s.args.w s.args.d (bits s.args.b.now) s.args.p s.requires.1)
 
 pub skip_body-skip_content-cur-requires : goal.skip_body-skip_content-cur-requires
-skip_body-skip_content-cur-requires t c = let s = c in (omega (arith, body_deep s.args.w s.args.d (bits s.args.b.now) s.args.p s.requires.1), (s.requires.0, placed_holds s.args.w (call_of (param (s.args.d - 1))) (body s.args.w (s.args.d - 1)) (bits s.args.b.now) _ (passed_first (in_body s.args.w (s.args.d - 1)) (bits s.args.b.now) _ _ _ _ c.loop-i.invariant (omega arith))))
+skip_body-skip_content-cur-requires t c = let s = c in (omega (arith, body_deep s.args.w s.args.d (bits s.args.b.now) s.args.p s.requires.1), (s.requires.0, placed_holds s.args.w (call_of (param (s.args.d - 1))) (body s.args.w (s.args.d - 1)) (bits s.args.b.now) _ (passed_first (in_body s.args.w (s.args.d - 1)) (bits s.args.b.now) _ _ _ _ c.loop.invariant (omega arith))))
 
-pub skip_body-loop-i-preserved : goal.skip_body-loop-i-preserved
-skip_body-loop-i-preserved t c = let s = c in passed_again (in_body s.args.w (s.args.d - 1)) (bits s.args.b.now) _ _ _ _ c.loop-i.invariant (omega arith) _ (placed_next s.args.w (call_of (param (s.args.d - 1))) (body s.args.w (s.args.d - 1)) (bits s.args.b.now) _ (passed_first (in_body s.args.w (s.args.d - 1)) (bits s.args.b.now) _ _ _ _ c.loop-i.invariant (omega arith)) _ c.skip_content-cur.ensures)
+pub skip_body-loop-preserved : goal.skip_body-loop-preserved
+skip_body-loop-preserved t c = let s = c in passed_again (in_body s.args.w (s.args.d - 1)) (bits s.args.b.now) _ _ _ _ c.loop.invariant (omega arith) _ (placed_next s.args.w (call_of (param (s.args.d - 1))) (body s.args.w (s.args.d - 1)) (bits s.args.b.now) _ (passed_first (in_body s.args.w (s.args.d - 1)) (bits s.args.b.now) _ _ _ _ c.loop.invariant (omega arith)) _ c.skip_content-cur.ensures)
 
 pub skip_body-returns : goal.skip_body-returns
-skip_body-returns t c = let s = c in passed_end (in_body s.args.w (s.args.d - 1)) (bits s.args.b.now) _ _ _ _ c.loop-i.invariant (omega arith)
+skip_body-returns t c = let s = c in passed_end (in_body s.args.w (s.args.d - 1)) (bits s.args.b.now) _ _ _ _ c.loop.invariant (omega arith)
 
 pub skip_content-overflow_add-q : goal.skip_content-overflow_add-q
 skip_content-overflow_add-q t c = let s = c in omega (arith, element_fits s.args.w s.args.d (bits s.args.b.now) s.args.p s.requires.1, bits_size s.args.b.now)

@@ -4,7 +4,6 @@ use Rattle.template.proofs.Places.{block_call, block_named, block_template, bloc
 use Rattle.template.proofs.Places.{plain_body, plain_fits, none_fits, none_made, some_body, some_fits, some_last, some_made}
 use Rattle.rules.specs.BundleLaws.{bits_size, bits_binary}
 use Rattle.rules.specs.Bits.{bits}
-use borrow.Author.Rules.{rules}
 use Rattle.template.proofs.block_at.Goals as goal
 
 pub skip_with_path-names-requires : goal.skip_with_path-names-requires

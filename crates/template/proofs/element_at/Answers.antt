@@ -4,7 +4,6 @@ use Rattle.template.specs.Bodies.{placed_fits, placed_holds}
 use Rattle.rules.specs.BundleLaws.{bits_size}
 use Rattle.rules.specs.Bundle.{param, call_of, body}
 use Rattle.rules.specs.Bits.{bits}
-use borrow.Author.Rules.{rules}
 use Rattle.template.proofs.element_at.Goals as goal
 
 pub overflow_add-p : goal.overflow_add-p

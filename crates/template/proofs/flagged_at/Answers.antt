@@ -2,7 +2,6 @@ use native.Mathlib.Omega.{arith}
 use Rattle.template.proofs.Places.{flagged_call, flagged_fits, flagged_made}
 use Rattle.rules.specs.BundleLaws.{bits_size}
 use Rattle.rules.specs.Bits.{bits}
-use borrow.Author.Rules.{rules}
 use Rattle.template.proofs.flagged_at.Goals as goal
 
 pub skip_call-f-requires : goal.skip_call-f-requires

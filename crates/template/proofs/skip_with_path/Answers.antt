@@ -4,7 +4,6 @@ use Rattle.rules.specs.BundleLaws.{bits_size, bits_binary}
 use Rattle.rules.specs.Bits.{bits}
 use Rattle.calls.specs.Shorts.{short_ends}
 use Rattle.template.proofs.Skipping.{path_fits, path_here, path_behind}
-use borrow.Author.Rules.{rules}
 use Rattle.template.proofs.skip_with_path.Goals as goal
 
 pub overflow_add-q : goal.overflow_add-q

@@ -2,7 +2,6 @@ use native.Mathlib.Omega.{arith}
 use Rattle.template.proofs.Places.{plain_tail_fits, plain_tail_made, indented_fits, indented_string, indented_last, indented_made}
 use Rattle.rules.specs.BundleLaws.{bits_size, bits_binary}
 use Rattle.rules.specs.Bits.{bits}
-use borrow.Author.Rules.{rules}
 use Rattle.template.proofs.tail_at.Goals as goal
 
 pub overflow_add-result : goal.overflow_add-result

@@ -6,7 +6,6 @@ use Rattle.layout.proofs.Calls.{first_key, later_key}
 use Rattle.layout.specs.Text.{text_at}
 use Rattle.rules.specs.Bits.{bits}
 use Rattle.rules.specs.Bytes.{before}
-use borrow.Author.Rules.{rules}
 use mathlib.Core.Path.{◌∙◌, ap}
 use native.Mathlib.Omega.{arith}
 use Rattle.layout.proofs.call.may_follow.Goals as goal

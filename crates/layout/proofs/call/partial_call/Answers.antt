@@ -1,7 +1,6 @@
 use Rattle.layout.specs.Walk.{place_by}
 use Rattle.layout.proofs.Calls.{partial_named, partial_none, partial_other}
 use Rattle.rules.specs.Bits.{bits}
-use borrow.Author.Rules.{rules}
 use mathlib.Core.Path.{◌∙◌}
 use Rattle.layout.proofs.call.partial_call.Goals as goal
 

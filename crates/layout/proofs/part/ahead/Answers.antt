@@ -1,6 +1,5 @@
 use Rattle.layout.proofs.Parts.{ahead_none, ahead_far, ahead_near}
 use Rattle.rules.specs.Bits.{bits}
-use borrow.Author.Rules.{rules}
 use native.Mathlib.Omega.{arith}
 use Rattle.layout.proofs.part.ahead.Goals as goal
 

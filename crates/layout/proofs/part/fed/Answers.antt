@@ -1,6 +1,5 @@
 use Rattle.layout.specs.Ascii.{ascii_begun}
 use Rattle.utf8.specs.Machine.{wanted}
-use borrow.Author.Rules.{rules}
 use mathlib.Core.Path.{◌∙◌, sym}
 use native.Mathlib.Omega.{arith}
 use Rattle.layout.proofs.part.fed.Goals as goal

@@ -2,7 +2,6 @@ use Rattle.layout.proofs.Parts.{level_is}
 use Rattle.layout.specs.Walk.{place_by, after}
 use Rattle.rules.specs.Bits.{bits}
 use Rattle.rules.specs.Bundle.{string}
-use borrow.Author.Rules.{rules}
 use mathlib.Core.Path.{◌∙◌, ap}
 use Rattle.layout.proofs.part.level.Goals as goal
 

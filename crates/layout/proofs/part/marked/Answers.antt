@@ -1,5 +1,4 @@
 use Rattle.layout.proofs.Parts.{marked_is, marked_none}
-use borrow.Author.Rules.{rules}
 use native.Mathlib.Omega.{arith}
 use Rattle.layout.proofs.part.marked.Goals as goal
 

@@ -1,12 +1,8 @@
-use Prim.Native.Nat.{◌-◌, ◌≤◌}
-use Rattle.bits.specs.Packed.{bytes_at}
-use Rattle.layout.proofs.Parts.{Follows, utf8_again, utf8_end, utf8_start}
+use Rattle.layout.proofs.Parts.{utf8_again, utf8_end, utf8_start}
 use Rattle.rules.specs.Bits.{bits}
 use Rattle.rules.specs.BundleLaws.{bits_binary}
-use Rattle.rules.specs.Utf8.{utf8}
 use Rattle.utf8.specs.Machine.{wanted}
-use borrow.Author.Rules.{rules}
-use mathlib.Core.Path.{◌∙◌, ◌≡◌}
+use mathlib.Core.Path.{◌∙◌}
 use native.Mathlib.Omega.{arith}
 use Rattle.layout.proofs.part.mixed_at.Goals as goal
 
@@ -17,7 +13,7 @@ loop-i-init c = let a = c.args in
 pub loop-i-preserved : goal.loop-i-preserved
 loop-i-preserved c = let a = c.args in
     let l = c.loop-i in
-    let k = c.least-k.result in
+    let k = c.min-k.result in
     (omega arith, utf8_again (bits a.b.now) a.at a.n l.i (wanted l.u) (bits_binary a.b.now) k _ _ (omega arith) c.field.ensures c.fed-u.ensures ∙ l.invariant.1)
 
 pub returns : goal.returns

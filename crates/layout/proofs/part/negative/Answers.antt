@@ -1,7 +1,6 @@
 use Rattle.layout.specs.Walk.{place_by}
 use Rattle.layout.proofs.Parts.{negative_is, negative_not}
 use Rattle.rules.specs.Bits.{bits}
-use borrow.Author.Rules.{rules}
 use mathlib.Core.Path.{◌∙◌}
 use Rattle.layout.proofs.part.negative.Goals as goal
 

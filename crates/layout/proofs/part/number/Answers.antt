@@ -1,6 +1,5 @@
 use Rattle.layout.proofs.Parts.{number_is, number_none}
 use Rattle.rules.specs.Bits.{bits}
-use borrow.Author.Rules.{rules}
 use native.Mathlib.Omega.{arith}
 use Rattle.layout.proofs.part.number.Goals as goal
 

@@ -3,7 +3,6 @@ use Rattle.layout.specs.Walk.{place_by, ahead}
 use Rattle.layout.specs.WalkLaws.{ahead_in, number_small, place_none, place_some}
 use Rattle.rules.specs.Bits.{bits}
 use Rattle.rules.specs.BundleLaws.{bits_size}
-use borrow.Author.Rules.{rules}
 use mathlib.Core.Path.{◌∙◌, sym, ap}
 use native.Mathlib.Omega.{arith}
 use Prim.Native.Nat.{◌*◌}

@@ -1,15 +1,10 @@
 use Prim.Native.Nat.{◌-◌, ◌≤◌}
 use Rattle.bits.specs.Packed.{bytes_at}
-use Rattle.layout.proofs.Parts.{Follows, utf8_again, utf8_end, utf8_start}
-use Rattle.layout.specs.Ascii.{ascii_passed}
+use Rattle.layout.proofs.Parts.{Follows}
 use Rattle.rules.specs.Bits.{bits}
-use Rattle.rules.specs.BundleLaws.{bits_binary}
 use Rattle.rules.specs.Utf8.{utf8}
 use Rattle.utf8.specs.Machine.{begun}
-use borrow.Author.Rules.{rules}
-use borrow.Author.Tests.{not-false}
-use mathlib.Core.Path.{◌∙◌, ◌≡◌, refl, sym}
-use native.Mathlib.Omega.{arith}
+use mathlib.Core.Path.{◌≡◌}
 use Rattle.layout.proofs.part.utf8_at.Given as goal
 
 abbrev pub invariant-loop-i : goal.invariant-loop-i
