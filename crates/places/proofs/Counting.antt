@@ -75,45 +75,42 @@ new_more s w (x ∷ l) (suc j) c r h =
     go true false n = refl
     go false b n = refl
 
--- the name w is looked for among the first n, of which `left` from c on are to be passed
-pub record Meeting (s : Bytes) (i : ℕ) (w : Bytes) (n c left : ℕ) : Type 0 where
-  pub number : ℕ
-  pub walk : Walk s i number c
-  pub sum : number + left ≡ n
-  pub is : one_if_new s w (take n (children s i)) ≡ one_if_new s w (take left (drop number (children s i)))
+-- the name w is looked for among the first n, of which `met` up to c were passed
+pub record Meeting (s : Bytes) (i : ℕ) (w : Bytes) (n c met : ℕ) : Type 0 where
+  pub walk : Walk s i met c
+  pub is : one_if_new s w (take n (children s i)) ≡ one_if_new s w (take (n - met) (drop met (children s i)))
 
-pub meet_start : (s : Bytes) (i : ℕ) → answer s ≡ 0 → i < places s → (w : Bytes) (n : ℕ) → Meeting s i w n (i + 1) n
-meet_start s i h lt w n = record { number = 0; walk = walk_start s i h lt; sum = omega arith; is = refl }
+pub meet_start : (s : Bytes) (i : ℕ) → answer s ≡ 0 → i < places s → (w : Bytes) (n : ℕ) → Meeting s i w n (i + 1) 0
+meet_start s i h lt w n = record { walk = walk_start s i h lt; is = ap (λ (m : ℕ). one_if_new s w (take m (children s i))) (omega arith) }
 
-module _ (s : Bytes) (i : ℕ) (w : Bytes) (n c left : ℕ) (q : Meeting s i w n c left) where
-  pub meet_end : left ≤ 0 → 1 ≡ one_if_new s w (take n (children s i))
-  meet_end le = let z : left ≡ 0 = omega arith in sym (q.is ∙ ap (λ (m : ℕ). one_if_new s w (take m (drop q.number (children s i)))) z)
+module _ (s : Bytes) (i : ℕ) (w : Bytes) (n c met : ℕ) (q : Meeting s i w n c met) where
+  pub meet_end : n ≤ met → 1 ≡ one_if_new s w (take n (children s i))
+  meet_end le = let z : n - met ≡ 0 = omega arith in sym (q.is ∙ ap (λ (m : ℕ). one_if_new s w (take m (drop met (children s i)))) z)
 
-  module _ (some : 0 < left) (le : n ≤ length (children s i)) where
+  module _ (some : met < n) (le : n ≤ length (children s i)) where
     pub meet_in : c < end_at s i
     meet_in = go (ltb c (end_at s i)) refl
       where
         go : (b : Bool) → ltb c (end_at s i) ≡ b → c < end_at s i
         go true e = ltb-true c (end_at s i) e
         go false e =
-            let z = ap length (walk_end s i q.number c q.walk (ltb-false c (end_at s i) e)) in
-            absurd (omega (arith, q.sum, length-drop q.number (children s i)))
+            let z = ap length (walk_end s i met c q.walk (ltb-false c (end_at s i) e)) in
+            absurd (omega (arith, length-drop met (children s i)))
 
-    here : one_if_new s w (take n (children s i)) ≡ pick (same (name_at s c) w) 0 (one_if_new s w (take (left - 1) (drop (suc q.number) (children s i))))
+    here : one_if_new s w (take n (children s i)) ≡ pick (same (name_at s c) w) 0 (one_if_new s w (take (n - (met + 1)) (drop (met + 1) (children s i))))
     here =
-        let z : left ≡ suc (left - 1) = omega arith in
-        q.is ∙ ap (λ (m : ℕ). one_if_new s w (take m (drop q.number (children s i)))) z
-        ∙ ap (λ (l : List ℕ). one_if_new s w (take (suc (left - 1)) l)) (walk_child s i q.number c q.walk meet_in).others
+        let z : n - met ≡ suc (n - (met + 1)) = omega arith in
+        q.is ∙ ap (λ (m : ℕ). one_if_new s w (take m (drop met (children s i)))) z
+        ∙ ap (λ (l : List ℕ). one_if_new s w (take (suc (n - (met + 1))) l)) (walk_child s i met c q.walk meet_in).others
+        ∙ ap (λ (k : ℕ). pick (same (name_at s c) w) 0 (one_if_new s w (take (n - (met + 1)) (drop k (children s i))))) (sym (add-one met))
 
     pub meet_found : true ≡ same (name_at s c) w → 0 ≡ one_if_new s w (take n (children s i))
-    meet_found e = sym (here ∙ ap (λ (b : Bool). pick b 0 (one_if_new s w (take (left - 1) (drop (suc q.number) (children s i))))) (sym e))
+    meet_found e = sym (here ∙ ap (λ (b : Bool). pick b 0 (one_if_new s w (take (n - (met + 1)) (drop (met + 1) (children s i))))) (sym e))
 
-    pub meet_on : (d : ℕ) → d ≡ end_at s c → false ≡ same (name_at s c) w → Meeting s i w n d (left - 1)
+    pub meet_on : (d : ℕ) → d ≡ end_at s c → false ≡ same (name_at s c) w → Meeting s i w n d (met + 1)
     meet_on d f e = record {
-      number = suc q.number;
-      walk = subst (Walk s i (suc q.number)) (sym f) (walk_on s i q.number c q.walk meet_in);
-      sum = omega (arith, q.sum);
-      is = here ∙ ap (λ (b : Bool). pick b 0 (one_if_new s w (take (left - 1) (drop (suc q.number) (children s i))))) (sym e);
+      walk = subst (λ (k : ℕ). Walk s i k d) (sym (add-one met)) (subst (Walk s i (suc met)) (sym f) (walk_on s i met c q.walk meet_in));
+      is = here ∙ ap (λ (b : Bool). pick b 0 (one_if_new s w (take (n - (met + 1)) (drop (met + 1) (children s i))))) (sym e);
     }
 
 -- Of the first `met` members up to c there are n of different names

@@ -1,6 +1,5 @@
 -- The byte a of a string at p that stands for itself.
-use Prim.Native.Nat.{Ordering}
-use Prim.Native.Nat.{ℕ, ◌+◌, ◌≤◌, ◌<◌}
+use Prim.Native.Nat.{ℕ, ◌+◌, ◌<◌}
 use mathlib.Core.Bool.{true, not}
 use mathlib.Core.List.{◌∷◌}
 use mathlib.Core.Path.{◌≡◌, sym, ap, ap₂, ◌∙◌}
@@ -13,7 +12,9 @@ use Rattle.rules.specs.Order.{and_left, and_right, cmp}
 use Rattle.scan.proofs.Bounds.{in_text}
 use Rattle.saying.specs.Said.{remaining}
 use Rattle.saying.proofs.Remaining.{left_plain}
-use Rattle.saying.proofs.Comparing.{cmp_less, cmp_more, cmp_on}
+use Rattle.saying.proofs.Comparing.{cmp_differ, cmp_on}
+use Rattle.saying.specs.Compared.{ordering}
+use Rattle.std.specs.Ordering.{nat_cmp}
 use Rattle.places.proofs.Walking.{no_not}
 use Rattle.places.specs.Kinds.{is_plain}
 
@@ -35,11 +36,8 @@ module _ (s : Bytes) (p a : ℕ) (e : a ≡ byte_at s p) (h : is_plain a ≡ tru
   both : cmp (remaining s p 0) (remaining s q 0) ≡ cmp (a ∷ remaining s (p + 1) 0) (b ∷ remaining s (q + 1) 0)
   both = ap₂ cmp (plain_first s p a e h) (plain_first s q b f k)
 
-  pub plain_less : a < b → Ordering.lt ≡ cmp (remaining s p 0) (remaining s q 0)
-  plain_less lt = cmp_less a b (remaining s (p + 1) 0) (remaining s (q + 1) 0) lt ∙ sym both
+  pub plain_differ : (a ≡ b → ⊥) → ordering (nat_cmp a b) ≡ cmp (remaining s p 0) (remaining s q 0)
+  plain_differ ne = cmp_differ a b (remaining s (p + 1) 0) (remaining s (q + 1) 0) ne ∙ sym both
 
-  pub plain_more : b < a → Ordering.gt ≡ cmp (remaining s p 0) (remaining s q 0)
-  plain_more lt = cmp_more a b (remaining s (p + 1) 0) (remaining s (q + 1) 0) lt ∙ sym both
-
-  pub plain_on : b ≤ a → a ≤ b → cmp (remaining s p 0) (remaining s q 0) ≡ cmp (remaining s (p + 1) 0) (remaining s (q + 1) 0)
-  plain_on l m = both ∙ cmp_on a b (remaining s (p + 1) 0) (remaining s (q + 1) 0) l m
+  pub plain_on : a ≡ b → cmp (remaining s p 0) (remaining s q 0) ≡ cmp (remaining s (p + 1) 0) (remaining s (q + 1) 0)
+  plain_on h = both ∙ cmp_on a b (remaining s (p + 1) 0) (remaining s (q + 1) 0) h

@@ -1,4 +1,5 @@
 -- What the first byte of a value says of it.
+use Rattle.std.specs.Prelude.{Option as RustOption, Some, None}
 use Prim.Native.Nat.{ℕ, suc, ◌+◌, ◌≤◌, ◌<◌}
 use mathlib.Core.Bool.{Bool, true, false, ◌||◌}
 use mathlib.Core.Path.{◌≡◌, refl, sym, ap, ◌∙◌, subst}
@@ -13,8 +14,6 @@ use Rattle.rules.specs.Scan.{saying, magnitude, minus_end, whole_end, decimal_va
 use Rattle.rules.specs.Tree.{Tree, tree, Trees, tree_nil, tree_cons, is_open}
 use Rattle.rules.specs.Plan.{size, sizes, name_of, answer, scalar_at, meaning, meanings, members_onto}
 use Rattle.scan.specs.Sized.{sized}
-use Rattle.scan.specs.declared.Size.{Size}
-use Rattle.scan.specs.declared.Size.TheVariants.{Is, Large}
 use Rattle.places.specs.declared.Kind.{Kind}
 use Rattle.places.specs.Places.{start_of, inside, places, tree_at, json_at}
 use Rattle.places.specs.Kinds.{kind_of, kind_by, is_other, magnitude_of, is_empty}
@@ -97,19 +96,19 @@ module _ (s : Bytes) (i : ℕ) where
   magnitude_fits (jarr l) f = omega arith
   magnitude_fits (jobj m) f = omega arith
 
-  module _ (h : answer s ≡ 0) (lt : i < places s) (o : is_other first_byte ≡ false) (r : Size)
+  module _ (h : answer s ≡ 0) (lt : i < places s) (o : is_other first_byte ≡ false) (r : RustOption ℕ)
       (b d w : ℕ) (hb : b ≡ start_of (tree_at s i)) (hd : d ≡ minus_end s b) (hw : w ≡ whole_end s d) (e : r ≡ sized (decimal_value 0 (slice s d w))) where
     read : sized (decimal_value 0 (slice s d w)) ≡ sized (magnitude_of (json_at s i))
     unfolding magnitude
     read = rw (hw, hd, hb) (ap sized (is_number o))
 
-    sized_is : r ≡ Is (magnitude_of (json_at s i))
+    sized_is : r ≡ Some (magnitude_of (json_at s i))
     sized_is = e ∙ read ∙ rw (le-leb (magnitude_of (json_at s i)) 18446744073709551615 (magnitude_fits (json_at s i) (at_fits s h i lt)))
 
-    pub number_read : (n : ℕ) → r ≡ Is n → n ≡ magnitude_of (json_at s i)
+    pub number_read : (n : ℕ) → r ≡ Some n → n ≡ magnitude_of (json_at s i)
     number_read n f = let g = sized_is in cc
 
-    pub number_small : (n : ℕ) → r ≡ Large → n ≡ magnitude_of (json_at s i)
+    pub number_small : (n : ℕ) → r ≡ None → n ≡ magnitude_of (json_at s i)
     number_small n f = let g = sized_is in let z : ◌≡◌ {A = ℕ} 0 1 = cc in absurd (omega arith)
 
 -- What holds nothing

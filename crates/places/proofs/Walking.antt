@@ -1,4 +1,5 @@
 -- The loops through those directly inside a place.
+use Rattle.std.specs.Prelude.{Option as RustOption, Some, None}
 use Prim.Native.Nat.{ℕ, zero, suc, ◌+◌, ◌-◌, ◌≤◌, ◌<◌}
 use mathlib.Core.Bool.{Bool, true, false, ◌&&◌, not}
 use mathlib.Core.List.{List, [], ◌∷◌}
@@ -15,8 +16,6 @@ use Rattle.rules.specs.Plan.{size, name_of, answer}
 use Rattle.places.specs.Places.{Node, root, places, tree_at, name_at, children, last_onto, member, above, better, least_onto, next_member}
 use Rattle.places.specs.Nodes.{size_positive, some_places, root_node}
 use Rattle.places.specs.Children.{end_at, Walk, walk_start, walk_child, walk_on, walk_end, Child, child_walk}
-use Rattle.places.specs.declared.Found.{Found}
-use Rattle.places.specs.declared.Found.TheVariants.{At, Nothing}
 use Rattle.places.specs.Kinds.{found, numbered, found_name, FoundIn}
 
 pub none_at : {A : Type 0} (l : List A) (j k : ℕ) → drop j l ≡ [] → j ≤ k → none ≡ get_elem? l k
@@ -123,11 +122,11 @@ number_pick true (suc c) best r lt e = ap numbered e
 number_pick false c best r lt e = ap numbered e
 
 -- what was found is a place
-pub in_pick : (s : Bytes) (r old : Found) (t : Bool) (c : ℕ) → found r ≡ pick t (some c) (found old) → c < places s → FoundIn s old → FoundIn s r
-in_pick s Nothing old t c e lt h = tt
-in_pick s (At p) old true c e lt h = let z : p ≡ c = cc in rw z lt
-in_pick s (At p) (At q) false c e lt h = let z : p ≡ q = cc in rw z h
-in_pick s (At p) Nothing false c e lt h = let z : ◌≡◌ {A = ℕ} 0 1 = cc in absurd (omega arith)
+pub in_pick : (s : Bytes) (r old : RustOption ℕ) (t : Bool) (c : ℕ) → found r ≡ pick t (some c) (found old) → c < places s → FoundIn s old → FoundIn s r
+in_pick s None old t c e lt h = tt
+in_pick s (Some p) old true c e lt h = let z : p ≡ c = cc in rw z lt
+in_pick s (Some p) (Some q) false c e lt h = let z : p ≡ q = cc in rw z h
+in_pick s (Some p) None false c e lt h = let z : ◌≡◌ {A = ℕ} 0 1 = cc in absurd (omega arith)
 
 -- Up from a place: it stands from the child d of i on, inside i
 pub record Rising (s : Bytes) (c i d : ℕ) : Type 0 where
@@ -188,25 +187,25 @@ module _ (s : Bytes) (p c a b : ℕ) (r : Bool) (h : r ≡ before (saying s a) (
   unfolding name_at
   names_by = h ∙ ap (λ (x : ℕ). before (saying s x) (saying s b)) ha ∙ ap (λ (x : ℕ). before (saying s (name_of (tree_at s p))) (saying s x)) hb
 
-  pub above_by : (after : Found) → after ≡ At p → r ≡ above (found_name s after) (name_at s c)
-  above_by after e = names_by ∙ ap (λ (x : Found). above (found_name s x) (name_at s c)) (sym e)
+  pub above_by : (after : RustOption ℕ) → after ≡ Some p → r ≡ above (found_name s after) (name_at s c)
+  above_by after e = names_by ∙ ap (λ (x : RustOption ℕ). above (found_name s x) (name_at s c)) (sym e)
 
   -- the best one so far stays
-  pub not_better : (after : Option Bytes) (best : Found) → best ≡ At p → r ≡ true → false ≡ better s after (found best) c
+  pub not_better : (after : Option Bytes) (best : RustOption ℕ) → best ≡ Some p → r ≡ true → false ≡ better s after (found best) c
   not_better after best e u = rw (e, sym names_by ∙ u) (go (above after (name_at s c)))
     where
       go : (x : Bool) → false ≡ (x && false)
       go true = refl
       go false = refl
 
-  pub better_by : (after : Option Bytes) (best : Found) (t : Bool) → best ≡ At p → r ≡ false → t ≡ above after (name_at s c) → t ≡ better s after (found best) c
+  pub better_by : (after : Option Bytes) (best : RustOption ℕ) (t : Bool) → best ≡ Some p → r ≡ false → t ≡ above after (name_at s c) → t ≡ better s after (found best) c
   better_by after best t e u h = rw (e, sym names_by ∙ u) (h ∙ go (above after (name_at s c)))
     where
       go : (x : Bool) → x ≡ (x && true)
       go true = refl
       go false = refl
 
-pub alone_better : (s : Bytes) (after : Option Bytes) (best : Found) (c : ℕ) (t : Bool) → best ≡ Nothing → t ≡ above after (name_at s c) → t ≡ better s after (found best) c
+pub alone_better : (s : Bytes) (after : Option Bytes) (best : RustOption ℕ) (c : ℕ) (t : Bool) → best ≡ None → t ≡ above after (name_at s c) → t ≡ better s after (found best) c
 alone_better s after best c t e h = rw e h
 
 pub says_by : (s : Bytes) (c a : ℕ) (w : Bytes) (r : Bool) → r ≡ same (saying s a) w → a ≡ name_of (tree_at s c) → r ≡ same (name_at s c) w

@@ -1,17 +1,15 @@
 -- The kind of a value, and what code hands out, in terms of the rules' values.
-use Rattle.std.specs.Prelude.{ℕ, zero, suc, ◌<◌, Bool, true, false, ◌&&◌, ◌||◌, not, eqb, ltb, ◌≡◌, refl}
+use Rattle.std.specs.Prelude.{ℕ, zero, suc, ◌<◌, Bool, true, false, ◌&&◌, ◌||◌, not, eqb, ltb, ◌≡◌, refl, Option as RustOption, Some, None}
 use Rattle.std.proofs.Math.Option.{Option, none, some}
 use Rattle.rules.specs.Bytes.{Bytes, pick}
 use Rattle.rules.specs.Json.{Json, jnull, jbool, jpos, jneg, jstr, jarr, jobj, Jsons, jnil, Map, mnil, no_items, no_members}
-use Rattle.places.specs.declared.Found.{Found}
-use Rattle.places.specs.declared.Found.TheVariants.{At, Nothing}
 use Rattle.places.specs.declared.Kind.{Kind}
 use Rattle.places.specs.declared.Kind.TheVariants.{Null, False, True, Unsigned, Negative, Text, List, Object}
 use Rattle.places.specs.Places.{places, name_at}
 
-abbrev pub found : Found → Option ℕ
-found (At p) = some p
-found Nothing = none
+abbrev pub found : RustOption ℕ → Option ℕ
+found (Some p) = some p
+found None = none
 
 -- a member's place as a number: 0, the whole plan, is no member
 abbrev pub numbered : ℕ → Option ℕ
@@ -19,14 +17,14 @@ numbered zero = none
 numbered (suc n) = some (suc n)
 
 -- what was found is a place of the plan
-abbrev pub FoundIn : Bytes → Found → Type 0
-FoundIn s (At p) = p < places s
-FoundIn s Nothing = Unit {0}
+abbrev pub FoundIn : Bytes → RustOption ℕ → Type 0
+FoundIn s (Some p) = p < places s
+FoundIn s None = Unit {0}
 
 -- the name of the member that was found
-abbrev pub found_name : Bytes → Found → Option Bytes
-found_name s (At p) = some (name_at s p)
-found_name s Nothing = none
+abbrev pub found_name : Bytes → RustOption ℕ → Option Bytes
+found_name s (Some p) = some (name_at s p)
+found_name s None = none
 
 abbrev pub kind_of : Json → Kind
 kind_of jnull = Null

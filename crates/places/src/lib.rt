@@ -19,15 +19,10 @@ ghost use Rattle.places.specs.Kinds.{found, numbered, found_name, FoundIn, kind_
 ghost use Rattle.places.specs.Accepted.{Accepted};
 ghost use Rattle.places.specs.Children.{is_object, end_at, behind, around};
 
-use saying::{Name, Ordering};
+use saying::Name;
+use std::cmp::Ordering;
 
 // A place, or none.
-#[derive(Clone, Copy)]
-pub enum Found {
-    At(usize),
-    Nothing,
-}
-
 #[derive(Clone, Copy)]
 pub enum Kind {
     Null,
@@ -70,35 +65,24 @@ pub fn clear_table(s: &[u8], tab: &mut [u64])
     ensures { tab.new ≡ replicate (length tab.old) 0 }
 {
     let n = end(s, tab, 0);
-    clear::clear_u64(&mut tab[..n]);
+    clear::clear(&mut tab[..n], 0);
 }
 
 // What the first byte of a value says of its kind.
+#[tactic(auto, unfolding(crate::specs::Kinds::kind_by))]
 fn kind_by(c: u8) -> Kind
     ensures { result ≡ kind_by c }
 {
-    if c == 91 {
-        return Kind::List;
+    match c {
+        b'[' => Kind::List,
+        b'{' => Kind::Object,
+        b'"' => Kind::Text,
+        b't' => Kind::True,
+        b'f' => Kind::False,
+        b'n' => Kind::Null,
+        b'-' => Kind::Negative,
+        _ => Kind::Unsigned,
     }
-    if c == 123 {
-        return Kind::Object;
-    }
-    if c == 34 {
-        return Kind::Text;
-    }
-    if c == 116 {
-        return Kind::True;
-    }
-    if c == 102 {
-        return Kind::False;
-    }
-    if c == 110 {
-        return Kind::Null;
-    }
-    if c == 45 {
-        return Kind::Negative;
-    }
-    Kind::Unsigned
 }
 
 pub fn kind_of(s: &[u8], tab: &[u64], i: usize) -> Kind
@@ -126,30 +110,30 @@ pub fn empty(s: &[u8], tab: &[u64], i: usize) -> bool
 }
 
 // The first value inside the one at i.
-pub fn first(s: &[u8], tab: &[u64], i: usize) -> Found
+pub fn first(s: &[u8], tab: &[u64], i: usize) -> Option<usize>
     requires { Accepted s.now tab.now × (i < places s.now) }
     ensures { found result ≡ get_elem? (children s.now i) 0 }
 {
     if i + 1 < end(s, tab, i) {
-        return Found::At(i + 1);
+        return Some(i + 1);
     }
-    Found::Nothing
+    None
 }
 
 // The value behind the one at c; where that one stands directly inside the one at i, the next one there.
-pub fn next(s: &[u8], tab: &[u64], i: usize, c: usize) -> Found
+pub fn next(s: &[u8], tab: &[u64], i: usize, c: usize) -> Option<usize>
     requires { Accepted s.now tab.now × (i < places s.now) × (c < places s.now) }
     ensures { ((j : ℕ) → get_elem? (children s.now i) j ≡ some c → found result ≡ get_elem? (children s.now i) (suc j)) × (found result ≡ behind s.now i c) }
 {
     let n = end(s, tab, c);
     if n < end(s, tab, i) {
-        return Found::At(n);
+        return Some(n);
     }
-    Found::Nothing
+    None
 }
 
 // The value k directly inside the one at i.
-pub fn nth(s: &[u8], tab: &[u64], i: usize, k: usize) -> Found
+pub fn nth(s: &[u8], tab: &[u64], i: usize, k: usize) -> Option<usize>
     requires { Accepted s.now tab.now × (i < places s.now) }
     ensures { found result ≡ get_elem? (children s.now i) k }
 {
@@ -158,12 +142,12 @@ pub fn nth(s: &[u8], tab: &[u64], i: usize, k: usize) -> Found
     let mut left = k;
     while c < e {
         if left == 0 {
-            return Found::At(c);
+            return Some(c);
         }
         c = end(s, tab, c);
         left -= 1;
     }
-    Found::Nothing
+    None
 }
 
 // How many values stand directly inside the one at i: of a list its length.
@@ -182,23 +166,23 @@ pub fn len(s: &[u8], tab: &[u64], i: usize) -> usize
 }
 
 // The place p, or another one.
-fn or(take: bool, p: usize, other: Found) -> Found
+fn or(take: bool, p: usize, other: Option<usize>) -> Option<usize>
     ensures { found result ≡ pick take (some p) (found other) }
 {
     if take {
-        return Found::At(p);
+        return Some(p);
     }
     other
 }
 
 // The member of that name of the object at i: of equal names the last one.
-pub fn member(s: &[u8], tab: &[u64], i: usize, w: &[u8], named: Name) -> Found
+pub fn member(s: &[u8], tab: &[u64], i: usize, w: &[u8], named: Name) -> Option<usize>
     requires { Accepted s.now tab.now × (i < places s.now) × NameFits named }
     ensures { found result ≡ member s.now i (name_bytes s.now w.now named) }
 {
     let e = end(s, tab, i);
     let mut c = i + 1;
-    let mut best = Found::Nothing;
+    let mut best = None;
     while c < e {
         let n = name(s, tab, c);
         best = or(saying::says(s, n, w, named), c, best);
@@ -256,14 +240,14 @@ pub fn member_number(s: &[u8], tab: &[u64], i: usize, w: &[u8], p: usize, m: usi
     best
 }
 
-pub fn member_packed(s: &[u8], tab: &[u64], i: usize, w: &[u8], p: usize, m: usize) -> Found
+pub fn member_packed(s: &[u8], tab: &[u64], i: usize, w: &[u8], p: usize, m: usize) -> Option<usize>
     requires { Accepted s.now tab.now × (i < places s.now) × (p + 8 * m < 18446744073709551616) }
     ensures { found result ≡ member s.now i (bytes_at (bits w.now) p m) }
 {
     let head = bits::field(w, p, 56);
     let e = end(s, tab, i);
     let mut c = i + 1;
-    let mut best = Found::Nothing;
+    let mut best = None;
     while c < e {
         let n = name(s, tab, c);
         best = or(saying::says_headed(s, n, w, p, m, head), c, best);
@@ -292,11 +276,8 @@ fn order(s: &[u8], i: usize, j: usize) -> Ordering
         if !(is_plain(a) & is_plain(b)) {
             return saying::compare(s, i, j);
         }
-        if a < b {
-            return Ordering::Less;
-        }
-        if b < a {
-            return Ordering::Greater;
+        if a != b {
+            return a.cmp(&b);
         }
         p += 1;
         q += 1;
@@ -311,11 +292,7 @@ fn is_before(s: &[u8], i: usize, j: usize) -> bool
     if i == j {
         return false;
     }
-    match order(s, i, j) {
-        Ordering::Less => true,
-        Ordering::Equal => false,
-        Ordering::Greater => false,
-    }
+    order(s, i, j).is_lt()
 }
 
 // Whether the strings at i and j say the same.
@@ -323,30 +300,26 @@ fn is_same(s: &[u8], i: usize, j: usize) -> bool
     requires { (length s.now ≤ 65536) × (i ≤ 65536) × (j ≤ 65536) }
     ensures { result ≡ same (saying s.now i) (saying s.now j) }
 {
-    match order(s, i, j) {
-        Ordering::Less => false,
-        Ordering::Equal => true,
-        Ordering::Greater => false,
-    }
+    order(s, i, j).is_eq()
 }
 
 // Whether the name of the value at c is above that of the one at `after`, where there is one.
-fn is_above(s: &[u8], tab: &[u64], after: Found, c: usize) -> bool
+fn is_above(s: &[u8], tab: &[u64], after: Option<usize>, c: usize) -> bool
     requires { Accepted s.now tab.now × FoundIn s.now after × (c < places s.now) }
     ensures { result ≡ above (found_name s.now after) (name_at s.now c) }
 {
     match after {
-        Found::At(p) => is_before(s, name(s, tab, p), name(s, tab, c)),
-        Found::Nothing => true,
+        Some(p) => is_before(s, name(s, tab, p), name(s, tab, c)),
+        None => true,
     }
 }
 
 // Whether the member at c takes the place of the best one so far. Behind that one most names are told by it alone.
-fn is_better(s: &[u8], tab: &[u64], after: Found, best: Found, c: usize) -> bool
+fn is_better(s: &[u8], tab: &[u64], after: Option<usize>, best: Option<usize>, c: usize) -> bool
     requires { Accepted s.now tab.now × FoundIn s.now after × FoundIn s.now best × (c < places s.now) }
     ensures { result ≡ better s.now (found_name s.now after) (found best) c }
 {
-    let Found::At(b) = best else {
+    let Some(b) = best else {
         return is_above(s, tab, after, c);
     };
     if is_before(s, name(s, tab, b), name(s, tab, c)) {
@@ -357,13 +330,13 @@ fn is_better(s: &[u8], tab: &[u64], after: Found, best: Found, c: usize) -> bool
 
 // The member of the object at i with the least name above that of the one at `after`; the least of all where there is none.
 // (A scan, so that walking n members takes n * n comparisons.)
-pub fn next_member(s: &[u8], tab: &[u64], i: usize, after: Found) -> Found
+pub fn next_member(s: &[u8], tab: &[u64], i: usize, after: Option<usize>) -> Option<usize>
     requires { Accepted s.now tab.now × (i < places s.now) × FoundIn s.now after }
     ensures { found result ≡ next_member s.now i (found_name s.now after) }
 {
     let e = end(s, tab, i);
     let mut c = i + 1;
-    let mut best = Found::Nothing;
+    let mut best = None;
     while c < e {
         best = or(is_better(s, tab, after, best, c), c, best);
         c = end(s, tab, c);
@@ -377,13 +350,11 @@ fn is_new(s: &[u8], tab: &[u64], i: usize, n: usize, q: usize) -> usize
     ensures { result ≡ one_if_new s.now (saying s.now q) (take n (children s.now i)) }
 {
     let mut c = i + 1;
-    let mut left = n;
-    while 0 < left {
+    for _ in 0..n {
         if is_same(s, name(s, tab, c), q) {
             return 0;
         }
         c = end(s, tab, c);
-        left -= 1;
     }
     1
 }
@@ -427,10 +398,7 @@ pub fn parent(s: &[u8], tab: &[u64], c: usize) -> usize
 fn choose(t: bool, a: usize, b: usize) -> usize
     ensures { result ≡ pick t a b }
 {
-    if t {
-        return a;
-    }
-    b
+    if t { a } else { b }
 }
 
 // The number at i without its sign, 0 for no number.
@@ -444,15 +412,16 @@ pub fn number(s: &[u8], tab: &[u64], i: usize) -> u64
         return 0;
     }
     let d = scan::minus_end(s, b);
-    let scan::Size::Is(n) = scan::decimal_value(s, d, scan::whole_end(s, d)) else {
+    let Some(n) = scan::decimal_value(s, d, scan::whole_end(s, d)) else {
         return 0;
     };
     n
 }
 
 // Whether a value that starts so is no number.
+#[tactic(auto, unfolding(crate::specs::Kinds::is_other))]
 fn is_other(c: u8) -> bool
     ensures { result ≡ is_other c }
 {
-    ((c == 91) | (c == 123)) | ((c == 34) | ((c == 116) | ((c == 102) | (c == 110))))
+    matches!(c, b'[' | b'{' | b'"' | b't' | b'f' | b'n')
 }

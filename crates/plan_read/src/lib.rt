@@ -9,7 +9,7 @@ ghost use Rattle.plan_read.specs.Table.{entry, table};
 ghost use Rattle.plan_read.specs.Reading.{Meets, MeetsAll, judged};
 ghost use Rattle.plan_read.specs.Quick.{Marked, plain_end};
 
-use clear::clear_u64;
+use clear::clear;
 use error::{NUMBER_NOT_INTEGER, PLAN_NOT_JSON, PLAN_TOO_LARGE, TOO_MANY_VALUES};
 use scan::{byte, spaces_end};
 
@@ -58,24 +58,18 @@ fn put(tab: &mut [u64], n: usize, e: u64)
 }
 
 // The place behind the value at i, which is no array and no object.
+#[tactic(auto, unfolding(rules::specs::Scan::scalar_end))]
 fn scalar_end(s: &[u8], i: usize) -> usize
     requires { (i ≤ length s.now) × (length s.now ≤ 65536) }
     ensures { result ≡ scalar_end s.now i }
 {
-    let c = byte(s, i);
-    if c == b'"' {
-        return strings::string_end(s, i + 1);
+    match byte(s, i) {
+        b'"' => strings::string_end(s, i + 1),
+        b't' => scan::word_end(b"true", s, i),
+        b'f' => scan::word_end(b"false", s, i),
+        b'n' => scan::word_end(b"null", s, i),
+        _ => scan::number_end(s, i),
     }
-    if c == b't' {
-        return scan::word_end(b"true", s, i);
-    }
-    if c == b'f' {
-        return scan::word_end(b"false", s, i);
-    }
-    if c == b'n' {
-        return scan::word_end(b"null", s, i);
-    }
-    scan::number_end(s, i)
 }
 
 // A value without others in it; its own number is n.
@@ -152,24 +146,20 @@ fn name_end(s: &[u8], i: usize) -> usize
 }
 
 // The place of the value of the item at i. `close` is the byte that ends the items.
+#[tactic(auto, unfolding(rules::specs::Tree::item_place))]
 fn item_place(s: &[u8], close: u8, i: usize) -> usize
     requires { (i ≤ length s.now) × (length s.now ≤ 65536) }
     ensures { result ≡ item_place s.now close i }
 {
-    if close == b'}' {
-        return name_end(s, i);
-    }
-    i
+    if close == b'}' { name_end(s, i) } else { i }
 }
 
 // Where the name of the item at i starts; items of an array have none.
+#[tactic(auto, unfolding(rules::specs::Tree::item_name))]
 fn item_name(close: u8, i: usize) -> usize
     ensures { result ≡ item_name close i }
 {
-    if close == b'}' {
-        return i;
-    }
-    NO_NAME
+    if close == b'}' { i } else { NO_NAME }
 }
 
 // `[` and `{`.
@@ -224,6 +214,7 @@ fn read_value(
 }
 
 // The place behind a value that is read at once, at i: a number of few digits, a string of plain characters, a word.
+#[tactic(auto, unfolding(crate::specs::Quick::plain_end))]
 fn plain_end(s: &[u8], i: usize) -> usize
     requires { (i ≤ length s.now) × (length s.now ≤ 65536) }
     ensures { result ≡ plain_end s.now i }
@@ -232,20 +223,13 @@ fn plain_end(s: &[u8], i: usize) -> usize
     if e != NOTHING {
         return e;
     }
-    let c = byte(s, i);
-    if c == b'"' {
-        return strings::plain_string_end(s, i + 1);
+    match byte(s, i) {
+        b'"' => strings::plain_string_end(s, i + 1),
+        b't' => scan::word_end(b"true", s, i),
+        b'f' => scan::word_end(b"false", s, i),
+        b'n' => scan::word_end(b"null", s, i),
+        _ => NOTHING,
     }
-    if c == b't' {
-        return scan::word_end(b"true", s, i);
-    }
-    if c == b'f' {
-        return scan::word_end(b"false", s, i);
-    }
-    if c == b'n' {
-        return scan::word_end(b"null", s, i);
-    }
-    NOTHING
 }
 
 // The value of an item at i, as `read_value` reads it. (Most are read at once, and then no call is made.)
@@ -356,14 +340,14 @@ pub fn read_plan(s: &[u8], tab: &mut [u64]) -> u8
     ensures value { result ≡ answer s.now }
     ensures tab_after { tab.new ≡ table (length tab.old) s.now }
 {
-    clear_u64(tab);
+    clear(tab, 0);
     if BYTES < s.len() {
         return PLAN_TOO_LARGE;
     }
     let r = read_value(s, tab, spaces_end(s, 0), NO_NAME, DEPTH, 0, 0);
     let v = judge(s, r);
     if v != 0 {
-        clear_u64(tab);
+        clear(tab, 0);
     }
     v
 }

@@ -1,20 +1,28 @@
 -- The loops that compare strings: what is left of both decides.
-use Prim.Native.Nat.{Ordering}
+use Prim.Native.Nat.{Ordering as Order}
+use Rattle.std.specs.Prelude.{Option as RustOption, Some, None}
+use Rattle.std.specs.Option.{is_some}
 use Prim.Native.Nat.{ℕ, zero, suc, ◌+◌, ◌-◌, ◌≤◌, ◌<◌}
-use mathlib.Core.Bool.{Bool, true, false, ◌&&◌, ◌||◌}
+use mathlib.Core.Bool.{Bool, true, false, not}
 use mathlib.Core.List.{[], ◌∷◌}
-use mathlib.Core.Path.{◌≡◌, refl, sym}
+use mathlib.Core.Path.{◌≡◌, refl, sym, ap}
 use native.Mathlib.Numerals.{add-one}
 use native.Mathlib.Omega.{arith}
 use lib.Dec.{eqb, ltb}
 use lib.ListN.{length, get_or, drop, length-drop, drop_of_length-le}
 use lib.Seq.{drop-cons}
-use borrow.Author.Tests.{eq-eqb, ne_eqb, lt-ltb, le-ltb}
+use borrow.Author.Tests.{eq-eqb, ne_eqb, le-ltb}
 use Rattle.rules.specs.Bytes.{Bytes, pick, same, before}
 use Rattle.rules.specs.Order.{cmp}
+use Rattle.saying.specs.Said.{Stepped}
+use Rattle.saying.specs.declared.Cursor.{Cursor}
 use Rattle.rules.specs.Bits.{Bits}
 use Rattle.rules.specs.Layout.{field}
 use Rattle.bits.specs.Packed.{bytes_at}
+use Rattle.std.specs.declared.cmp.Ordering.{Ordering}
+use Rattle.std.specs.declared.cmp.Ordering.TheVariants.{Less, Equal, Greater}
+use Rattle.std.specs.Ordering.{is_eq, nat_cmp}
+use Rattle.saying.specs.Compared.{ordering}
 
 -- With lent bytes w, of which p were met
 
@@ -47,6 +55,14 @@ module _ (b : Bits) (q : ℕ) where
   unfolding bytes_at
   packed_past x l n z = rw z
 
+  pub packed_none : (l : Bytes) (n : ℕ) → n ≡ 0 → same l [] ≡ same l (bytes_at b q n)
+  unfolding bytes_at
+  packed_none l n z = rw z
+
+  -- at the same place
+  pub same_moved : (l : Bytes) (r n m : ℕ) → q ≡ r → n ≡ m → same l (bytes_at b q n) ≡ same l (bytes_at b r m)
+  same_moved l r n m e f = rw (e, f)
+
   first : (n : ℕ) → (n ≡ 0 → ⊥) → bytes_at b q n ≡ field b 8 q ∷ bytes_at b (q + 8) (n - 1)
   unfolding bytes_at
   first zero h = absurd (h refl)
@@ -62,34 +78,34 @@ module _ (b : Bits) (q : ℕ) where
 -- Of two strings, of which a ∷ l and b ∷ r are left
 
 module _ (a b : ℕ) (l r : Bytes) where
-  pub cmp_less : a < b → Ordering.lt ≡ cmp (a ∷ l) (b ∷ r)
-  cmp_less h = rw (ne_eqb a b (λ e. omega arith), lt-ltb a b h)
+  pub cmp_differ : (a ≡ b → ⊥) → ordering (nat_cmp a b) ≡ cmp (a ∷ l) (b ∷ r)
+  cmp_differ ne = go (ltb a b) refl
+    where
+      go : (t : Bool) → ltb a b ≡ t → ordering (nat_cmp a b) ≡ cmp (a ∷ l) (b ∷ r)
+      go true e = rw (ne_eqb a b ne, e)
+      go false e = rw (ne_eqb a b ne, e)
 
-  pub cmp_more : b < a → Ordering.gt ≡ cmp (a ∷ l) (b ∷ r)
-  cmp_more h = rw (ne_eqb a b (λ e. omega arith), le-ltb a b (omega arith))
-
-  pub cmp_on : b ≤ a → a ≤ b → cmp (a ∷ l) (b ∷ r) ≡ cmp l r
-  cmp_on h k = rw (eq-eqb a b (omega arith), le-ltb a b h)
+  pub cmp_on : a ≡ b → cmp (a ∷ l) (b ∷ r) ≡ cmp l r
+  cmp_on e = rw (eq-eqb a b e, le-ltb a b (omega arith))
 
 -- equal are those that are the same
-pub cmp_same : (a b : Bytes) → Ordering.eq ≡ cmp a b → true ≡ same a b
-cmp_same a b h = go (same a b) (before a b) h
+pub equal_same : (a b : Bytes) (r : Ordering) → ordering r ≡ cmp a b → is_eq r ≡ same a b
+equal_same a b r e = go (same a b) (before a b) r e
   where
-    go : (t u : Bool) → Ordering.eq ≡ pick t Ordering.eq (pick u Ordering.lt Ordering.gt) → true ≡ t
-    go true u e = refl
-    go false true e = cc
-    go false false e = cc
+    go : (p q : Bool) (r : Ordering) → ordering r ≡ pick p Order.eq (pick q Order.lt Order.gt) → is_eq r ≡ p
+    go true q Less e = cc
+    go true q Equal e = refl
+    go true q Greater e = cc
+    go false true Less e = refl
+    go false true Equal e = cc
+    go false true Greater e = refl
+    go false false Less e = refl
+    go false false Equal e = cc
+    go false false Greater e = refl
 
-pub lt_other : (a b : Bytes) → Ordering.lt ≡ cmp a b → false ≡ same a b
-lt_other a b h = go (same a b) (before a b) h
-  where
-    go : (t u : Bool) → Ordering.lt ≡ pick t Ordering.eq (pick u Ordering.lt Ordering.gt) → false ≡ t
-    go true u e = cc
-    go false u e = refl
-
-pub gt_other : (a b : Bytes) → Ordering.gt ≡ cmp a b → false ≡ same a b
-gt_other a b h = go (same a b) (before a b) h
-  where
-    go : (t u : Bool) → Ordering.gt ≡ pick t Ordering.eq (pick u Ordering.lt Ordering.gt) → false ≡ t
-    go true u e = cc
-    go false u e = refl
+-- The step is none just where nothing is left
+pub none_left : (s l : Bytes) (o : RustOption (ℕ × Cursor)) (r : Bool) → Stepped s l o → is_some o ≡ not r → r ≡ same l []
+none_left s l (Some (b, c)) true e h = cc
+none_left s l (Some (b, c)) false e h = sym (ap (λ (y : Bytes). same y []) e.0)
+none_left s l None true e h = sym (ap (λ (y : Bytes). same y []) e)
+none_left s l None false e h = cc

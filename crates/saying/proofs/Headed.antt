@@ -10,6 +10,7 @@ use Rattle.rules.specs.LayoutLaws.{Binary}
 use Rattle.bits.specs.Fields.{field_middle}
 use Rattle.bits.specs.Packed.{bytes_at}
 use Rattle.saying.specs.Said.{remaining, is_own}
+use Rattle.saying.proofs.Comparing.{same_moved}
 use Rattle.saying.proofs.Plain.{plain_on}
 
 -- the byte k of them
@@ -24,7 +25,7 @@ head_first b bin p x e = head_byte b bin p x 0 e (omega arith) ∙ ap (field b 8
 module _ (s : Bytes) (b : Bits) where
   -- the same comparison
   pub same_places : (i j q r n m : ℕ) → i ≡ j → q ≡ r → n ≡ m → same (remaining s i 0) (bytes_at b q n) ≡ same (remaining s j 0) (bytes_at b r m)
-  same_places i j q r n m e f g = rw (e, f, g)
+  same_places i j q r n m e f g = rw e (same_moved b q (remaining s j 0) r n m f g)
 
   -- k bytes were met, and the next one is c in both
   pub headed_on : (i p n k c : ℕ) → c ≡ byte_at s (i + k) → is_own c ≡ true → i + k ≤ 65548 → (x : ℕ) → x ≡ field b 8 (p + 8 * k) → (n - k ≡ 0 → ⊥) → x ≡ c

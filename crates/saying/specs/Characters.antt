@@ -1,11 +1,9 @@
 -- The characters of a string, one by one.
-use Rattle.std.specs.Prelude.{ℕ, ◌+◌, ◌≤◌, [], ◌∷◌, ◌≡◌, length, take, drop}
+use Rattle.std.specs.Prelude.{ℕ, ◌+◌, ◌≤◌, [], ◌∷◌, ◌≡◌, length, take, drop, Option as RustOption, Some, None}
 use Rattle.rules.specs.Bytes.{Bytes}
 use Rattle.rules.specs.Scan.{string_end}
 use Rattle.rules.specs.Context.{chars}
 use Rattle.saying.specs.Said.{remaining}
-use Rattle.saying.specs.declared.Char.{Char}
-use Rattle.saying.specs.declared.Char.TheVariants.{One, End}
 
 -- from the place i on the text is a string's, up to its last quote
 pub record Whole (s : Bytes) (i : ℕ) : Type 0 where
@@ -20,6 +18,6 @@ pub record OneChar (s : Bytes) (i n e : ℕ) : Type 0 where
   pub whole : Whole s e
   pub near : e ≤ length s
 
-abbrev pub Charred : Bytes → ℕ → Char → Type 0
-Charred s i (One n e) = Whole s i → OneChar s i n e
-Charred s i End = Whole s i → remaining s i 0 ≡ []
+abbrev pub Charred : Bytes → ℕ → RustOption (ℕ × ℕ) → Type 0
+Charred s i (Some (n, e)) = Whole s i → OneChar s i n e
+Charred s i None = Whole s i → remaining s i 0 ≡ []

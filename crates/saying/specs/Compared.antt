@@ -1,11 +1,11 @@
 -- The order of the rules, as the code holds it, and what a name says.
-use Prim.Native.Nat.{ℕ, ◌+◌, ◌*◌, ◌≤◌, ◌<◌, Ordering as Order}
+use Prim.Native.Nat.{◌+◌, ◌*◌, ◌≤◌, ◌<◌, Ordering as Order}
 use Rattle.rules.specs.Bytes.{Bytes}
 use Rattle.rules.specs.Bits.{bits}
 use Rattle.rules.specs.Scan.{saying}
 use Rattle.bits.specs.Packed.{bytes_at}
-use Rattle.saying.specs.declared.Ordering.{Ordering}
-use Rattle.saying.specs.declared.Ordering.TheVariants.{Less, Equal, Greater}
+use Rattle.std.specs.declared.cmp.Ordering.{Ordering}
+use Rattle.std.specs.declared.cmp.Ordering.TheVariants.{Less, Equal, Greater}
 use Rattle.saying.specs.declared.Name.{Name}
 use Rattle.saying.specs.declared.Name.TheVariants.{Lent, Quoted, Packed}
 

@@ -1,9 +1,8 @@
 -- The bytes of a string that are left from a place on.
-use Rattle.std.specs.Prelude.{ℕ, suc, ◌+◌, ◌-◌, ◌*◌, ◌/◌, ◌%◌, ◌^◌, ◌≤◌, ◌<◌, Bool, true, ◌&&◌, not, [], ◌∷◌, ◌≡◌, eqb, leb, length, drop}
+use Rattle.std.specs.Prelude.{ℕ, suc, ◌+◌, ◌-◌, ◌*◌, ◌/◌, ◌%◌, ◌^◌, ◌≤◌, ◌<◌, Bool, true, ◌&&◌, not, [], ◌∷◌, ◌≡◌, eqb, leb, length, drop, Option as RustOption, Some, None}
 use Rattle.rules.specs.Bytes.{Bytes, run}
 use Rattle.rules.specs.Scan.{says, saying_from}
-use Rattle.saying.specs.declared.Step.{Step}
-use Rattle.saying.specs.declared.Step.TheVariants.{Byte, End}
+use Rattle.saying.specs.declared.Cursor.{Cursor}
 
 -- from the byte k of what the text says at i
 abbrev pub remaining : Bytes → ℕ → ℕ → Bytes
@@ -15,9 +14,9 @@ pub record Inside (s : Bytes) (i k : ℕ) : Type 0 where
   pub near : i ≤ 65548
 
 -- the first byte of l, and the place behind it
-abbrev pub Stepped : Bytes → Bytes → Step → Type 0
-Stepped s l (Byte b c) = (l ≡ b ∷ remaining s c.at c.k) × Inside s c.at c.k
-Stepped s l End = l ≡ []
+abbrev pub Stepped : Bytes → Bytes → RustOption (ℕ × Cursor) → Type 0
+Stepped s l (Some (b, c)) = (l ≡ b ∷ remaining s c.at c.k) × Inside s c.at c.k
+Stepped s l None = l ≡ []
 
 -- a byte that stands for itself
 abbrev pub is_own : ℕ → Bool

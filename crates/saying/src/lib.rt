@@ -14,6 +14,7 @@ ghost use Rattle.saying.specs.Compared.{ordering, name_bytes, NameFits};
 ghost use Rattle.saying.specs.Characters.{Charred};
 
 use scan::byte;
+use std::cmp::Ordering;
 
 // As long as `\u....\u....`, a code point by two surrogates
 const PAIR: usize = 12;
@@ -70,19 +71,6 @@ pub struct Cursor {
 }
 
 // The next byte of a string and the place behind it, or its end.
-#[derive(Clone, Copy)]
-pub enum Step {
-    Byte(u8, Cursor),
-    End,
-}
-
-#[derive(Clone, Copy)]
-pub enum Ordering {
-    Less,
-    Equal,
-    Greater,
-}
-
 // Where the bytes of a name are: they are all of the lent ones; or what the string of the text says that has its first quote there;
 // or so many bytes, the second number, packed into the lent ones from the bit place on that is the first.
 #[derive(Clone, Copy)]
@@ -93,29 +81,17 @@ pub enum Name {
 }
 
 // A character: how many bytes it has, and where the next one starts.
-#[derive(Clone, Copy)]
-pub enum Char {
-    One(usize, usize),
-    End,
-}
-
 // The byte k of four, 0 past the end.
 fn nth(k: usize, a: u8, b: u8, c: u8, d: u8) -> u8
     ensures { result ≡ get_or (a ∷ b ∷ c ∷ d ∷ []) k 0 }
 {
-    if k == 0 {
-        return a;
+    match k {
+        0 => a,
+        1 => b,
+        2 => c,
+        3 => d,
+        _ => 0,
     }
-    if k == 1 {
-        return b;
-    }
-    if k == 2 {
-        return c;
-    }
-    if k == 3 {
-        return d;
-    }
-    0
 }
 
 // The code point that `\u....` at i stands for.
@@ -173,25 +149,18 @@ fn encoded_byte(p: u32, k: usize) -> u8
 }
 
 // The byte that a letter behind a backslash stands for.
+#[tactic(auto, unfolding(rules::specs::Scan::escaped_byte))]
 fn escaped_byte(e: u8) -> u8
     ensures { result ≡ escaped_byte e }
 {
-    if e == b'b' {
-        return b'\x08';
+    match e {
+        b'b' => b'\x08',
+        b'f' => b'\x0c',
+        b'n' => b'\n',
+        b'r' => b'\r',
+        b't' => b'\t',
+        _ => e,
     }
-    if e == b'f' {
-        return b'\x0c';
-    }
-    if e == b'n' {
-        return b'\n';
-    }
-    if e == b'r' {
-        return b'\r';
-    }
-    if e == b't' {
-        return b'\t';
-    }
-    e
 }
 
 // The byte k of what the text says at i, 0 past the end.
@@ -225,30 +194,30 @@ fn said_count(s: &[u8], i: usize) -> usize
 }
 
 // The byte at a place of a string.
-pub fn next_byte(s: &[u8], at: usize, k: usize) -> Step
+pub fn next_byte(s: &[u8], at: usize, k: usize) -> Option<(u8, Cursor)>
     requires { (length s.now ≤ 65536) × Inside s.now at k }
     ensures { Stepped s.now (remaining s.now at k) result }
 {
     let c = byte(s, at);
     if c == b'"' {
-        return Step::End;
+        return None;
     }
     if c < b' ' {
-        return Step::End;
+        return None;
     }
     if c != b'\\' {
-        return Step::Byte(c, Cursor { at: at + 1, k: 0 });
+        return Some((c, Cursor { at: at + 1, k: 0 }));
     }
     let n = strings::escape_length(s, at);
     if n == 0 {
-        return Step::End;
+        return None;
     }
     let b = said_byte(s, at, k);
     let m = said_count(s, at);
     if k + 1 < m {
-        return Step::Byte(b, Cursor { at: at, k: k + 1 });
+        return Some((b, Cursor { at: at, k: k + 1 }));
     }
-    Step::Byte(b, Cursor { at: at + n, k: 0 })
+    Some((b, Cursor { at: at + n, k: 0 }))
 }
 
 // Whether a byte stands for itself. One test says it of a small letter.
@@ -265,33 +234,31 @@ fn is_own(c: u8) -> bool
 pub fn own_end(s: &[u8], i: usize) -> usize
     ensures { result ≡ own_end s.now i }
 {
-    let mut j = i;
-    while j < s.len() {
+    for j in i..s.len() {
         if !is_own(s[j]) {
             return j;
         }
-        j += 1;
     }
-    j
+    i.max(s.len())
 }
 
 // The character at a place of a string.
-pub fn next_char(s: &[u8], at: usize) -> Char
+pub fn next_char(s: &[u8], at: usize) -> Option<(usize, usize)>
     requires { (length s.now ≤ 65536) × (at ≤ 65548) }
     ensures { Charred s.now at result }
 {
     let c = byte(s, at);
     if c == b'"' {
-        return Char::End;
+        return None;
     }
     let n = strings::char_length(s, at);
     if n == 0 {
-        return Char::End;
+        return None;
     }
     if c == b'\\' {
-        return Char::One(said_count(s, at), at + n);
+        return Some((said_count(s, at), at + n));
     }
-    Char::One(n, at + n)
+    Some((n, at + n))
 }
 
 // Whether the string at i says the bytes w.
@@ -301,21 +268,17 @@ fn says_bytes(s: &[u8], i: usize, w: &[u8]) -> bool
 {
     let mut at = i + 1;
     let mut k: usize = 0;
-    let mut p: usize = 0;
-    loop {
-        let Step::Byte(b, c) = next_byte(s, at, k) else {
-            return p == w.len();
+    for b in w {
+        let Some((said, c)) = next_byte(s, at, k) else {
+            return false;
         };
-        if w.len() <= p {
+        if *b != said {
             return false;
         }
-        if w[p] != b {
-            return false;
-        }
-        p += 1;
         at = c.at;
         k = c.k;
     }
+    next_byte(s, at, k).is_none()
 }
 
 // The order of what the strings at i and j say.
@@ -327,27 +290,21 @@ pub fn compare(s: &[u8], i: usize, j: usize) -> Ordering
     let mut k: usize = 0;
     let mut to = j + 1;
     let mut m: usize = 0;
-    loop {
-        let y = next_byte(s, to, m);
-        let Step::Byte(a, c) = next_byte(s, at, k) else {
-            let Step::Byte(b, d) = y else {
-                return Ordering::Equal;
-            };
-            return Ordering::Less;
-        };
-        let Step::Byte(b, d) = y else {
+    while let Some((a, c)) = next_byte(s, at, k) {
+        let Some((b, d)) = next_byte(s, to, m) else {
             return Ordering::Greater;
         };
-        if a < b {
-            return Ordering::Less;
-        }
-        if b < a {
-            return Ordering::Greater;
+        if a != b {
+            return a.cmp(&b);
         }
         at = c.at;
         k = c.k;
         to = d.at;
         m = d.k;
+    }
+    match next_byte(s, to, m) {
+        Some((_, _)) => Ordering::Less,
+        None => Ordering::Equal,
     }
 }
 
@@ -358,23 +315,17 @@ fn packed_steps(s: &[u8], i: usize, j: usize, w: &[u8], p: usize, n: usize) -> b
 {
     let mut at = i;
     let mut k = j;
-    let mut q = p;
-    let mut left = n;
-    loop {
-        let Step::Byte(b, c) = next_byte(s, at, k) else {
-            return left == 0;
+    for m in 0..n {
+        let Some((b, c)) = next_byte(s, at, k) else {
+            return false;
         };
-        if left == 0 {
+        if bits::byte(w, p + 8 * m) != b {
             return false;
         }
-        if bits::byte(w, q) != b {
-            return false;
-        }
-        q += 8;
-        left -= 1;
         at = c.at;
         k = c.k;
     }
+    next_byte(s, at, k).is_none()
 }
 
 // The same from where a character starts. Bytes that stand for themselves are compared as they stand.
@@ -382,27 +333,19 @@ fn packed_from(s: &[u8], i: usize, w: &[u8], p: usize, n: usize) -> bool
     requires { (length s.now ≤ 65536) × (i ≤ 65548) × (p + 8 * n < 18446744073709551616) }
     ensures { result ≡ same (remaining s.now i 0) (bytes_at (bits w.now) p n) }
 {
-    let mut at = i;
-    let mut q = p;
-    let mut left = n;
-    loop {
-        let c = byte(s, at);
-        if c == b'"' {
-            return left == 0;
-        }
+    for k in 0..n {
+        let c = byte(s, i + k);
         if !is_own(c) {
-            return packed_steps(s, at, 0, w, q, left);
+            return packed_steps(s, i + k, 0, w, p + 8 * k, n - k);
         }
-        if left == 0 {
+        if bits::byte(w, p + 8 * k) != c {
             return false;
         }
-        if bits::byte(w, q) != c {
-            return false;
-        }
-        at += 1;
-        q += 8;
-        left -= 1;
     }
+    if byte(s, i + n) == b'"' {
+        return true;
+    }
+    packed_steps(s, i + n, 0, w, p + 8 * n, 0)
 }
 
 // The same from any place on.
@@ -424,9 +367,8 @@ fn packed_headed(s: &[u8], i: usize, w: &[u8], p: usize, n: usize, x: u64) -> bo
         × (x ≡ field (bits w.now) 56 p) }
     ensures { result ≡ same (remaining s.now i 0) (bytes_at (bits w.now) p n) }
 {
-    let m = bits::least(n, HEAD);
-    let mut k: usize = 0;
-    while k < m {
+    let m = n.min(HEAD);
+    for k in 0..m {
         let c = byte(s, i + k);
         if !is_own(c) {
             return packed_from(s, i + k, w, p + 8 * k, n - k);
@@ -434,13 +376,12 @@ fn packed_headed(s: &[u8], i: usize, w: &[u8], p: usize, n: usize, x: u64) -> bo
         if ((x >> (TO_FIRST - 8 * k)) % BYTES) as u8 != c {
             return false;
         }
-        k += 1;
     }
-    let left = n - k;
-    if byte(s, i + k) == b'"' {
+    let left = n - m;
+    if byte(s, i + m) == b'"' {
         return left == 0;
     }
-    packed_from(s, i + k, w, p + 8 * k, left)
+    packed_from(s, i + m, w, p + 8 * m, left)
 }
 
 // Whether the string at i says the n bytes that are packed into w from the bit place p on. The number x is the first seven of them: a caller
@@ -513,11 +454,7 @@ fn is_same(s: &[u8], i: usize, j: usize) -> bool
     requires { (length s.now ≤ 65536) × (i ≤ 65536) × (j ≤ 65536) }
     ensures { result ≡ same (saying s.now i) (saying s.now j) }
 {
-    match compare(s, i, j) {
-        Ordering::Less => false,
-        Ordering::Equal => true,
-        Ordering::Greater => false,
-    }
+    compare(s, i, j).is_eq()
 }
 
 // Whether the string at i says a name.

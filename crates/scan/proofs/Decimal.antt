@@ -1,4 +1,5 @@
 -- The loop over the digits of a number.
+use Rattle.std.specs.Prelude.{Some, None}
 use mathlib.Core.Bool.{Bool, true, false, ◌&&◌}
 use mathlib.Core.List.{[], ◌∷◌}
 use mathlib.Core.Path.{◌≡◌, refl, sym, ap, ◌∙◌}
@@ -16,7 +17,6 @@ use Rattle.rules.specs.Scan.{is_digit, digits_end, whole_end, decimal_value, sli
 use Rattle.scan.proofs.Bounds.{in_text, test_in}
 use Rattle.scan.proofs.Runs.{run_within}
 use Rattle.scan.specs.Sized.{sized}
-use Rattle.scan.specs.declared.Size.TheVariants.{Is, Large}
 
 slice_none : (s : Bytes) (k e : ℕ) → e ≤ k → slice s k e ≡ []
 slice_none s k e le =
@@ -44,12 +44,12 @@ pub value_end : (s : Bytes) (n k e : ℕ) → e ≤ k → decimal_value n (slice
 unfolding decimal_value
 value_end s n k e le = rw (slice_none s k e le)
 
-pub sized_is : (n : ℕ) → n ≤ 18446744073709551615 → Is n ≡ sized n
+pub sized_is : (n : ℕ) → n ≤ 18446744073709551615 → Some n ≡ sized n
 sized_is n le = rw (le-leb n 18446744073709551615 le)
 
 -- m is the value of all digits, n that of those before k; with the digit at k it is too large
 pub sized_large : (s : Bytes) (n k e m : ℕ) → k < e → e ≤ length s → 18446744073709551615 < n * 10 + (get_or s k 0 - 48)
-    → m ≡ decimal_value n (slice s k e) → Large ≡ sized m
+    → m ≡ decimal_value n (slice s k e) → None ≡ sized m
 sized_large s n k e m lt le h q =
     let u = value_up (n * 10 + (get_or s k 0 - 48)) (slice s (k + 1) e) in
     let v : 18446744073709551615 < m = omega (arith, value_more s n k e lt le) in

@@ -1,4 +1,5 @@
 -- Which numbers are none of the integers, by the steps of `is_outside`.
+use Rattle.std.specs.Prelude.{Option as RustOption, Some, None}
 use mathlib.Core.Bool.{Bool, true, false, ◌&&◌, ◌||◌, not}
 use mathlib.Core.Path.{◌≡◌, refl, sym, ap, ◌∙◌}
 use Prim.Native.Nat.{ℕ, ◌+◌, ◌≤◌, ◌<◌}
@@ -10,24 +11,22 @@ use Rattle.rules.specs.Order.{differ, and_left, and_right}
 use Rattle.rules.specs.Scan.{minus_end, whole_end, fraction_end, exponent_end, onward, number_end, decimal_value, slice, magnitude, outside}
 use Rattle.scan.proofs.Decimal.{short_fits}
 use Rattle.scan.specs.Sized.{sized}
-use Rattle.scan.specs.declared.Size.{Size}
-use Rattle.scan.specs.declared.Size.TheVariants.{Is, Large}
 
 no_not : (t : Bool) → not t ≡ true → t ≡ false
 no_not true h = differ (sym h)
 no_not false h = refl
 
-is_size : (n m : ℕ) → Is n ≡ sized m → (m ≡ n) × (m ≤ 18446744073709551615)
+is_size : (n m : ℕ) → Some n ≡ sized m → (m ≡ n) × (m ≤ 18446744073709551615)
 is_size n m h = step (leb m 18446744073709551615) refl h
   where
-    step : (t : Bool) → leb m 18446744073709551615 ≡ t → Is n ≡ pick t (Is m) Large → (m ≡ n) × (m ≤ 18446744073709551615)
+    step : (t : Bool) → leb m 18446744073709551615 ≡ t → Some n ≡ pick t (Some m) None → (m ≡ n) × (m ≤ 18446744073709551615)
     step true e q = (cc, leb-true m 18446744073709551615 e)
     step false e q = let z : ◌≡◌ {A = ℕ} 0 1 = cc in absurd (omega arith)
 
-large_size : (m : ℕ) → Large ≡ sized m → 18446744073709551615 < m
+large_size : (m : ℕ) → None ≡ sized m → 18446744073709551615 < m
 large_size m h = step (leb m 18446744073709551615) refl h
   where
-    step : (t : Bool) → leb m 18446744073709551615 ≡ t → Large ≡ pick t (Is m) Large → 18446744073709551615 < m
+    step : (t : Bool) → leb m 18446744073709551615 ≡ t → None ≡ pick t (Some m) None → 18446744073709551615 < m
     step true e q = let z : ◌≡◌ {A = ℕ} 0 1 = cc in absurd (omega arith)
     step false e q = leb-false m 18446744073709551615 e
 
@@ -59,7 +58,7 @@ module _ (s : Bytes) (i d w e : ℕ) (hd : d ≡ minus_end s i) (hw : w ≡ whol
         rw (← whole_is, ← he, eq-eqb w e q, ← hb, m, ← magnitude_is, le-ltb 18446744073709551615 (decimal_value 0 (slice s d w)) l)
 
     -- of a number that has 64 bits
-    module _ (b n : ℕ) (hb : b ≡ byte_at s i) (h : Is n ≡ sized (decimal_value 0 (slice s d w))) where
+    module _ (b n : ℕ) (hb : b ≡ byte_at s i) (h : Some n ≡ sized (decimal_value 0 (slice s d w))) where
       value_is : (magnitude s i ≡ n) × (magnitude s i ≤ 18446744073709551615)
       value_is = is_size n (magnitude s i) (h ∙ ap sized magnitude_is)
 
@@ -75,7 +74,7 @@ module _ (s : Bytes) (i d w e : ℕ) (hd : d ≡ minus_end s i) (hw : w ≡ whol
       unfolding outside
       outside_plus m = rw (← whole_is, ← he, eq-eqb w e q, ← hb, ne_eqb b 45 m, le-ltb 18446744073709551615 (magnitude s i) value_is.1)
 
-    pub outside_large : Large ≡ sized (decimal_value 0 (slice s d w)) → true ≡ outside s i
+    pub outside_large : None ≡ sized (decimal_value 0 (slice s d w)) → true ≡ outside s i
     unfolding outside
     outside_large h = step (eqb (byte_at s i) 45) (large_size (magnitude s i) (h ∙ ap sized magnitude_is)) (eqb (magnitude s i) 0) (eq-eqb w e q)
       where

@@ -31,8 +31,8 @@ module _ (w s : Bytes) (i k : ℕ) (g : Worded w s i k) where
   unfolding word_end
   worded_no lt e = rw (g.is, drop-cons w k 0 lt, ne_eqb (byte_at s (i + k)) (get_or w k 0) e)
 
-  pub worded_end : length w ≤ k → i + k ≡ word_end w s i
+  pub worded_end : length w ≤ k → i + length w ≡ word_end w s i
   unfolding word_end
   worded_end le =
       let z : k ≡ length w = omega (arith, g.within) in
-      rw (g.is, drop_of_length-le w le) (ap (λ (n : ℕ). i + n) z)
+      rw (g.is, drop_of_length-le w le)

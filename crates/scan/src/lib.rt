@@ -29,14 +29,12 @@ fn is_space(c: u8) -> bool
 fn spaces_on(s: &[u8], i: usize) -> usize
     ensures { result ≡ spaces_end s.now i }
 {
-    let mut j = i;
-    while j < s.len() {
+    for j in i..s.len() {
         if !is_space(s[j]) {
             return j;
         }
-        j += 1;
     }
-    j
+    i.max(s.len())
 }
 
 // The first place from i on that is no white space. (Most often that is i itself, which one test shows.)
@@ -54,14 +52,12 @@ pub fn word_end(w: &[u8], s: &[u8], i: usize) -> usize
     requires { (i ≤ 65536) × (length w.now ≤ 8) }
     ensures { result ≡ word_end w.now s.now i }
 {
-    let mut k = 0;
-    while k < w.len() {
+    for k in 0..w.len() {
         if byte(s, i + k) != w[k] {
             return 0;
         }
-        k += 1;
     }
-    i + k
+    i + w.len()
 }
 
 fn is_digit(c: u8) -> bool
@@ -74,14 +70,12 @@ fn is_digit(c: u8) -> bool
 fn digits_end(s: &[u8], i: usize) -> usize
     ensures { result ≡ digits_end s.now i }
 {
-    let mut j = i;
-    while j < s.len() {
+    for j in i..s.len() {
         if !is_digit(s[j]) {
             return j;
         }
-        j += 1;
     }
-    j
+    i.max(s.len())
 }
 
 // The place behind one digit or more at i.
@@ -192,12 +186,6 @@ pub fn plain_number_end(s: &[u8], i: usize) -> usize
 }
 
 // A number of 64 bits, or a larger one.
-#[derive(Clone, Copy)]
-pub enum Size {
-    Is(u64),
-    Large,
-}
-
 // What a digit stands for.
 fn digit_value(c: u8) -> u64
     ensures { (result ≡ c - 48) × (result < 256) }
@@ -209,21 +197,19 @@ fn digit_value(c: u8) -> u64
 }
 
 // The value of the digits from i up to e.
-pub fn decimal_value(s: &[u8], i: usize, e: usize) -> Size
+pub fn decimal_value(s: &[u8], i: usize, e: usize) -> Option<u64>
     requires { e ≤ length s.now }
     ensures { result ≡ sized (decimal_value 0 (slice s.now i e)) }
 {
     let mut n: u64 = 0;
-    let mut k = i;
-    while k < e {
+    for k in i..e {
         let v = digit_value(s[k]);
         if (18446744073709551615 - v) / 10 < n {
-            return Size::Large;
+            return None;
         }
         n = n * 10 + v;
-        k += 1;
     }
-    Size::Is(n)
+    Some(n)
 }
 
 // Whether the number at i is none of the integers. (Eighteen digits always fit.)
@@ -240,7 +226,7 @@ fn is_outside(s: &[u8], i: usize) -> bool
     if (c != 45) & (w <= d + 18) {
         return false;
     }
-    let Size::Is(n) = decimal_value(s, d, w) else {
+    let Some(n) = decimal_value(s, d, w) else {
         return true;
     };
     if c == 45 {

@@ -20,22 +20,19 @@ fn is_plain(c: u8) -> bool
 fn plain_end(s: &[u8], i: usize) -> usize
     ensures { result ≡ plain_end s.now i }
 {
-    let mut j = i;
-    while j < s.len() {
+    for j in i..s.len() {
         if !is_plain(s[j]) {
             return j;
         }
-        j += 1;
     }
-    j
+    i.max(s.len())
 }
 
 // The place behind the string of such characters only whose first quote stands before i; 0 for any other.
 pub fn plain_string_end(s: &[u8], i: usize) -> usize
     ensures { result ≡ plain_string_end s.now i }
 {
-    let mut j = i;
-    while j < s.len() {
+    for j in i..s.len() {
         let c = s[j];
         if c == 34 {
             return j + 1;
@@ -43,43 +40,29 @@ pub fn plain_string_end(s: &[u8], i: usize) -> usize
         if !is_plain(c) {
             return 0;
         }
-        j += 1;
     }
     0
 }
 
 // The letters behind a backslash that stand for one byte.
+#[tactic(auto, unfolding(rules::specs::Scan::is_short))]
 fn is_short(e: u8) -> bool
     ensures { result ≡ is_short e }
 {
-    (e == 34)
-        | ((e == 92)
-            | ((e == 47) | ((e == 98) | ((e == 102) | ((e == 110) | ((e == 114) | (e == 116)))))))
+    matches!(e, b'"' | b'\\' | b'/' | b'b' | b'f' | b'n' | b'r' | b't')
 }
 
 // The value of a hexadecimal digit, 16 for none.
+#[tactic(auto, unfolding(rules::specs::Scan::hex_digit))]
 fn hex_digit(c: u8) -> u32
     ensures { (result ≡ hex_digit c) × (result ≤ 16) }
 {
-    if c < 48 {
-        return 16;
+    match c {
+        b'0'..=b'9' => (c - b'0') as u32,
+        b'A'..=b'F' => (c - b'A' + 10) as u32,
+        b'a'..=b'f' => (c - b'a' + 10) as u32,
+        _ => 16,
     }
-    if c <= 57 {
-        return (c - 48) as u32;
-    }
-    if c < 65 {
-        return 16;
-    }
-    if c <= 70 {
-        return (c - 55) as u32;
-    }
-    if c < 97 {
-        return 16;
-    }
-    if c <= 102 {
-        return (c - 87) as u32;
-    }
-    16
 }
 
 // The value of four hexadecimal digits at i, 65536 for none.

@@ -7,8 +7,8 @@ ghost use Rattle.places.specs.Accepted.{Accepted};
 ghost use Rattle.places.specs.Kinds.{FoundIn};
 ghost use Rattle.saying.specs.Said.{Inside};
 
-use places::{Found, Kind};
-use saying::{Char, Name, Step};
+use places::Kind;
+use saying::Name;
 use std::io;
 use std::io::Write;
 
@@ -32,7 +32,7 @@ fn print_text(rt: &impl Print, s: &[u8], q: usize) -> io::Result<()>
     let mut at = q + 1;
     let mut k: usize = 0;
     for _ in 0..65536 {
-        let Step::Byte(b, c) = saying::next_byte(s, at, k) else {
+        let Some((b, c)) = saying::next_byte(s, at, k) else {
             return Ok(());
         };
         print_byte(rt, b)?;
@@ -51,7 +51,7 @@ fn characters(s: &[u8], q: usize) -> usize
         if 65536 < at {
             return n;
         }
-        let Char::One(k, next) = saying::next_char(s, at) else {
+        let Some((k, next)) = saying::next_char(s, at) else {
             return n;
         };
         at = next;
@@ -111,12 +111,12 @@ fn print_object(rt: &impl Print, s: &[u8], tab: &[u64], i: usize) -> io::Result<
 }
 
 // A place that was found.
-fn print_found(rt: &impl Print, s: &[u8], tab: &[u64], f: Found) -> io::Result<()>
+fn print_found(rt: &impl Print, s: &[u8], tab: &[u64], f: Option<usize>) -> io::Result<()>
     requires { Accepted s.now tab.now × FoundIn s.now f }
 {
     match f {
-        Found::At(p) => print_value(rt, s, tab, p)?,
-        Found::Nothing => print(rt, b"nothing")?,
+        Some(p) => print_value(rt, s, tab, p)?,
+        None => print(rt, b"nothing")?,
     }
     print(rt, b"\n")
 }
@@ -125,9 +125,9 @@ fn print_found(rt: &impl Print, s: &[u8], tab: &[u64], f: Found) -> io::Result<(
 fn print_members(rt: &impl Print, s: &[u8], tab: &[u64], i: usize) -> io::Result<()>
     requires { Accepted s.now tab.now × (i < places s.now) }
 {
-    let mut last = Found::Nothing;
+    let mut last = None;
     for _ in 0..100 {
-        let Found::At(p) = places::next_member(s, tab, i, last) else {
+        let Some(p) = places::next_member(s, tab, i, last) else {
             return Ok(());
         };
         print(rt, b"  ")?;
@@ -135,7 +135,7 @@ fn print_members(rt: &impl Print, s: &[u8], tab: &[u64], i: usize) -> io::Result
         print(rt, b": ")?;
         print_value(rt, s, tab, p)?;
         print(rt, b"\n")?;
-        last = Found::At(p);
+        last = Some(p);
     }
     Ok(())
 }
@@ -145,7 +145,7 @@ fn print_items(rt: &impl Print, s: &[u8], tab: &[u64], i: usize) -> io::Result<(
     requires { Accepted s.now tab.now × (i < places s.now) }
 {
     for k in 0..100 {
-        let Found::At(p) = places::nth(s, tab, i, k) else {
+        let Some(p) = places::nth(s, tab, i, k) else {
             return Ok(());
         };
         print(rt, b"  ")?;
@@ -180,7 +180,7 @@ fn print_named(rt: &impl Print, s: &[u8], tab: &[u64]) -> io::Result<()>
     let e = places::member(s, tab, 0, b"\x19\x40", Name::Packed(2, 1));
     print(rt, b"  packed e: ")?;
     print_found(rt, s, tab, e)?;
-    let Found::At(p) = a else {
+    let Some(p) = a else {
         return Ok(());
     };
     let q = places::member(s, tab, 0, b"", Name::Quoted(places::name(s, tab, p)));
@@ -195,7 +195,7 @@ fn print_first(rt: &impl Print, s: &[u8], tab: &[u64]) -> io::Result<()>
     let f = places::first(s, tab, 0);
     print(rt, b"  first: ")?;
     print_found(rt, s, tab, f)?;
-    let Found::At(p) = f else {
+    let Some(p) = f else {
         return Ok(());
     };
     print(rt, b"  second: ")?;
@@ -207,8 +207,8 @@ fn print_next(rt: &impl Print, s: &[u8], tab: &[u64], p: usize) -> io::Result<()
     requires { Accepted s.now tab.now × (p < places s.now) }
 {
     match places::next(s, tab, 0, p) {
-        Found::At(q) => print(rt, b"there\n"),
-        Found::Nothing => print(rt, b"nothing\n"),
+        Some(q) => print(rt, b"there\n"),
+        None => print(rt, b"nothing\n"),
     }
 }
 

@@ -6,10 +6,10 @@
 ghost use Rattle.std.specs.Prelude.{◌+◌, ◌≤◌, ◌<◌, length};
 ghost use Rattle.text.specs.Rest.{Stands};
 
-use saying::Ordering;
+use std::cmp::Ordering;
 use std::io;
 use std::io::Write;
-use text::{Left, Step, Text};
+use text::Text;
 
 fn print(rt: &impl Print, s: &[u8]) -> io::Result<()> {
     io::writer(rt).write_all(s)
@@ -40,7 +40,7 @@ fn print_text(rt: &impl Print, s: &[u8], b: &[u8], t: Text) -> io::Result<()>
 {
     let mut u = t;
     loop {
-        let Step::Byte(c, v) = text::next(s, b, u) else {
+        let Some((c, v)) = text::next(s, b, u) else {
             return Ok(());
         };
         print_byte(rt, c)?;
@@ -99,7 +99,7 @@ fn with_word(rt: &impl Print, s: &[u8], b: &[u8], t: Text, w: &[u8]) -> io::Resu
     requires { (length s.now ≤ 65536) × Stands s.now b.now t }
 {
     print_flag(rt, text::is(s, b, t, w))?;
-    let Left::Is(u) = text::strip_bytes(s, b, t, w) else {
+    let Some(u) = text::strip_bytes(s, b, t, w) else {
         print(rt, b"- ")?;
         return Ok(());
     };
@@ -129,7 +129,7 @@ fn with_text(rt: &impl Print, s: &[u8], b: &[u8], t: Text, x: Text) -> io::Resul
 {
     print_order(rt, text::compare(s, b, t, x))?;
     print_flag(rt, text::same(s, b, t, x))?;
-    let Left::Is(u) = text::strip(s, b, t, x) else {
+    let Some(u) = text::strip(s, b, t, x) else {
         print(rt, b"- ")?;
         return Ok(());
     };

@@ -1,22 +1,22 @@
--- A text without its first byte, kind by kind; the loop that strips lent bytes; and texts that were compared.
+-- A text without its first byte, kind by kind, and the loop that strips lent bytes.
 use Prim.Native.Nat.{ℕ, zero, suc, ◌+◌, ◌-◌, ◌≤◌, ◌<◌}
-use mathlib.Core.Bool.{Bool, true, false}
 use mathlib.Core.List.{[], ◌∷◌}
 use mathlib.Core.Option.{none, some}
-use mathlib.Core.Path.{◌≡◌, refl, sym}
+use mathlib.Core.Bool.{Bool, true, false, not}
+use Rattle.std.specs.Prelude.{Option as RustOption, Some, None}
+use Rattle.std.specs.Option.{is_some}
+use mathlib.Core.Path.{◌≡◌, refl, sym, ap}
 use native.Mathlib.Numerals.{add-one}
 use native.Mathlib.Omega.{arith}
 use lib.ListN.{length, get_or, take, drop, drop_of_length-le}
 use lib.Seq.{drop-cons, take-nil}
-use Rattle.rules.specs.Bytes.{Bytes, pick, same, before}
-use Rattle.rules.specs.Order.{cmp}
+use Rattle.rules.specs.Bytes.{Bytes, same}
 use Rattle.rules.specs.Bits.{Bits}
 use Rattle.rules.specs.Layout.{field}
 use Rattle.bits.specs.Packed.{bytes_at}
-use Rattle.saying.specs.Compared.{ordering}
-use Rattle.saying.specs.declared.Ordering.{Ordering}
-use Rattle.saying.specs.declared.Ordering.TheVariants.{Less, Equal, Greater}
 use Rattle.text.specs.Strip.{stripped}
+use Rattle.text.specs.Rest.{Stepped, rest}
+use Rattle.text.specs.declared.Text.{Text}
 use Rattle.text.specs.Laws.{strip_none, strip_short, strip_other, strip_on}
 
 -- No more than n bytes of l
@@ -67,23 +67,10 @@ module _ (w l : Bytes) (i : ℕ) where
     pub bytes_on : get_or w i 0 ≡ c → stripped (drop i w) l ≡ stripped (drop (i + 1) w) m
     bytes_on q = rw (drop-cons w i 0 h, e, add-one i) (strip_on (get_or w i 0) c (drop (suc i) w) m (sym q))
 
--- Texts that were compared
+-- The step is none just where nothing is left
 
-abbrev pub is_equal : Ordering → Bool
-is_equal Less = false
-is_equal Equal = true
-is_equal Greater = false
-
-pub equal_same : (a b : Bytes) (r : Ordering) → ordering r ≡ cmp a b → is_equal r ≡ same a b
-equal_same a b r e = go (same a b) (before a b) r e
-  where
-    go : (p q : Bool) (r : Ordering) → ordering r ≡ pick p Prim.Native.Nat.Ordering.eq (pick q Prim.Native.Nat.Ordering.lt Prim.Native.Nat.Ordering.gt) → is_equal r ≡ p
-    go true q Less e = cc
-    go true q Equal e = refl
-    go true q Greater e = cc
-    go false true Less e = refl
-    go false true Equal e = cc
-    go false true Greater e = refl
-    go false false Less e = refl
-    go false false Equal e = cc
-    go false false Greater e = refl
+pub none_left : (s b : Bytes) (t : Text) (o : RustOption (ℕ × Text)) (r : Bool) → Stepped s b t o → is_some o ≡ not r → r ≡ same (rest s b t) []
+none_left s b t (Some (c, u)) true e h = cc
+none_left s b t (Some (c, u)) false e h = sym (ap (λ (y : Bytes). same y []) e.0)
+none_left s b t None true e h = sym (ap (λ (y : Bytes). same y []) e)
+none_left s b t None false e h = cc

@@ -1,13 +1,11 @@
 -- The bytes that a text still has.
-use Rattle.std.specs.Prelude.{ℕ, ◌+◌, ◌*◌, ◌≤◌, ◌<◌, [], ◌∷◌, ◌≡◌, take, drop}
+use Rattle.std.specs.Prelude.{ℕ, ◌+◌, ◌*◌, ◌<◌, [], ◌∷◌, ◌≡◌, take, drop, Option as RustOption, Some, None}
 use Rattle.rules.specs.Bytes.{Bytes, digits}
 use Rattle.rules.specs.Bits.{bits}
 use Rattle.bits.specs.Packed.{bytes_at}
 use Rattle.saying.specs.Said.{remaining, Inside}
 use Rattle.text.specs.declared.Text.{Text}
 use Rattle.text.specs.declared.Text.TheVariants.{Said, Part, Packed, Digits, Minus}
-use Rattle.text.specs.declared.Step.{Step}
-use Rattle.text.specs.declared.Step.TheVariants.{Byte, End}
 
 -- s is the plan, b the bundle
 abbrev pub rest : Bytes → Bytes → Text → Bytes
@@ -26,6 +24,6 @@ Stands s b (Digits n k) = Unit {0}
 Stands s b (Minus n) = Unit {0}
 
 -- the first byte of t, and the text behind it
-abbrev pub Stepped : Bytes → Bytes → Text → Step → Type 0
-Stepped s b t (Byte c u) = (rest s b t ≡ c ∷ rest s b u) × Stands s b u
-Stepped s b t End = rest s b t ≡ []
+abbrev pub Stepped : Bytes → Bytes → Text → RustOption (ℕ × Text) → Type 0
+Stepped s b t (Some (c, u)) = (rest s b t ≡ c ∷ rest s b u) × Stands s b u
+Stepped s b t None = rest s b t ≡ []

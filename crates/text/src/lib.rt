@@ -10,7 +10,7 @@ ghost use Rattle.saying.specs.Compared.{ordering};
 ghost use Rattle.text.specs.Rest.{rest, Stands, Stepped};
 ghost use Rattle.text.specs.Strip.{stripped, Stripped};
 
-use saying::Ordering;
+use std::cmp::Ordering;
 
 // What is still to come of a text.
 #[derive(Clone, Copy)]
@@ -27,63 +27,47 @@ pub enum Text {
     Minus(u64),
 }
 
-#[derive(Clone, Copy)]
-pub enum Step {
-    Byte(u8, Text),
-    End,
-}
-
-#[derive(Clone, Copy)]
-pub enum Left {
-    Is(Text),
-    Other,
-}
-
-fn said(s: &[u8], b: &[u8], at: usize, k: usize) -> Step
+fn said(s: &[u8], b: &[u8], at: usize, k: usize) -> Option<(u8, Text)>
     requires { (length s.now ≤ 65536) × Inside s.now at k }
     ensures { Stepped s.now b.now (Text.Said at k) result }
 {
-    let saying::Step::Byte(c, p) = saying::next_byte(s, at, k) else {
-        return Step::End;
-    };
-    Step::Byte(c, Text::Said(p.at, p.k))
+    let (c, p) = saying::next_byte(s, at, k)?;
+    Some((c, Text::Said(p.at, p.k)))
 }
 
-fn part(s: &[u8], b: &[u8], at: usize, k: usize, n: usize) -> Step
+fn part(s: &[u8], b: &[u8], at: usize, k: usize, n: usize) -> Option<(u8, Text)>
     requires { (length s.now ≤ 65536) × Inside s.now at k }
     ensures { Stepped s.now b.now (Text.Part at k n) result }
 {
     if n == 0 {
-        return Step::End;
+        return None;
     }
-    let saying::Step::Byte(c, p) = saying::next_byte(s, at, k) else {
-        return Step::End;
-    };
-    Step::Byte(c, Text::Part(p.at, p.k, n - 1))
+    let (c, p) = saying::next_byte(s, at, k)?;
+    Some((c, Text::Part(p.at, p.k, n - 1)))
 }
 
-fn packed(s: &[u8], b: &[u8], p: usize, n: usize) -> Step
+fn packed(s: &[u8], b: &[u8], p: usize, n: usize) -> Option<(u8, Text)>
     requires { p + 8 * n < 18446744073709551616 }
     ensures { Stepped s.now b.now (Text.Packed p n) result }
 {
     if n == 0 {
-        return Step::End;
+        return None;
     }
-    Step::Byte(bits::byte(b, p), Text::Packed(p + 8, n - 1))
+    Some((bits::byte(b, p), Text::Packed(p + 8, n - 1)))
 }
 
-fn digits(s: &[u8], b: &[u8], n: u64, k: usize) -> Step
+fn digits(s: &[u8], b: &[u8], n: u64, k: usize) -> Option<(u8, Text)>
     ensures { Stepped s.now b.now (Text.Digits n k) result }
 {
     let count = decimal::digit_count(n);
     if count <= k {
-        return Step::End;
+        return None;
     }
-    Step::Byte(decimal::digit(n, k), Text::Digits(n, k + 1))
+    Some((decimal::digit(n, k), Text::Digits(n, k + 1)))
 }
 
 // The first byte of a text, and what comes behind it.
-pub fn next(s: &[u8], b: &[u8], t: Text) -> Step
+pub fn next(s: &[u8], b: &[u8], t: Text) -> Option<(u8, Text)>
     requires { (length s.now ≤ 65536) × Stands s.now b.now t }
     ensures { Stepped s.now b.now t result }
 {
@@ -92,7 +76,7 @@ pub fn next(s: &[u8], b: &[u8], t: Text) -> Step
         Text::Part(at, k, n) => part(s, b, at, k, n),
         Text::Packed(p, n) => packed(s, b, p, n),
         Text::Digits(n, k) => digits(s, b, n, k),
-        Text::Minus(n) => Step::Byte(45, Text::Digits(n, 0)),
+        Text::Minus(n) => Some((45, Text::Digits(n, 0))),
     }
 }
 
@@ -102,20 +86,16 @@ fn is_steps(s: &[u8], b: &[u8], t: Text, w: &[u8]) -> bool
     ensures { result ≡ same (rest s.now b.now t) w.now }
 {
     let mut u = t;
-    let mut i: usize = 0;
-    loop {
-        let Step::Byte(c, v) = next(s, b, u) else {
-            return i == w.len();
-        };
-        if w.len() <= i {
+    for d in w {
+        let Some((met, v)) = next(s, b, u) else {
             return false;
-        }
-        if w[i] != c {
+        };
+        if *d != met {
             return false;
         }
         u = v;
-        i += 1;
     }
+    next(s, b, u).is_none()
 }
 
 // Whether a text has just the bytes w.
@@ -136,25 +116,19 @@ pub fn compare(s: &[u8], b: &[u8], t: Text, u: Text) -> Ordering
 {
     let mut x = t;
     let mut y = u;
-    loop {
-        let right = next(s, b, y);
-        let Step::Byte(c, v) = next(s, b, x) else {
-            let Step::Byte(d, w) = right else {
-                return Ordering::Equal;
-            };
-            return Ordering::Less;
-        };
-        let Step::Byte(d, w) = right else {
+    while let Some((c, v)) = next(s, b, x) {
+        let Some((e, w)) = next(s, b, y) else {
             return Ordering::Greater;
         };
-        if c < d {
-            return Ordering::Less;
-        }
-        if d < c {
-            return Ordering::Greater;
+        if c != e {
+            return c.cmp(&e);
         }
         x = v;
         y = w;
+    }
+    match next(s, b, y) {
+        Some((_, _)) => Ordering::Less,
+        None => Ordering::Equal,
     }
 }
 
@@ -163,11 +137,7 @@ fn same_steps(s: &[u8], b: &[u8], t: Text, u: Text) -> bool
     requires { (length s.now ≤ 65536) × Stands s.now b.now t × Stands s.now b.now u }
     ensures { result ≡ same (rest s.now b.now t) (rest s.now b.now u) }
 {
-    match compare(s, b, t, u) {
-        Ordering::Less => false,
-        Ordering::Equal => true,
-        Ordering::Greater => false,
-    }
+    compare(s, b, t, u).is_eq()
 }
 
 // Whether two texts have the same bytes.
@@ -186,43 +156,35 @@ pub fn same(s: &[u8], b: &[u8], t: Text, u: Text) -> bool
 }
 
 // What is left of t where the bytes w stand in front.
-pub fn strip_bytes(s: &[u8], b: &[u8], t: Text, w: &[u8]) -> Left
+pub fn strip_bytes(s: &[u8], b: &[u8], t: Text, w: &[u8]) -> Option<Text>
     requires { (length s.now ≤ 65536) × Stands s.now b.now t }
     ensures { Stripped s.now b.now (stripped w.now (rest s.now b.now t)) result }
 {
     let mut u = t;
-    let mut i: usize = 0;
-    while i < w.len() {
-        let Step::Byte(c, v) = next(s, b, u) else {
-            return Left::Other;
-        };
-        if w[i] != c {
-            return Left::Other;
+    for d in w {
+        let (c, v) = next(s, b, u)?;
+        if *d != c {
+            return None;
         }
         u = v;
-        i += 1;
     }
-    Left::Is(u)
+    Some(u)
 }
 
 // What is left of t where the text x stands in front.
-pub fn strip(s: &[u8], b: &[u8], t: Text, x: Text) -> Left
+pub fn strip(s: &[u8], b: &[u8], t: Text, x: Text) -> Option<Text>
     requires { (length s.now ≤ 65536) × Stands s.now b.now t × Stands s.now b.now x }
     ensures { Stripped s.now b.now (stripped (rest s.now b.now x) (rest s.now b.now t)) result }
 {
     let mut u = t;
     let mut y = x;
-    loop {
-        let Step::Byte(d, z) = next(s, b, y) else {
-            return Left::Is(u);
-        };
-        let Step::Byte(c, v) = next(s, b, u) else {
-            return Left::Other;
-        };
+    while let Some((d, z)) = next(s, b, y) {
+        let (c, v) = next(s, b, u)?;
         if c != d {
-            return Left::Other;
+            return None;
         }
         u = v;
         y = z;
     }
+    Some(u)
 }

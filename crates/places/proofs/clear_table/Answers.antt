@@ -9,15 +9,15 @@ use Rattle.places.proofs.clear_table.Goals as goal
 pub end-n-requires : goal.end-n-requires
 end-n-requires c = let z = c in (z.requires, some_places z.args.s.now)
 
-pub slice_bounds-clear_u64-end : goal.slice_bounds-clear_u64-end
-slice_bounds-clear_u64-end c = let z = c in
+pub slice_bounds-clear-end : goal.slice_bounds-clear-end
+slice_bounds-clear-end c = let z = c in
     omega (arith, c.end-n.ensures, whole_end z.args.s.now, places_fit z.args.s.now z.args.tab.now z.requires)
 
-pub slice_bounds-clear_u64-end-2 : goal.slice_bounds-clear_u64-end-2
-slice_bounds-clear_u64-end-2 c = let z = c in
+pub slice_bounds-clear-end-2 : goal.slice_bounds-clear-end-2
+slice_bounds-clear-end-2 c = let z = c in
     sym (length-take-le c.end-n.result z.args.tab.now (omega (arith, c.end-n.ensures, whole_end z.args.s.now, places_fit z.args.s.now z.args.tab.now z.requires)))
 
 pub returns : goal.returns
 returns c = let z = c in
     let e = c.end-n in
-    zeroed_whole z.args.s.now z.args.tab.now z.requires e.result _ (omega (arith, e.ensures, whole_end z.args.s.now)) c.clear_u64.ensures
+    zeroed_whole z.args.s.now z.args.tab.now z.requires e.result _ (omega (arith, e.ensures, whole_end z.args.s.now)) c.clear.ensures

@@ -11,7 +11,7 @@ returns-in_default c = let z = c in
     alone_better z.args.s.now (found_name z.args.s.now z.args.after) z.args.best z.args.c c.is_above.result c.in_default.is c.is_above.ensures
 
 pub name-requires : goal.name-requires
-name-requires c = (c.requires.0, subst (FoundIn c.args.s.now) c.in-At.is c.requires.2)
+name-requires c = (c.requires.0, subst (FoundIn c.args.s.now) c.in-Some.is c.requires.2)
 
 pub is_before-requires : goal.is_before-requires
 is_before-requires c = let z = c in
@@ -20,8 +20,8 @@ is_before-requires c = let z = c in
 
 pub returns-then-is_before : goal.returns-then-is_before
 returns-then-is_before c = let z = c in
-    not_better z.args.s.now _ z.args.c c.name.result c.name-2.result c.is_before.result c.is_before.ensures c.name.ensures.0 c.name-2.ensures.0 (found_name z.args.s.now z.args.after) z.args.best c.in-At.is c.if-is_before.true
+    not_better z.args.s.now _ z.args.c c.name.result c.name-2.result c.is_before.result c.is_before.ensures c.name.ensures.0 c.name-2.ensures.0 (found_name z.args.s.now z.args.after) z.args.best c.in-Some.is c.if-is_before.true
 
 pub returns : goal.returns
 returns c = let z = c in
-    better_by z.args.s.now _ z.args.c c.name.result c.name-2.result c.is_before.result c.is_before.ensures c.name.ensures.0 c.name-2.ensures.0 (found_name z.args.s.now z.args.after) z.args.best c.is_above-2.result c.in-At.is c.if-is_before.false c.is_above-2.ensures
+    better_by z.args.s.now _ z.args.c c.name.result c.name-2.result c.is_before.result c.is_before.ensures c.name.ensures.0 c.name-2.ensures.0 (found_name z.args.s.now z.args.after) z.args.best c.is_above-2.result c.in-Some.is c.if-is_before.false c.is_above-2.ensures

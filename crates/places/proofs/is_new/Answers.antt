@@ -1,23 +1,22 @@
-use Rattle.places.proofs.Counting.{Meeting, meet_start, meet_end, meet_in, meet_found, meet_on}
+use Rattle.places.proofs.Counting.{meet_start, meet_end, meet_in, meet_found, meet_on}
 use Rattle.places.proofs.Fields.{index}
 use Rattle.places.proofs.Walking.{walk_within, says_by}
 use Rattle.rules.specs.Scan.{saying}
 use mathlib.Core.Path.{◌∙◌, sym}
 use native.Mathlib.Omega.{arith}
-use borrow.Author.Rules.{rules}
 use Rattle.places.proofs.is_new.Goals as goal
 
 pub overflow_add-c : goal.overflow_add-c
 overflow_add-c c = omega (arith, (index c.args.s.now c.args.tab.now c.requires.0 c.args.i c.requires.1).small)
 
-pub loop-left-init : goal.loop-left-init
-loop-left-init c = meet_start c.args.s.now c.args.i c.requires.0.answers c.requires.1 (saying c.args.s.now c.args.q) c.args.n
+pub loop-init : goal.loop-init
+loop-init c = meet_start c.args.s.now c.args.i c.requires.0.answers c.requires.1 (saying c.args.s.now c.args.q) c.args.n
 
 pub name-requires : goal.name-requires
 name-requires c = let z = c in
-    let l = c.loop-left in
-    let lt = meet_in z.args.s.now z.args.i (saying z.args.s.now z.args.q) z.args.n l.c l.left l.invariant c.loop-left-test.true z.requires.2 in
-    (z.requires.0, walk_within z.args.s.now z.args.i l.invariant.number l.c l.invariant.walk lt)
+    let l = c.loop in
+    let lt = meet_in z.args.s.now z.args.i (saying z.args.s.now z.args.q) z.args.n l.c l.counter l.invariant c.loop-test.true z.requires.2 in
+    (z.requires.0, walk_within z.args.s.now z.args.i l.counter l.c l.invariant.walk lt)
 
 pub is_same-requires : goal.is_same-requires
 is_same-requires c = let z = c in
@@ -26,28 +25,25 @@ is_same-requires c = let z = c in
 
 pub returns-then-is_same : goal.returns-then-is_same
 returns-then-is_same c = let z = c in
-    let l = c.loop-left in
+    let l = c.loop in
     let w = saying z.args.s.now z.args.q in
     let e = sym c.if-is_same.true ∙ says_by z.args.s.now l.c c.name.result w c.is_same.result c.is_same.ensures c.name.ensures.0 in
-    meet_found z.args.s.now z.args.i w z.args.n l.c l.left l.invariant c.loop-left-test.true z.requires.2 e
+    meet_found z.args.s.now z.args.i w z.args.n l.c l.counter l.invariant c.loop-test.true z.requires.2 e
 
 pub end-c-requires : goal.end-c-requires
 end-c-requires c = let z = c in
-    let l = c.loop-left in
-    let lt = meet_in z.args.s.now z.args.i (saying z.args.s.now z.args.q) z.args.n l.c l.left l.invariant c.loop-left-test.true z.requires.2 in
-    (z.requires.0, walk_within z.args.s.now z.args.i l.invariant.number l.c l.invariant.walk lt)
+    let l = c.loop in
+    let lt = meet_in z.args.s.now z.args.i (saying z.args.s.now z.args.q) z.args.n l.c l.counter l.invariant c.loop-test.true z.requires.2 in
+    (z.requires.0, walk_within z.args.s.now z.args.i l.counter l.c l.invariant.walk lt)
 
-pub loop-left-smaller : goal.loop-left-smaller
-loop-left-smaller c = omega (arith, c.loop-left-test.true)
-
-pub loop-left-preserved : goal.loop-left-preserved
-loop-left-preserved c = let z = c in
-    let l = c.loop-left in
+pub loop-preserved : goal.loop-preserved
+loop-preserved c = let z = c in
+    let l = c.loop in
     let w = saying z.args.s.now z.args.q in
     let e = sym c.if-is_same.false ∙ says_by z.args.s.now l.c c.name.result w c.is_same.result c.is_same.ensures c.name.ensures.0 in
-    meet_on z.args.s.now z.args.i w z.args.n l.c l.left l.invariant c.loop-left-test.true z.requires.2 c.end-c.result c.end-c.ensures e
+    meet_on z.args.s.now z.args.i w z.args.n l.c l.counter l.invariant c.loop-test.true z.requires.2 c.end-c.result c.end-c.ensures e
 
 pub returns : goal.returns
 returns c = let z = c in
-    let l = c.loop-left in
-    meet_end z.args.s.now z.args.i (saying z.args.s.now z.args.q) z.args.n l.c l.left l.invariant c.loop-left-test.false
+    let l = c.loop in
+    meet_end z.args.s.now z.args.i (saying z.args.s.now z.args.q) z.args.n l.c l.counter l.invariant c.loop-test.false

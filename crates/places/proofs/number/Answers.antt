@@ -25,4 +25,4 @@ returns-in_default c = let o = sym (other_by c.args.s.now c.args.i c.start-b.res
 
 pub returns : goal.returns
 returns c = let o = sym (other_by c.args.s.now c.args.i c.start-b.result c.byte-c.result c.is_other.result c.is_other.ensures c.byte-c.ensures c.start-b.ensures.0) ∙ c.if-is_other.false in
-    number_read c.args.s.now c.args.i c.requires.0.answers c.requires.1 o c.decimal_value.result c.start-b.result c.minus_end-d.result c.whole_end.result c.start-b.ensures.0 c.minus_end-d.ensures c.whole_end.ensures c.decimal_value.ensures _ c.in-Is.is
+    number_read c.args.s.now c.args.i c.requires.0.answers c.requires.1 o c.decimal_value.result c.start-b.result c.minus_end-d.result c.whole_end.result c.start-b.ensures.0 c.minus_end-d.ensures c.whole_end.ensures c.decimal_value.ensures _ c.in-Some.is

@@ -1,14 +1,11 @@
 use mathlib.Core.Bool.{not}
-use Prim.Native.Nat.{◌≤◌}
-use Rattle.places.proofs.Plain.{plain_in, plain_first, plain_less, plain_more, plain_on}
+use Rattle.places.proofs.Plain.{plain_in, plain_first, plain_differ, plain_on}
+use Rattle.saying.specs.Compared.{ordering}
 use Rattle.places.proofs.Walking.{yes_not}
-use Rattle.rules.specs.Order.{and_left, and_right, cmp}
-use Rattle.rules.specs.Scan.{saying}
-use Rattle.saying.specs.Said.{remaining}
-use borrow.Author.Rules.{rules}
+use Rattle.rules.specs.Order.{and_left, and_right}
 use lib.ListN.{length}
 use mathlib.Core.Bool.{◌&&◌}
-use mathlib.Core.Path.{◌∙◌, ◌≡◌, ap, refl, sym}
+use mathlib.Core.Path.{◌∙◌, ap, refl, sym}
 use native.Mathlib.Omega.{arith}
 use Rattle.places.proofs.order.Goals as goal
 
@@ -20,14 +17,7 @@ returns-then-a-b c = let l = c.loop-i in
     let g = yes_not (c.is_plain.result && c.is_plain-in-loop-i.result) (ap not c.if-not-is_plain.false) in
     let x = sym c.is_plain.ensures ∙ and_left c.is_plain.result c.is_plain-in-loop-i.result g in
     let y = sym c.is_plain-in-loop-i.ensures ∙ and_right c.is_plain.result c.is_plain-in-loop-i.result g in
-    plain_less c.args.s.now l.p c.byte-a.result c.byte-a.ensures x l.q c.byte-b.result c.byte-b.ensures y c.if-a-b.true ∙ sym l.invariant.2
-
-pub returns-then-b-a : goal.returns-then-b-a
-returns-then-b-a c = let l = c.loop-i in
-    let g = yes_not (c.is_plain.result && c.is_plain-in-loop-i.result) (ap not c.if-not-is_plain.false) in
-    let x = sym c.is_plain.ensures ∙ and_left c.is_plain.result c.is_plain-in-loop-i.result g in
-    let y = sym c.is_plain-in-loop-i.ensures ∙ and_right c.is_plain.result c.is_plain-in-loop-i.result g in
-    plain_more c.args.s.now l.p c.byte-a.result c.byte-a.ensures x l.q c.byte-b.result c.byte-b.ensures y c.if-b-a.true ∙ sym l.invariant.2
+    ap ordering c.cmp.ensures ∙ plain_differ c.args.s.now l.p c.byte-a.result c.byte-a.ensures x l.q c.byte-b.result c.byte-b.ensures y c.if-a-b.true ∙ sym l.invariant.2
 
 pub overflow_add-p-in-loop-i : goal.overflow_add-p-in-loop-i
 overflow_add-p-in-loop-i c = omega arith
@@ -47,4 +37,4 @@ loop-i-preserved c = let l = c.loop-i in
     let g = yes_not (c.is_plain.result && c.is_plain-in-loop-i.result) (ap not c.if-not-is_plain.false) in
     let x = sym c.is_plain.ensures ∙ and_left c.is_plain.result c.is_plain-in-loop-i.result g in
     let y = sym c.is_plain-in-loop-i.ensures ∙ and_right c.is_plain.result c.is_plain-in-loop-i.result g in
-    (omega (arith, c.requires.0, plain_in c.args.s.now l.p c.byte-a.result c.byte-a.ensures x), omega (arith, c.requires.0, plain_in c.args.s.now l.q c.byte-b.result c.byte-b.ensures y), l.invariant.2 ∙ plain_on c.args.s.now l.p c.byte-a.result c.byte-a.ensures x l.q c.byte-b.result c.byte-b.ensures y c.if-a-b.false c.if-b-a.false)
+    (omega (arith, c.requires.0, plain_in c.args.s.now l.p c.byte-a.result c.byte-a.ensures x), omega (arith, c.requires.0, plain_in c.args.s.now l.q c.byte-b.result c.byte-b.ensures y), l.invariant.2 ∙ plain_on c.args.s.now l.p c.byte-a.result c.byte-a.ensures x l.q c.byte-b.result c.byte-b.ensures y c.if-a-b.false)

@@ -1,14 +1,9 @@
 use Prim.Native.Nat.{◌≤◌}
-use Rattle.places.proofs.Plain.{plain_in, plain_first, plain_less, plain_more, plain_on}
-use Rattle.places.proofs.Walking.{yes_not}
-use Rattle.rules.specs.Order.{and_left, and_right, cmp}
+use Rattle.rules.specs.Order.{cmp}
 use Rattle.rules.specs.Scan.{saying}
 use Rattle.saying.specs.Said.{remaining}
-use borrow.Author.Rules.{rules}
 use lib.ListN.{length}
-use mathlib.Core.Bool.{◌&&◌}
-use mathlib.Core.Path.{◌∙◌, ◌≡◌, ap, refl, sym}
-use native.Mathlib.Omega.{arith}
+use mathlib.Core.Path.{◌≡◌}
 use Rattle.places.proofs.order.Given as goal
 
 abbrev pub invariant-loop-i : goal.invariant-loop-i

@@ -9,7 +9,7 @@ use Rattle.plan_read.proofs.read_plan.Goals as goal
 
 pub returns-then-s-gt-BYTES : goal.returns-then-s-gt-BYTES
 returns-then-s-gt-BYTES c = let h = long_text c.args.s.now c.if-s-gt-BYTES.true in
-    (record { value = h; tab_after = c.clear_u64.ensures ∙ table_zero c.args.s.now (length c.args.tab.now) 7 h (λ z. omega arith) })
+    (record { value = h; tab_after = c.clear.ensures ∙ table_zero c.args.s.now (length c.args.tab.now) 7 h (λ z. omega arith) })
 
 pub read_value-r-requires : goal.read_value-r-requires
 read_value-r-requires c = let w = spaces_go c.args.s.now 0 (omega arith) in
@@ -18,17 +18,17 @@ read_value-r-requires c = let w = spaces_go c.args.s.now 0 (omega arith) in
 pub returns-then-v-ne0 : goal.returns-then-v-ne0
 returns-then-v-ne0 c = let a = c.args in
     let r = c.read_value-r in
-    let h = c.judge-v.ensures ∙ judged_answer a.s.now (length a.tab.now) c.spaces_end.result c.clear_u64.new.b r.result r.new.tab
-    c.if-s-gt-BYTES.false c.spaces_end.ensures c.clear_u64.ensures r.ensures in
-    let z = c.clear_u64-then-v-ne0.ensures ∙ ap (λ (k : ℕ). replicate k 0) (r.auto.tab ∙ c.clear_u64.auto.b) in
+    let h = c.judge-v.ensures ∙ judged_answer a.s.now (length a.tab.now) c.spaces_end.result c.clear.new.b r.result r.new.tab
+    c.if-s-gt-BYTES.false c.spaces_end.ensures c.clear.ensures r.ensures in
+    let z = c.clear-then-v-ne0.ensures ∙ ap (λ (k : ℕ). replicate k 0) (r.auto.tab ∙ c.clear.auto.b) in
     (record { value = h; tab_after = z ∙ table_zero a.s.now (length a.tab.now) c.judge-v.result h c.if-v-ne0.true })
 
 pub returns-else-v-ne0 : goal.returns-else-v-ne0
 returns-else-v-ne0 c = let a = c.args in
     let r = c.read_value-r in
-    let h = c.judge-v.ensures ∙ judged_answer a.s.now (length a.tab.now) c.spaces_end.result c.clear_u64.new.b r.result r.new.tab
-    c.if-s-gt-BYTES.false c.spaces_end.ensures c.clear_u64.ensures r.ensures in (record {
+    let h = c.judge-v.ensures ∙ judged_answer a.s.now (length a.tab.now) c.spaces_end.result c.clear.new.b r.result r.new.tab
+    c.if-s-gt-BYTES.false c.spaces_end.ensures c.clear.ensures r.ensures in (record {
       value = h;
-      tab_after = judged_table a.s.now (length a.tab.now) c.spaces_end.result c.clear_u64.new.b r.result r.new.tab
-          c.if-s-gt-BYTES.false c.spaces_end.ensures c.clear_u64.ensures r.ensures (sym h ∙ c.if-v-ne0.false);
+      tab_after = judged_table a.s.now (length a.tab.now) c.spaces_end.result c.clear.new.b r.result r.new.tab
+          c.if-s-gt-BYTES.false c.spaces_end.ensures c.clear.ensures r.ensures (sym h ∙ c.if-v-ne0.false);
     })

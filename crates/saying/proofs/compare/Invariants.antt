@@ -1,13 +1,8 @@
-use Prim.Native.Nat.{◌+◌}
 use Rattle.rules.specs.Order.{cmp}
 use Rattle.rules.specs.Scan.{saying}
-use Rattle.saying.proofs.Comparing.{cmp_less, cmp_more, cmp_on}
-use Rattle.saying.proofs.Remaining.{inside_start}
-use Rattle.saying.specs.Said.{Inside, Stepped, remaining}
-use borrow.Author.Rules.{rules}
+use Rattle.saying.specs.Said.{Inside, remaining}
 use lib.ListN.{length}
-use mathlib.Core.Path.{◌∙◌, ◌≡◌, ap, ap₂, refl, subst, sym}
-use native.Mathlib.Omega.{arith}
+use mathlib.Core.Path.{◌≡◌}
 use Rattle.saying.proofs.compare.Given as goal
 
 abbrev pub invariant-loop-a : goal.invariant-loop-a

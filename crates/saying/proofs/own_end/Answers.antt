@@ -1,10 +1,6 @@
-use Prim.Native.Nat.{◌-◌}
-use Rattle.scan.proofs.Runs.{run_end, run_off, run_on}
-use Rattle.saying.specs.Said.{is_own, own_end}
-use borrow.Author.Rules.{rules}
-use borrow.Author.Tests.{not-false, not-true}
-use lib.ListN.{length}
-use mathlib.Core.Path.{◌∙◌, ◌≡◌, refl, sym}
+use Rattle.scan.proofs.Runs.{run_off, run_on, run_out}
+use Rattle.saying.specs.Said.{is_own}
+use mathlib.Core.Path.{◌∙◌, refl, sym}
 use Rattle.saying.proofs.own_end.Goals as goal
 
 pub loop-j-init : goal.loop-j-init
@@ -19,4 +15,5 @@ loop-j-preserved c = let l = c.loop-j in
     l.invariant ∙ run_on is_own c.args.s.now l.j c.loop-j-test.true (sym c.is_own.ensures ∙ c.if-not-is_own.false)
 
 pub returns : goal.returns
-returns c = sym (c.loop-j.invariant ∙ run_end is_own c.args.s.now c.loop-j.j c.loop-j-test.false)
+returns c = let l = c.loop-j in
+    c.max.ensures ∙ run_out is_own c.args.s.now c.args.i l.j c.loop-j-test.false l.auto.j-end l.invariant

@@ -1,17 +1,9 @@
-use Prim.Native.Nat.{◌+◌}
 use Rattle.rules.specs.Bytes.{byte_at, is_in}
 use Rattle.rules.specs.Scan.{exponent_end, some_digits_end}
-use Rattle.rules.specs.State.{depth}
-use Rattle.scan.proofs.Bounds.{sign_near}
 use Rattle.rules.specs.Picks.{or_false, picks, yes}
-use borrow.Author.Rules.{rules}
 use mathlib.Core.List.{[], ◌∷◌}
 use mathlib.Core.Path.{◌∙◌, ap}
-use native.Mathlib.Omega.{arith}
 use Rattle.scan.proofs.exponent_end.Goals as goal
-
-pub some_digits_end-requires : goal.some_digits_end-requires
-some_digits_end-requires c = omega (arith, c.sign_end.ensures, sign_near c.args.s.now (c.args.i + 1))
 
 pub returns-then-c : goal.returns-then-c
 unfolding exponent_end

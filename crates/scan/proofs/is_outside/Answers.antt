@@ -1,12 +1,8 @@
 use Rattle.scan.proofs.Numbers.{tail_number, outside_part, outside_short, outside_large, outside_zero, outside_minus, outside_plus}
-use Rattle.scan.proofs.Bounds.{minus_near, whole_goes}
+use Rattle.scan.proofs.Bounds.{whole_goes}
 use mathlib.Core.Path.{◌∙◌, sym}
 use native.Mathlib.Omega.{arith}
-use borrow.Author.Rules.{rules}
 use Rattle.scan.proofs.is_outside.Goals as goal
-
-pub whole_end-w-requires : goal.whole_end-w-requires
-whole_end-w-requires c = omega (arith, c.minus_end-d.ensures, minus_near c.args.s.now c.args.i, c.requires)
 
 pub tail_end-requires : goal.tail_end-requires
 tail_end-requires c = (omega (arith, c.whole_end-w.ensures, whole_goes c.args.s.now c.minus_end-d.result), c.requires.1)
@@ -14,9 +10,6 @@ tail_end-requires c = (omega (arith, c.whole_end-w.ensures, whole_goes c.args.s.
 pub returns-then-w-tail_end : goal.returns-then-w-tail_end
 returns-then-w-tail_end c = let e = tail_number c.args.s.now c.args.i _ _ _ c.minus_end-d.ensures c.whole_end-w.ensures c.tail_end.ensures in
     outside_part _ _ _ _ _ c.minus_end-d.ensures c.whole_end-w.ensures e c.if-w-tail_end.true
-
-pub overflow_add-d : goal.overflow_add-d
-overflow_add-d c = omega (arith, c.minus_end-d.ensures, minus_near c.args.s.now c.args.i, c.requires)
 
 pub returns-then-c-w : goal.returns-then-c-w
 returns-then-c-w c = let e = tail_number c.args.s.now c.args.i _ _ _ c.minus_end-d.ensures c.whole_end-w.ensures c.tail_end.ensures in
@@ -31,15 +24,15 @@ returns-in_default c = let e = tail_number c.args.s.now c.args.i _ _ _ c.minus_e
 
 pub returns-then-n-eq0 : goal.returns-then-n-eq0
 returns-then-n-eq0 c = let e = tail_number c.args.s.now c.args.i _ _ _ c.minus_end-d.ensures c.whole_end-w.ensures c.tail_end.ensures in
-    let h = sym c.in-Is.is ∙ c.decimal_value.ensures in
+    let h = sym c.in-Some.is ∙ c.decimal_value.ensures in
     outside_zero _ _ _ _ _ c.minus_end-d.ensures c.whole_end-w.ensures e c.if-w-tail_end.false _ _ c.byte-c.ensures h c.if-c-eq45.true c.if-n-eq0.true
 
 pub returns-then-c-eq45 : goal.returns-then-c-eq45
 returns-then-c-eq45 c = let e = tail_number c.args.s.now c.args.i _ _ _ c.minus_end-d.ensures c.whole_end-w.ensures c.tail_end.ensures in
-    let h = sym c.in-Is.is ∙ c.decimal_value.ensures in
+    let h = sym c.in-Some.is ∙ c.decimal_value.ensures in
     outside_minus _ _ _ _ _ c.minus_end-d.ensures c.whole_end-w.ensures e c.if-w-tail_end.false _ _ c.byte-c.ensures h c.if-c-eq45.true c.if-n-eq0.false
 
 pub returns : goal.returns
 returns c = let e = tail_number c.args.s.now c.args.i _ _ _ c.minus_end-d.ensures c.whole_end-w.ensures c.tail_end.ensures in
-    let h = sym c.in-Is.is ∙ c.decimal_value.ensures in
+    let h = sym c.in-Some.is ∙ c.decimal_value.ensures in
     outside_plus _ _ _ _ _ c.minus_end-d.ensures c.whole_end-w.ensures e c.if-w-tail_end.false _ _ c.byte-c.ensures h c.if-c-eq45.false

@@ -1,11 +1,7 @@
 use Rattle.scan.proofs.Numbers.{tail_number}
-use Rattle.scan.proofs.Bounds.{minus_near, whole_goes}
+use Rattle.scan.proofs.Bounds.{whole_goes}
 use native.Mathlib.Omega.{arith}
-use borrow.Author.Rules.{rules}
 use Rattle.scan.proofs.number_end.Goals as goal
-
-pub whole_end-requires : goal.whole_end-requires
-whole_end-requires c = omega (arith, c.minus_end.ensures, minus_near c.args.s.now c.args.i, c.requires)
 
 pub tail_end-requires : goal.tail_end-requires
 tail_end-requires c = (omega (arith, c.whole_end.ensures, whole_goes c.args.s.now c.minus_end.result), c.requires.1)

@@ -1,18 +1,12 @@
-use Prim.Native.Nat.{◌+◌, ◌-◌, ℕ}
+use Prim.Native.Nat.{◌+◌, ℕ}
 use Rattle.strings.proofs.Ends.{Going, going_broken, going_end, going_on, going_run, going_start}
 use Rattle.strings.proofs.Lengths.{char_in, char_most}
-use borrow.Author.Rules.{rules}
-use lib.ListN.{length}
 use mathlib.Core.Path.{◌∙◌, subst, sym}
 use native.Mathlib.Omega.{arith}
 use Rattle.strings.proofs.chars_end.Goals as goal
 
 pub loop-i-init : goal.loop-i-init
 loop-i-init c = going_start c.args.s.now c.args.i c.requires.0
-
-pub overflow_add-result : goal.overflow_add-result
-overflow_add-result c = let g = going_run c.args.s.now c.args.i c.loop-i.j c.plain_end-k.result c.loop-i.invariant c.plain_end-k.ensures in
-    omega (arith, g.near)
 
 pub returns-then-byte-eq34 : goal.returns-then-byte-eq34
 returns-then-byte-eq34 c = let g = going_run c.args.s.now c.args.i c.loop-i.j c.plain_end-k.result c.loop-i.invariant c.plain_end-k.ensures in

@@ -1,15 +1,8 @@
-use Prim.Native.Nat.{◌-◌}
-use Rattle.scan.proofs.Runs.{run_end, run_off, run_on}
-use Rattle.strings.proofs.Quick.{quote_found, quote_missed, no_quote}
-use Rattle.strings.specs.Plain.{is_plain, plain_end}
-use borrow.Author.Rules.{rules}
-use borrow.Author.Tests.{not-false, not-true}
-use lib.ListN.{length}
-use mathlib.Core.Path.{◌∙◌, ◌≡◌, ap, refl, sym}
+use Rattle.scan.proofs.Runs.{run_off, run_on}
+use Rattle.strings.proofs.Quick.{quote_found, quote_missed}
+use Rattle.strings.specs.Plain.{is_plain}
+use mathlib.Core.Path.{◌∙◌, ap, sym}
 use Rattle.strings.proofs.plain_string_end.Goals as goal
-
-pub loop-j-init : goal.loop-j-init
-loop-j-init c = refl
 
 pub returns-then-c-eq34 : goal.returns-then-c-eq34
 returns-then-c-eq34 c = let l = c.loop-j in
@@ -22,7 +15,3 @@ returns-then-not-is_plain c = let l = c.loop-j in
 pub loop-j-preserved : goal.loop-j-preserved
 loop-j-preserved c = let l = c.loop-j in
     l.invariant ∙ run_on is_plain c.args.s.now l.j c.loop-j-test.true (sym c.is_plain.ensures ∙ c.if-not-is_plain.false)
-
-pub returns : goal.returns
-returns c = let l = c.loop-j in
-    quote_missed c.args.s.now c.args.i l.j (l.invariant ∙ run_end is_plain c.args.s.now l.j c.loop-j-test.false) (no_quote c.args.s.now l.j c.loop-j-test.false)

@@ -1,15 +1,6 @@
-use Prim.Native.Nat.{◌-◌}
-use Rattle.scan.proofs.Runs.{run_end, run_off, run_on}
-use Rattle.strings.proofs.Quick.{quote_found, quote_missed, no_quote}
-use Rattle.strings.specs.Plain.{is_plain, plain_end}
-use borrow.Author.Rules.{rules}
-use borrow.Author.Tests.{not-false, not-true}
-use lib.ListN.{length}
-use mathlib.Core.Path.{◌∙◌, ◌≡◌, ap, refl, sym}
+use Rattle.strings.specs.Plain.{plain_end}
+use mathlib.Core.Path.{◌≡◌}
 use Rattle.strings.proofs.plain_string_end.Given as goal
 
 abbrev pub invariant-loop-j : goal.invariant-loop-j
 invariant-loop-j l = plain_end l.s l.i ≡ plain_end l.s l.j
-
-abbrev pub decreases-loop-j : goal.decreases-loop-j
-decreases-loop-j l = length l.s - l.j

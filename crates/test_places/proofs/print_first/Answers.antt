@@ -11,4 +11,4 @@ pub print_found-requires : goal.print_found-requires
 print_found-requires g c = (c.requires, found_child c.args.s.now c.requires.answers 0 (some_places c.args.s.now) 0 c.first-f.result c.first-f.ensures)
 
 pub print_next-requires : goal.print_next-requires
-print_next-requires g c = (c.requires, subst (FoundIn c.args.s.now) c.in-At.is (found_child c.args.s.now c.requires.answers 0 (some_places c.args.s.now) 0 c.first-f.result c.first-f.ensures))
+print_next-requires g c = (c.requires, subst (FoundIn c.args.s.now) c.in-Some.is (found_child c.args.s.now c.requires.answers 0 (some_places c.args.s.now) 0 c.first-f.result c.first-f.ensures))

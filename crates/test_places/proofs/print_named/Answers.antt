@@ -17,7 +17,7 @@ pub print_found-requires-2 : goal.print_found-requires-2
 print_found-requires-2 g c = (c.requires, found_member c.args.s.now c.requires.answers 0 (some_places c.args.s.now) _ c.member-e.result c.member-e.ensures)
 
 pub name-requires : goal.name-requires
-name-requires g c = (c.requires, subst (FoundIn c.args.s.now) c.in-At.is (found_member c.args.s.now c.requires.answers 0 (some_places c.args.s.now) _ c.member-a.result c.member-a.ensures))
+name-requires g c = (c.requires, subst (FoundIn c.args.s.now) c.in-Some.is (found_member c.args.s.now c.requires.answers 0 (some_places c.args.s.now) _ c.member-a.result c.member-a.ensures))
 
 pub member-q-requires : goal.member-q-requires
 member-q-requires g c = (c.requires, some_places c.args.s.now, omega (arith, c.name.ensures.1, short c.args.s.now c.requires.answers))

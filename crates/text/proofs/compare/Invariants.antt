@@ -1,10 +1,7 @@
 use Rattle.rules.specs.Order.{cmp}
-use Rattle.saying.proofs.Comparing.{cmp_less, cmp_more, cmp_on}
-use Rattle.text.specs.Rest.{Stands, Stepped, rest}
-use borrow.Author.Rules.{rules}
+use Rattle.text.specs.Rest.{Stands, rest}
 use lib.ListN.{length}
-use mathlib.Core.Path.{◌≡◌, ◌∙◌, ap, ap₂, refl, subst, sym}
-use native.Mathlib.Omega.{arith}
+use mathlib.Core.Path.{◌≡◌}
 use Rattle.text.proofs.compare.Given as goal
 
 abbrev pub invariant-loop-c : goal.invariant-loop-c

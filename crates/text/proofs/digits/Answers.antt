@@ -1,6 +1,5 @@
 use Rattle.rules.specs.Bytes.{digits}
 use Rattle.text.proofs.Laws.{drop_on}
-use borrow.Author.Rules.{rules}
 use lib.ListN.{drop_of_length-le}
 use native.Mathlib.Omega.{arith}
 use Rattle.text.proofs.digits.Goals as goal

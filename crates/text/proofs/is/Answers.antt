@@ -2,7 +2,6 @@ use mathlib.Core.Path.{◌∙◌, ap, subst, sym}
 use Rattle.rules.specs.Bytes.{same}
 use Rattle.text.specs.declared.Text.{Text}
 use Rattle.text.specs.Rest.{Stands, rest}
-use borrow.Author.Rules.{rules}
 use Rattle.text.proofs.is.Goals as goal
 
 pub same_bytes-requires : goal.same_bytes-requires

@@ -1,5 +1,4 @@
 use Rattle.text.specs.Rest.{Stands, Stepped, rest}
-use borrow.Author.Rules.{rules}
 use mathlib.Core.Path.{ap, subst, sym}
 use Rattle.text.proofs.next.Goals as goal
 

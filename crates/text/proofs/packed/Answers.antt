@@ -1,6 +1,5 @@
 use Rattle.rules.specs.Bits.{bits}
 use Rattle.text.proofs.Laws.{packed_none, packed_on}
-use borrow.Author.Rules.{rules}
 use native.Mathlib.Omega.{arith}
 use Rattle.text.proofs.packed.Goals as goal
 

@@ -2,7 +2,6 @@ use mathlib.Core.Path.{◌∙◌, ap, ap₂, subst, sym}
 use Rattle.rules.specs.Bytes.{same}
 use Rattle.text.specs.declared.Text.{Text}
 use Rattle.text.specs.Rest.{Stands, rest}
-use borrow.Author.Rules.{rules}
 use Rattle.text.proofs.same.Goals as goal
 
 pub remaining_packed-requires : goal.remaining_packed-requires

@@ -1,11 +1,7 @@
-use Rattle.rules.specs.Bytes.{Bytes}
-use Rattle.text.specs.Laws.{strip_none, strip_on, strip_other, strip_short}
-use Rattle.text.specs.Rest.{Stands, Stepped, rest}
+use Rattle.text.specs.Rest.{Stands, rest}
 use Rattle.text.specs.Strip.{stripped}
-use borrow.Author.Rules.{rules}
 use lib.ListN.{length}
-use mathlib.Core.Path.{◌≡◌, ◌∙◌, ap, ap₂, refl, subst}
-use native.Mathlib.Omega.{arith}
+use mathlib.Core.Path.{◌≡◌}
 use Rattle.text.proofs.strip.Given as goal
 
 abbrev pub invariant-loop-d : goal.invariant-loop-d

@@ -1,43 +1,33 @@
-use Prim.Native.Nat.{◌-◌, ◌≤◌}
 use Rattle.text.proofs.Laws.{bytes_met, bytes_short, bytes_other, bytes_on}
-use Rattle.text.specs.Rest.{Stands, Stepped, rest}
-use Rattle.text.specs.Strip.{stripped}
-use borrow.Author.Rules.{rules}
-use lib.ListN.{drop, length}
-use mathlib.Core.Path.{◌≡◌, ◌∙◌, refl, subst}
+use Rattle.text.specs.Rest.{rest}
+use mathlib.Core.Path.{◌∙◌}
 use native.Mathlib.Omega.{arith}
 use Rattle.text.proofs.strip_bytes.Goals as goal
 
-pub loop-i-init : goal.loop-i-init
-loop-i-init c = (c.requires.1, omega arith, refl)
+pub returns-in_err-c : goal.returns-in_err-c
+returns-in_err-c c = let a = c.args in
+    let l = c.loop-d in
+    rw c.from_residual.ensures (l.invariant.1 ∙ bytes_short a.w.now (rest a.s.now a.b.now l.u) l.d-index (omega arith) c.in_err-c.ensures)
 
-pub next-requires : goal.next-requires
-next-requires c = (c.requires.0, c.loop-i.invariant.0)
+pub returns-then-d-c : goal.returns-then-d-c
+returns-then-d-c c = let a = c.args in
+    let l = c.loop-d in
+    let o = c.in_ok-c in
+    let e = o.ensures in
+    l.invariant.1
+    ∙ bytes_other a.w.now (rest a.s.now a.b.now l.u) l.d-index o.c (rest a.s.now a.b.now o.v) (omega arith) e.0 c.if-d-c.true
 
-pub returns-in_default : goal.returns-in_default
-returns-in_default c = let a = c.args in
-    let l = c.loop-i in
-    let e = subst (λ x. Stepped a.s.now a.b.now l.u x) c.in_default.is c.next.ensures in
-    l.invariant.2 ∙ bytes_short a.w.now (rest a.s.now a.b.now l.u) l.i (omega arith) e
-
-pub returns-then-w-i : goal.returns-then-w-i
-returns-then-w-i c = let a = c.args in
-    let l = c.loop-i in
-    let e = subst (λ x. Stepped a.s.now a.b.now l.u x) c.in-Byte.is c.next.ensures in
-    l.invariant.2
-    ∙ bytes_other a.w.now (rest a.s.now a.b.now l.u) l.i c.in-Byte.c (rest a.s.now a.b.now c.in-Byte.v) (omega arith) e.0 c.if-w-i.true
-
-pub loop-i-preserved : goal.loop-i-preserved
-loop-i-preserved c = let a = c.args in
-    let l = c.loop-i in
-    let e = subst (λ x. Stepped a.s.now a.b.now l.u x) c.in-Byte.is c.next.ensures in (
+pub loop-d-preserved : goal.loop-d-preserved
+loop-d-preserved c = let a = c.args in
+    let l = c.loop-d in
+    let o = c.in_ok-c in
+    let e = o.ensures in (
       e.1,
-      omega arith,
-      l.invariant.2
-          ∙ bytes_on a.w.now (rest a.s.now a.b.now l.u) l.i c.in-Byte.c (rest a.s.now a.b.now c.in-Byte.v) (omega arith) e.0 c.if-w-i.false,
+      l.invariant.1
+          ∙ bytes_on a.w.now (rest a.s.now a.b.now l.u) l.d-index o.c (rest a.s.now a.b.now o.v) (omega arith) e.0 c.if-d-c.false,
     )
 
 pub returns : goal.returns
 returns c = let a = c.args in
-    let l = c.loop-i in
-    (l.invariant.2 ∙ bytes_met a.w.now (rest a.s.now a.b.now l.u) l.i (omega arith), l.invariant.0)
+    let l = c.loop-d in
+    (l.invariant.1 ∙ bytes_met a.w.now (rest a.s.now a.b.now l.u) l.d-index (omega arith), l.invariant.0)
