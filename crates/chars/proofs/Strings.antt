@@ -1,4 +1,5 @@
 -- The characters of a string of the plan: each has four bytes at most, and takes as many bytes of the text or more.
+use Rattle.std.specs.Prelude.{Option as RustOption}
 use Prim.Native.Nat.{ℕ, zero, suc, ◌+◌, ◌/◌, ◌%◌, ◌≤◌, ◌<◌}
 use mathlib.Core.Bool.{Bool, true, false}
 use mathlib.Core.List.{List, [], ◌∷◌, ◌++◌}
@@ -26,10 +27,10 @@ use Rattle.value.specs.declared.Value.TheVariants.{SaidChar}
 use Rattle.meaning.specs.Standing.{SaidStands}
 use Rattle.chars.specs.Spelled.{First, Parted}
 use Rattle.chars.specs.Laws.{nothing_spelled}
-use Rattle.chars.specs.declared.Next.{Next}
 use Rattle.chars.proofs.Chars.{first, first_short, first_alone, alone_some}
 use Rattle.chars.proofs.Bundled.{packed_none}
 use Rattle.chars.proofs.Leads.{low_byte, high_byte, Leads, leads}
+use Rattle.value.specs.declared.Value.{Value}
 
 -- A whole string has a character at each place, up to its last quote
 
@@ -357,7 +358,7 @@ module _ (s b : Bytes) (i n e : ℕ) (w : Whole s i) (o : OneChar s i n e) where
       }
 
 -- from its first byte on
-pub said_any : (s b : Bytes) (at k : ℕ) (r : Next) → k ≡ 0 → Parted s b (Said at 0) r → Parted s b (Said at k) r
+pub said_any : (s b : Bytes) (at k : ℕ) (r : RustOption (Value × Text)) → k ≡ 0 → Parted s b (Said at 0) r → Parted s b (Said at k) r
 said_any s b at k r z p = subst (λ (j : ℕ). Parted s b (Said at j) r) (sym z) p
 
 -- One character by itself: nothing is behind it

@@ -1,5 +1,5 @@
 -- Texts of characters, and their characters as values: s is the plan, b the bundle.
-use Rattle.std.specs.Prelude.{◌+◌, ◌*◌, ◌≤◌, ◌<◌, true, [], ◌∷◌, ◌≡◌, length}
+use Rattle.std.specs.Prelude.{◌+◌, ◌*◌, ◌≤◌, ◌<◌, true, [], ◌∷◌, ◌≡◌, length, Option as RustOption, Some, None}
 use Rattle.std.proofs.Math.Option.{Option, none, some}
 use Rattle.rules.specs.Bytes.{Bytes}
 use Rattle.rules.specs.Utf8.{utf8}
@@ -14,10 +14,6 @@ use Rattle.text.specs.declared.Text.TheVariants.{Said, Part, Packed, Digits, Min
 use Rattle.value.specs.declared.Value.{Value}
 use Rattle.meaning.specs.Meaning.{plain_json, merged_of}
 use Rattle.meaning.specs.Standing.{SaidStands, PlainStands}
-use Rattle.chars.specs.declared.Next.{Next}
-use Rattle.chars.specs.declared.Next.TheVariants.{Char, End}
-use Rattle.chars.specs.declared.Nth.{Nth}
-use Rattle.chars.specs.declared.Nth.TheVariants.{Is, Nothing}
 
 -- a text that no character is cut in: a string of the plan from a character on, one character of it, UTF-8 in the bundle, digits
 abbrev pub Spelled : Bytes → Bytes → Text → Type 0
@@ -41,9 +37,9 @@ pub record First (s b : Bytes) (t : Text) (v : Value) (u : Text) : Type 0 where
   pub spelled : Spelled s b u
   pub shorter : length (rest s b u) < length (rest s b t)
 
-abbrev pub Parted : Bytes → Bytes → Text → Next → Type 0
-Parted s b t (Char v u) = First s b t v u
-Parted s b t End = rest s b t ≡ []
+abbrev pub Parted : Bytes → Bytes → Text → RustOption (Value × Text) → Type 0
+Parted s b t (Some (v, u)) = First s b t v u
+Parted s b t None = rest s b t ≡ []
 
 -- v is the character o
 pub record Found (s b : Bytes) (o : Option Bytes) (v : Value) : Type 0 where
@@ -51,6 +47,6 @@ pub record Found (s b : Bytes) (o : Option Bytes) (v : Value) : Type 0 where
   pub value : Letter s b v letter
   pub is : o ≡ some letter
 
-abbrev pub Chosen : Bytes → Bytes → Option Bytes → Nth → Type 0
-Chosen s b o (Is v) = Found s b o v
-Chosen s b o Nothing = o ≡ none
+abbrev pub Chosen : Bytes → Bytes → Option Bytes → RustOption Value → Type 0
+Chosen s b o (Some v) = Found s b o v
+Chosen s b o None = o ≡ none

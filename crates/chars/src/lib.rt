@@ -12,18 +12,6 @@ use text::Text;
 use value::Value;
 
 // The first character, and the text behind it.
-#[derive(Clone, Copy)]
-pub enum Next {
-    Char(Value, Text),
-    End,
-}
-
-#[derive(Clone, Copy)]
-pub enum Nth {
-    Is(Value),
-    Nothing,
-}
-
 // How many bytes a character of UTF-8 has, by its first byte.
 fn lead_length(c: u8) -> usize
     ensures { result ≡ lead_length c }
@@ -40,70 +28,63 @@ fn lead_length(c: u8) -> usize
     4
 }
 
-fn said(s: &[u8], b: &[u8], at: usize) -> Next
+fn said(s: &[u8], b: &[u8], at: usize) -> Option<(Value, Text)>
     requires { (length s.now ≤ 65536) × Spelled s.now b.now (Text.Said at 0) }
     ensures { Parted s.now b.now (Text.Said at 0) result }
 {
-    let saying::Char::One(n, e) = saying::next_char(s, at) else {
-        return Next::End;
-    };
-    Next::Char(Value::SaidChar(at, n), Text::Said(e, 0))
+    let (n, e) = saying::next_char(s, at)?;
+    Some((Value::SaidChar(at, n), Text::Said(e, 0)))
 }
 
-fn packed(s: &[u8], b: &[u8], p: usize, n: usize) -> Next
+fn packed(s: &[u8], b: &[u8], p: usize, n: usize) -> Option<(Value, Text)>
     requires { (length b.now ≤ 65536) × Spelled s.now b.now (Text.Packed p n) }
     ensures { Parted s.now b.now (Text.Packed p n) result }
 {
     if n == 0 {
-        return Next::End;
+        return None;
     }
     let m = lead_length(bits::byte(b, p));
-    Next::Char(Value::PackedChar(p, m), Text::Packed(p + 8 * m, n - m))
+    Some((Value::PackedChar(p, m), Text::Packed(p + 8 * m, n - m)))
 }
 
-fn digits(s: &[u8], b: &[u8], n: u64, k: usize) -> Next
+fn digits(s: &[u8], b: &[u8], n: u64, k: usize) -> Option<(Value, Text)>
     requires { n < 65536 }
     ensures { Parted s.now b.now (Text.Digits n k) result }
 {
     let count = decimal::digit_count(n);
     if count <= k {
-        return Next::End;
+        return None;
     }
     let d = decimal::digit(n, k);
-    Next::Char(Value::IndexText((d - 48) as usize), Text::Digits(n, k + 1))
+    Some((Value::IndexText((d - 48) as usize), Text::Digits(n, k + 1)))
 }
 
 // The first character of a text, and what comes behind it: no bytes behind the one character of a `Part`.
-pub fn next_char(s: &[u8], b: &[u8], t: Text) -> Next
+pub fn next_char(s: &[u8], b: &[u8], t: Text) -> Option<(Value, Text)>
     requires { (length s.now ≤ 65536) × (length b.now ≤ 65536) × Spelled s.now b.now t }
     ensures { Parted s.now b.now t result }
 {
     match t {
         Text::Said(at, _) => said(s, b, at),
-        Text::Part(at, _, n) => Next::Char(Value::SaidChar(at, n), Text::Packed(0, 0)),
+        Text::Part(at, _, n) => Some((Value::SaidChar(at, n), Text::Packed(0, 0))),
         Text::Packed(p, n) => packed(s, b, p, n),
         Text::Digits(n, k) => digits(s, b, n, k),
-        Text::Minus(_) => Next::End,
+        Text::Minus(_) => None,
     }
 }
 
 // The character k of a text.
-pub fn nth_char(s: &[u8], b: &[u8], t: Text, k: usize) -> Nth
+pub fn nth_char(s: &[u8], b: &[u8], t: Text, k: usize) -> Option<Value>
     requires { (length s.now ≤ 65536) × (length b.now ≤ 65536) × Spelled s.now b.now t }
     ensures { Chosen s.now b.now (get_elem? (chars (rest s.now b.now t)) k) result }
 {
     let mut u = t;
-    let mut left = k;
-    loop {
-        let Next::Char(v, w) = next_char(s, b, u) else {
-            return Nth::Nothing;
-        };
-        if left == 0 {
-            return Nth::Is(v);
-        }
+    for _ in 0..k {
+        let (_, w) = next_char(s, b, u)?;
         u = w;
-        left -= 1;
     }
+    let (v, _) = next_char(s, b, u)?;
+    Some(v)
 }
 
 // How many characters a text has.
@@ -112,12 +93,10 @@ pub fn char_count(s: &[u8], b: &[u8], t: Text) -> usize
     ensures { (result ≡ length (chars (rest s.now b.now t))) × (result ≤ 65536) }
 {
     let mut u = t;
-    let mut count: usize = 0;
-    loop {
-        let Next::Char(_, w) = next_char(s, b, u) else {
-            return count;
-        };
+    let mut count = 0;
+    while let Some((_, w)) = next_char(s, b, u) {
         u = w;
         count += 1;
     }
+    count
 }

@@ -1,8 +1,9 @@
 -- What the front alone tells.
+use Rattle.std.specs.Prelude.{Option as RustOption, Some, None}
 use Prim.Native.Nat.{ℕ, ◌-◌, ◌^◌, ◌≤◌, ◌<◌}
 use mathlib.Core.Bool.{Bool, true, false}
 use mathlib.Core.List.{List, ◌∷◌}
-use mathlib.Core.Option.{Option, some}
+use mathlib.Core.Option.{Option}
 use mathlib.Core.Path.{◌≡◌, refl, sym, ap, ◌∙◌, subst}
 use native.Mathlib.Omega.{arith}
 use lib.Bits.{bit_and}
@@ -19,8 +20,6 @@ use Rattle.parts.specs.HoldsLaws.{none_left_value}
 use Rattle.parts.specs.Says.{segment_at, segments_at}
 use Rattle.value.specs.Numbers.{decoded}
 use Rattle.scope.specs.declared.Scope.{Scope}
-use Rattle.scope.specs.declared.Param.{Param}
-use Rattle.scope.specs.declared.Param.TheVariants.{Is, Nothing}
 use Rattle.scope.specs.Scopes.{base_of, blocks_of, blank}
 use Rattle.scope.specs.Standing.{ScopesStand}
 use Rattle.scope.specs.Names.{ParamIs, Settled, numbered}
@@ -40,14 +39,15 @@ use Rattle.context.specs.Start.{Based, Newest, is_nothing, name_needs_all, segme
 use Rattle.context.proofs.Evaluating.{local_evaluates, local_nothing, local_fits}
 use Rattle.context.proofs.Starting.{based_scope, some_number}
 use Rattle.context.proofs.Walking.{segments_on}
+use Rattle.value.specs.declared.Value.{Value}
 
 -- the bit of a name is clear
 pub lacks_here : (m x : ℕ) (k : Bytes) → x ≡ 2 ^ bit_of k → bit_and m x ≡ 0 → Lacks m k
 lacks_here m x k e f = and_clear m (bit_of k) (sym (ap (bit_and m) e) ∙ f)
 
 pub none_is : (s b : Bytes) (ent : List ℕ) (l : List Scope) (used t m : ℕ) (k : Bytes) → Lacks m k → ScopesStand s b ent l used t → AllCovered m b ent l used
-    → ParamIs s b ent t (get_in_block_params (blocks_of s b ent l used) k) Nothing
-none_is s b ent l used t m k x st a = subst (λ o. ParamIs s b ent t o Nothing) (sym (none_named s b ent l m k x used t st a)) tt
+    → ParamIs s b ent t (get_in_block_params (blocks_of s b ent l used) k) None
+none_is s b ent l used t m k x st a = subst (λ o. ParamIs s b ent t o None) (sym (none_named s b ent l m k x used t st a)) tt
 
 module _ (b : Bytes) (ent : List ℕ) (front : Scope) (names : ℕ) (l : List Scope) (used : ℕ) (w : Newest b ent front names l used) where
   pub based_front : Based l used 0 false (base_of front)
@@ -57,21 +57,21 @@ module _ (b : Bytes) (ent : List ℕ) (front : Scope) (names : ℕ) (l : List Sc
       (ap base_of w.is ∙ ap (λ (i : ℕ). base_of (get_or l i blank)) (yes _ _ _ _ (lt-ltb 0 used w.some) e))
 
 pub front_found : (s b : Bytes) (ent : List ℕ) (front : Scope) (names : ℕ) (l : List Scope) (used t : ℕ) (k : Bytes) → Newest b ent front names l used → ScopesStand s b ent l used t
-    → (r : ℕ) → Settled b ent front k r → (r ≡ 0 → ⊥) → ParamIs s b ent t (get_in_block_params (blocks_of s b ent l used) k) (Is (decoded (r - 1)))
+    → (r : ℕ) → Settled b ent front k r → (r ≡ 0 → ⊥) → ParamIs s b ent t (get_in_block_params (blocks_of s b ent l used) k) (Some (decoded (r - 1)))
 front_found s b ent front names l used t k w st r own ne =
     turn_found s b ent l used used t k (numbered r) w.some (omega arith) st front w.is (own.means s) (decoded (r - 1)) (some_number r ne)
 
 -- Local variables
 
-pub param_fits : (s b : Bytes) (ent : List ℕ) (t : ℕ) → answer s ≡ 0 → length b ≤ 65536 → t < 1048576 → (o : Option Json) (r : Param) → LocalIs s b ent t o r → ParamFits r
-param_fits s b ent t h le near o (Is w) x = local_fits s b ent t h le near o w x
-param_fits s b ent t h le near o Nothing x = tt
+pub param_fits : (s b : Bytes) (ent : List ℕ) (t : ℕ) → answer s ≡ 0 → length b ≤ 65536 → t < 1048576 → (o : Option Json) (r : RustOption Value) → LocalIs s b ent t o r → ParamFits r
+param_fits s b ent t h le near o (Some w) x = local_fits s b ent t h le near o w x
+param_fits s b ent t h le near o None x = tt
 
-pub local_answers : (s b : Bytes) (ent : List ℕ) (t : ℕ) (o : Option Json) (r : Param) → LocalIs s b ent t o r → Evaluates s b ent t (got (or_missing o)) (said r)
-local_answers s b ent t o (Is w) x = local_evaluates s b ent t o w x
-local_answers s b ent t o Nothing x = local_nothing s b ent t o x
+pub local_answers : (s b : Bytes) (ent : List ℕ) (t : ℕ) (o : Option Json) (r : RustOption Value) → LocalIs s b ent t o r → Evaluates s b ent t (got (or_missing o)) (said r)
+local_answers s b ent t o (Some w) x = local_evaluates s b ent t o w x
+local_answers s b ent t o None x = local_nothing s b ent t o x
 
-pub near_local : (s b : Bytes) (ent : List ℕ) (front : Scope) (names : ℕ) (l : List Scope) (used : ℕ) → Newest b ent front names l used → (t level : ℕ) → ScopesStand s b ent l used t → level ≡ 0 → (k : Bytes) (r : Param)
+pub near_local : (s b : Bytes) (ent : List ℕ) (front : Scope) (names : ℕ) (l : List Scope) (used : ℕ) → Newest b ent front names l used → (t level : ℕ) → ScopesStand s b ent l used t → level ≡ 0 → (k : Bytes) (r : RustOption Value)
     → front.index < 65536 → r ≡ local_variable front k → LocalIs s b ent t (local_at s b ent l used level k) r
 near_local s b ent front names l used w t level st z k r lt e =
     let f : used - 1 ≡ used - 1 - level = omega arith in

@@ -1,5 +1,5 @@
 -- Where a path starts.
-use Rattle.std.specs.Prelude.{ℕ, ◌-◌, ◌^◌, ◌<◌, eqb, get_or, Bool, true, false, List, [], ◌∷◌, ◌≡◌}
+use Rattle.std.specs.Prelude.{ℕ, ◌-◌, ◌^◌, ◌<◌, eqb, get_or, Bool, true, false, List, [], ◌∷◌, ◌≡◌, Option as RustOption, Some, None}
 use Rattle.std.specs.Int.Bits.{bit_and}
 use Rattle.rules.specs.Bytes.{Bytes, pick}
 use Rattle.rules.specs.Json.{Json}
@@ -17,8 +17,6 @@ use Rattle.meaning.specs.Meaning.{is_missing}
 use Rattle.meaning.specs.Standing.{Stands}
 use Rattle.scope.specs.declared.Scope.{Scope}
 use Rattle.scope.specs.Scopes.{blocks_of, blank}
-use Rattle.scope.specs.declared.Param.{Param}
-use Rattle.scope.specs.declared.Param.TheVariants.{Is, Nothing}
 use Rattle.scope.specs.NameBits.{AllCovered, bit_of}
 use Rattle.rules.specs.State.{RenderContext, blocks}
 use Rattle.rules.specs.Registry.{Registry}
@@ -93,9 +91,9 @@ pub record NearFront (s b : Bytes) (ent : List ℕ) (front : Scope) (names : ℕ
 
 -- Whether the front does not tell where a path leads: all scopes are needed
 
-abbrev pub is_nothing : Param → Bool
-is_nothing (Is w) = false
-is_nothing Nothing = true
+abbrev pub is_nothing : RustOption Value → Bool
+is_nothing (Some w) = false
+is_nothing None = true
 
 -- a first name that is in the set and no block name of the front
 abbrev pub name_needs_all : Bytes → List ℕ → Scope → ℕ → Bytes → Bool
@@ -126,10 +124,10 @@ Found s b ent l used recursive p r =
     (g : Registry) (st : RenderContext) (t : ℕ) → g.plan ≡ json_at s 0 → g.options.recursive_lookup ≡ recursive → blocks st ≡ blocks_of s b ent l used → ScopesStand s b ent l used t
     → Evaluates s b ent t (evaluate2 g st (path_at (bits b) p)) r
 
-abbrev pub ParamFits : Param → Type 0
-ParamFits (Is v) = Fits v
-ParamFits Nothing = Unit {0}
+abbrev pub ParamFits : RustOption Value → Type 0
+ParamFits (Some v) = Fits v
+ParamFits None = Unit {0}
 
-abbrev pub said : Param → Evaluated
-said (Is v) = found_of v
-said Nothing = Nowhere
+abbrev pub said : RustOption Value → Evaluated
+said (Some v) = found_of v
+said None = Nowhere

@@ -29,7 +29,7 @@ ghost use Rattle.context.specs.Start.{FirstIs, Based, NameStarts, Starts, starte
 
 use lookup::Got;
 use parts::{Path, Segment};
-use scope::{Param, Scope};
+use scope::Scope;
 use value::Value;
 
 // What a path leads to. A value that it leads to is not missing.
@@ -110,15 +110,14 @@ fn walk(s: &[u8], tab: &[u64], b: &[u8], ent: &[u64], v: Value, p: usize, n: usi
 {
     let mut cur = v;
     let mut at = p;
-    let mut left = n;
-    while 0 < left {
-        let r = along(s, tab, b, ent, cur, at);
-        let Step::On(w, next) = r else {
-            return stopped(r);
-        };
-        cur = w;
-        at = next;
-        left -= 1;
+    for _ in 0..n {
+        match along(s, tab, b, ent, cur, at) {
+            Step::On(w, next) => {
+                cur = w;
+                at = next;
+            }
+            r => return stopped(r),
+        }
     }
     Evaluated::Is(cur)
 }
@@ -269,8 +268,7 @@ fn begin_far(
     ensures { Starts b.now ent.now scopes used p n result }
 {
     let mut at = p;
-    let mut ups: usize = 0;
-    while ups < n {
+    for ups in 0..n {
         let segment = parts::segment_at(b, at);
         match segment {
             Segment::Named(q, next) => {
@@ -287,9 +285,8 @@ fn begin_far(
                 at = next;
             }
         }
-        ups += 1;
     }
-    start_at(without_block_param(scopes, used, ups, false), at, 0)
+    start_at(without_block_param(scopes, used, n, false), at, 0)
 }
 
 // The same as `walk`, with the value as `value::encode` makes it: what most paths meet needs no enum, which would go through memory.
@@ -324,8 +321,7 @@ fn quickly(s: &[u8], tab: &[u64], b: &[u8], ent: &[u64], v: u32, p: usize, n: us
 {
     let mut cur = v;
     let mut at = p;
-    let mut left = n;
-    while 0 < left {
+    for _ in 0..n {
         // the kind, and the count of the string that a name is
         let x = bits::field(b, at, 18);
         if 65536 <= x {
@@ -337,7 +333,6 @@ fn quickly(s: &[u8], tab: &[u64], b: &[u8], ent: &[u64], v: u32, p: usize, n: us
         }
         cur = present_number((r - 2) as u32);
         at += 18 + 8 * (x as usize);
-        left -= 1;
     }
     2 + (cur as u64)
 }
@@ -501,13 +496,13 @@ fn navigate(
     r - 1
 }
 
-fn local_number(x: Param) -> u64
+fn local_number(x: Option<Value>) -> u64
     requires { ParamFits x }
     ensures { (result ≤ 4294967296) × (evaluated_of result ≡ said x) }
 {
     match x {
-        Param::Is(w) => 1 + (value::encode(w) as u64),
-        Param::Nothing => NOTHING,
+        Some(w) => 1 + (value::encode(w) as u64),
+        None => NOTHING,
     }
 }
 

@@ -1,4 +1,5 @@
 -- Helpers that are called for their value.
+use Rattle.std.specs.Prelude.{Result, Ok, Err}
 use Prim.Native.Nat.{ℕ, zero, suc, ◌<◌}
 use native.Mathlib.Omega.{arith}
 use mathlib.Core.Bool.{Bool, true, false}
@@ -40,12 +41,13 @@ use Rattle.context.specs.declared.Evaluated.{Evaluated}
 use Rattle.context.specs.declared.Evaluated.TheVariants as evaluated
 use Rattle.context.specs.Evaluated.{Evaluates, evaluates_led, present}
 use Rattle.expand.specs.declared.Options.{Options}
-use Rattle.expand.specs.declared.Got.{Got}
-use Rattle.expand.specs.declared.Got.TheVariants.{Is, Bad}
 use Rattle.expand.specs.declared.HelperDef.{HelperDef}
 use Rattle.expand.specs.declared.HelperDef.TheVariants.{Each, With, If, Unless, Lookup, Unknown}
 use Rattle.expand.specs.declared.Expanded.{Expanded}
 use Rattle.expand.specs.Answers.{Alike, Refuses, Expands, Begins, IsExpanded, helper_of, written, in_scope, unless_strict}
+use Rattle.error.specs.declared.RenderErrorReason.TheVariants.{ParamNotFoundForIndex, ScopesLimit}
+use Rattle.error.specs.declared.RenderErrorReason.{RenderErrorReason as Reason}
+use Rattle.error.specs.Reasons.{refusal}
 
 -- Values
 
@@ -105,8 +107,8 @@ present_same (SaidChar o n) k = refl
 present_same (PackedChar p n) k = refl
 present_same (Merged h n) k = refl
 
-pub refuse_is : {A : Type 0} (r : RenderErrorReason) (x : rule.Got A) → x ≡ bad r → Refuses x (rule.number r)
-refuse_is r x e = record { reason = r; is = e; by_number = refl }
+pub refuse_is : {A : Type 0} (r : RenderErrorReason) (x : rule.Got A) → x ≡ bad r → Refuses x (refusal r)
+refuse_is r x e = record { reason = r; is = e; by_reason = refl }
 
 present_stands : (s b : Bytes) (ent : List ℕ) (t : ℕ) (v : Value) → Stands s b ent t v → Stands s b ent t (present v)
 present_stands s b ent t Missing h = plain refl tt
@@ -127,7 +129,7 @@ present_stands s b ent t (Merged k n) h = h
 
 -- a path that leads nowhere gives the missing value
 pub nothing_given : (s b : Bytes) (ent : List ℕ) (t : ℕ) (x : rule.Got ScopedJson) (e : Evaluated) → OneOf (0 ∷ 1 ∷ []) (tag_of evaluated-type e) → OneOf (1 ∷ 2 ∷ []) (tag_of evaluated-type e)
-    → Evaluates s b ent t x e → Expands s b ent t x (Is Missing)
+    → Evaluates s b ent t x e → Expands s b ent t x (Ok Missing)
 nothing_given s b ent t x (evaluated.Is v) k l h = absurd (miss (1 ∷ 2 ∷ []) 0 tt l)
 nothing_given s b ent t x evaluated.Nothing k l h = evaluates_led s b ent t x evaluated.Nothing h refl
 nothing_given s b ent t x evaluated.BadIndex k l h = absurd (miss (0 ∷ 1 ∷ []) 2 tt k)
@@ -199,8 +201,8 @@ with_is g st e = with_told g e.params (set_disable_escape true st) ∙ go e.para
 
 -- Against the code
 
-refuse : {A : Type 0} (r : RenderErrorReason) → Refuses {A = A} (bad r) (rule.number r)
-refuse r = record { reason = r; is = refl; by_number = refl }
+refuse : {A : Type 0} (r : RenderErrorReason) → Refuses {A = A} (bad r) (refusal r)
+refuse r = record { reason = r; is = refl; by_reason = refl }
 
 -- a test of the number of parameters
 none_counted : (l : List ScopedJson) (n : ℕ) → n ≡ length l → n ≡ 0 → l ≡ []
@@ -208,30 +210,30 @@ none_counted [] n e z = refl
 none_counted (v ∷ l) n e z = absurd (omega arith)
 
 module _ (s b : Bytes) (ent : List ℕ) (t : ℕ) where
-  empty_given : Expands s b ent t nothing_written (Is Empty)
+  empty_given : Expands s b ent t nothing_written (Ok Empty)
   empty_given = (ap (λ (j : Json). got (derived j)) (sym (plain_is s b ent Empty refl)), plain refl tt)
 
-  null_given : Expands s b ent t (got (derived jnull)) (Is Null)
+  null_given : Expands s b ent t (got (derived jnull)) (Ok Null)
   null_given = (ap (λ (j : Json). got (derived j)) (sym (plain_is s b ent Null refl)), plain refl tt)
 
-  strict_given : (c : Bool) (v : Value) (x : rule.Got ScopedJson) → Expands s b ent t x (Is v) → Expands s b ent t (pick c (bad missing-variable) x) (unless_strict c v)
+  strict_given : (c : Bool) (v : Value) (x : rule.Got ScopedJson) → Expands s b ent t x (Ok v) → Expands s b ent t (pick c (bad missing-variable) x) (unless_strict c v)
   strict_given true v x h = refuse missing-variable
   strict_given false v x h = h
 
   written_counted : (l : List ScopedJson) (n : ℕ) → n ≡ length l → Expands s b ent t (with_one l nothing_written) (written n)
-  written_counted l zero e = subst (λ (k : List ScopedJson). Expands s b ent t (with_one k nothing_written) (Bad 15)) (sym (none_counted l 0 e refl)) (refuse param-not-found-for-index)
+  written_counted l zero e = subst (λ (k : List ScopedJson). Expands s b ent t (with_one k nothing_written) (Err ParamNotFoundForIndex)) (sym (none_counted l 0 e refl)) (refuse param-not-found-for-index)
   written_counted [] (suc n) e = absurd (omega arith)
   written_counted (v ∷ l) (suc n) e =
-      subst (λ (c : Bool). Expands s b ent t nothing_written (pick c (Bad 15) (Is Empty))) (sym (ne_eqb (suc n) 0 (λ q. absurd (omega (arith, q))))) empty_given
+      subst (λ (c : Bool). Expands s b ent t nothing_written (pick c (Err ParamNotFoundForIndex) (Ok Empty))) (sym (ne_eqb (suc n) 0 (λ q. absurd (omega (arith, q))))) empty_given
 
   module _ (used : ℕ) (o : Options) (w : Expanded) (g : Registry) (st : RenderContext) (e : block-util.Expanded) (A : Alike used o g st) (E : IsExpanded s b ent t w e) where
-    pub written_given : (x : rule.Got ScopedJson) (r : Got) → x ≡ with_one e.params nothing_written → r ≡ written w.count → Expands s b ent t x r
+    pub written_given : (x : rule.Got ScopedJson) (r : Result Value Reason) → x ≡ with_one e.params nothing_written → r ≡ written w.count → Expands s b ent t x r
     written_given x r q p =
         subst (Expands s b ent t x) (sym p) (subst (λ (y : rule.Got ScopedJson). Expands s b ent t y (written w.count)) (sym q) (written_counted e.params w.count E.params.count))
 
-    pub with_none : w.count ≡ 0 → Expands s b ent t (rules.call_helper_for_value g st registry.HelperDef.with e) (Bad 15)
+    pub with_none : w.count ≡ 0 → Expands s b ent t (rules.call_helper_for_value g st registry.HelperDef.with e) (Err ParamNotFoundForIndex)
     with_none z =
-        subst (λ (y : rule.Got ScopedJson). Expands s b ent t y (Bad 15)) (sym (with_is g st e ∙ ap (with_given g st) (none_counted e.params w.count E.params.count z))) (refuse param-not-found-for-index)
+        subst (λ (y : rule.Got ScopedJson). Expands s b ent t y (Err ParamNotFoundForIndex)) (sym (with_is g st e ∙ ap (with_given g st) (none_counted e.params w.count E.params.count z))) (refuse param-not-found-for-index)
 
     abbrev with_outcome : Bool → rule.Got ScopedJson
     with_outcome c = pick c (pick (ltb used 32) nothing_written (bad scopes-limit)) (pick o.strict (bad missing-variable) nothing_written)
@@ -247,26 +249,26 @@ module _ (s b : Bytes) (ent : List ℕ) (t : ℕ) where
         go (v ∷ []) n h = one v [] h
         go (v ∷ u ∷ l) n h = one v (u ∷ l) h.0
 
-    with_so : (z : w.count ≡ 0 → ⊥) (c : Bool) → c ≡ is_truthy false (json_of s b ent w.first) → (r : Got) → Expands s b ent t (with_outcome c) r
+    with_so : (z : w.count ≡ 0 → ⊥) (c : Bool) → c ≡ is_truthy false (json_of s b ent w.first) → (r : Result Value Reason) → Expands s b ent t (with_outcome c) r
         → Expands s b ent t (rules.call_helper_for_value g st registry.HelperDef.with e) r
     with_so z c q r h = subst (λ (y : rule.Got ScopedJson). Expands s b ent t y r) (sym (with_some z ∙ ap with_outcome (sym q))) h
 
-    pub with_false : (w.count ≡ 0 → ⊥) → false ≡ is_truthy false (json_of s b ent w.first) → (r : Got) → r ≡ unless_strict o.strict Empty
+    pub with_false : (w.count ≡ 0 → ⊥) → false ≡ is_truthy false (json_of s b ent w.first) → (r : Result Value Reason) → r ≡ unless_strict o.strict Empty
         → Expands s b ent t (rules.call_helper_for_value g st registry.HelperDef.with e) r
     with_false z q r p = with_so z false q r (subst (Expands s b ent t _) (sym p) (strict_given o.strict Empty nothing_written empty_given))
 
-    pub with_true : (w.count ≡ 0 → ⊥) → true ≡ is_truthy false (json_of s b ent w.first) → (r : Got) → r ≡ in_scope used
+    pub with_true : (w.count ≡ 0 → ⊥) → true ≡ is_truthy false (json_of s b ent w.first) → (r : Result Value Reason) → r ≡ in_scope used
         → Expands s b ent t (rules.call_helper_for_value g st registry.HelperDef.with e) r
     with_true z q r p = with_so z true q r (subst (Expands s b ent t _) (sym p) (go (ltb used 32)))
       where
-        go : (c : Bool) → Expands s b ent t (pick c nothing_written (bad scopes-limit)) (pick c (Is Empty) (Bad 23))
+        go : (c : Bool) → Expands s b ent t (pick c nothing_written (bad scopes-limit)) (pick c (Ok Empty) (Err ScopesLimit))
         go true = empty_given
         go false = refuse scopes-limit
 
-    pub lookup_few : w.count < 2 → Expands s b ent t (lookup_inner g e.params) (Bad 15)
+    pub lookup_few : w.count < 2 → Expands s b ent t (lookup_inner g e.params) (Err ParamNotFoundForIndex)
     lookup_few lt = go e.params E.params.count
       where
-        go : (l : List ScopedJson) → w.count ≡ length l → Expands s b ent t (lookup_inner g l) (Bad 15)
+        go : (l : List ScopedJson) → w.count ≡ length l → Expands s b ent t (lookup_inner g l) (Err ParamNotFoundForIndex)
         go [] n = refuse param-not-found-for-index
         go (v ∷ []) n = refuse param-not-found-for-index
         go (v ∷ u ∷ l) n = absurd (omega arith)
@@ -284,18 +286,18 @@ module _ (s b : Bytes) (ent : List ℕ) (t : ℕ) where
         go (v ∷ u ∷ l) n h =
             rw (ap as_json h.0 ∙ as_json_of s b ent w.first, ap as_json h.1 ∙ as_json_of s b ent w.second, A.strict)
 
-    lookup_so : (ge : w.count < 2 → ⊥) (x : Option Json) → looked_up (json_of s b ent w.first) (json_of s b ent w.second) ≡ x → (r : Got) → Expands s b ent t (lookup_outcome x) r
+    lookup_so : (ge : w.count < 2 → ⊥) (x : Option Json) → looked_up (json_of s b ent w.first) (json_of s b ent w.second) ≡ x → (r : Result Value Reason) → Expands s b ent t (lookup_outcome x) r
         → Expands s b ent t (lookup_inner g e.params) r
     lookup_so ge x q r h = subst (λ (y : rule.Got ScopedJson). Expands s b ent t y r) (sym (lookup_two ge ∙ ap lookup_outcome q)) h
 
     pub lookup_found : (w.count < 2 → ⊥) → (x : Value) → IsFound s b ent w.first (looked_up (json_of s b ent w.first) (json_of s b ent w.second)) x
-        → (y : Value) → y ≡ present x → Expands s b ent t (lookup_inner g e.params) (Is y)
+        → (y : Value) → y ≡ present x → Expands s b ent t (lookup_inner g e.params) (Ok y)
     lookup_found ge x f y q =
-        lookup_so ge (some (json_of s b ent x)) f.value (Is y)
-        (subst (λ (z : Value). Expands s b ent t (got (derived (json_of s b ent x))) (Is z)) (sym q)
+        lookup_so ge (some (json_of s b ent x)) f.value (Ok y)
+        (subst (λ (z : Value). Expands s b ent t (got (derived (json_of s b ent x))) (Ok z)) (sym q)
         (ap got (present_is s b ent x f.no_path), present_stands s b ent t x (f.stands t E.params.first)))
 
-    pub lookup_nothing : (w.count < 2 → ⊥) → looked_up (json_of s b ent w.first) (json_of s b ent w.second) ≡ none → (r : Got) → r ≡ unless_strict o.strict Null
+    pub lookup_nothing : (w.count < 2 → ⊥) → looked_up (json_of s b ent w.first) (json_of s b ent w.second) ≡ none → (r : Result Value Reason) → r ≡ unless_strict o.strict Null
         → Expands s b ent t (lookup_inner g e.params) r
     lookup_nothing ge q r p = lookup_so ge none q r (subst (Expands s b ent t _) (sym p) (strict_given o.strict Null (got (derived jnull)) null_given))
 

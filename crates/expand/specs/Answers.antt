@@ -1,11 +1,12 @@
 -- What working a parameter out answers: s is the plan, b the bundle, ent the entries of open partials.
-use Rattle.std.specs.Prelude.{ℕ, ◌+◌, ◌*◌, ◌≤◌, Bool, false, ◌||◌, List, [], ◌∷◌, ◌≡◌, eqb, ltb, length}
+use Rattle.std.specs.Prelude.{Option as RustOption, Some, None, Result, Ok, Err, ℕ, ◌+◌, ◌*◌, ◌≤◌, Bool, false, ◌||◌, List, [], ◌∷◌, ◌≡◌, eqb, ltb, length}
+use Rattle.std.specs.Option.{option_or}
 use Rattle.std.proofs.Math.Option.{Option, none, some}
 use Rattle.rules.specs.Bytes.{Bytes, pick, same, ascii}
 use Rattle.rules.specs.Json.{Json}
 use Rattle.rules.specs.Bits.{bits}
 use Rattle.rules.specs.Error as rule
-use Rattle.rules.specs.Error.{RenderErrorReason, number, missing-variable, param-not-found-for-index, scopes-limit, got, bad, wth}
+use Rattle.rules.specs.Error.{RenderErrorReason, missing-variable, param-not-found-for-index, scopes-limit, got, bad, wth}
 use Rattle.rules.specs.Value.{ScopedJson, render}
 use Rattle.rules.specs.State.{RenderContext, blocks, depth}
 use Rattle.rules.specs.Registry as registry
@@ -13,6 +14,8 @@ use Rattle.rules.specs.Registry.{Registry}
 use Rattle.rules.specs.BlockUtil as block-util
 use Rattle.rules.specs.HelperIf.{include_zero}
 use Rattle.rules.specs.Expand as rules
+use Rattle.error.specs.Reasons.{coded, refusal}
+use Rattle.error.specs.declared.RenderErrorReason.{RenderErrorReason as Reason}
 use Rattle.layout.specs.Text.{text_at}
 use Rattle.names.specs.Head.{head_of}
 use Rattle.places.specs.Places.{json_at}
@@ -27,8 +30,6 @@ use Rattle.scope.specs.declared.Scope.{Scope}
 use Rattle.scope.specs.Scopes.{blocks_of}
 use Rattle.scope.specs.Standing.{ScopesStand}
 use Rattle.expand.specs.declared.Options.{Options}
-use Rattle.expand.specs.declared.Got.{Got}
-use Rattle.expand.specs.declared.Got.TheVariants.{Is, Bad}
 use Rattle.expand.specs.declared.HelperDef.{HelperDef}
 use Rattle.expand.specs.declared.HelperDef.TheVariants.{Each, With, If, Unless, Lookup, Unknown}
 use Rattle.expand.specs.declared.Params.{Params}
@@ -51,32 +52,32 @@ pub record Setting (s b : Bytes) (ent : List ℕ) (l : List Scope) (used : ℕ) 
 
 -- Answers
 
--- a refusal, by the paper's number
-pub record Refuses {A : Type 0} (x : rule.Got A) (n : ℕ) : Type 0 where
+-- a refusal, as the code keeps it
+pub record Refuses {A : Type 0} (x : rule.Got A) (n : RustOption Reason) : Type 0 where
   pub reason : RenderErrorReason
   pub is : x ≡ bad reason
-  pub by_number : number reason ≡ n
+  pub by_reason : refusal reason ≡ n
 
 -- a value that stands at t; f says what it means
-abbrev pub Gives : {A : Type 0} → Bytes → Bytes → List ℕ → ℕ → (Value → A) → rule.Got A → Got → Type 0
-Gives s b ent t f x (Is v) = (x ≡ got (f v)) × Stands s b ent t v
-Gives s b ent t f x (Bad n) = Refuses x n
+abbrev pub Gives : {A : Type 0} → Bytes → Bytes → List ℕ → ℕ → (Value → A) → rule.Got A → Result Value Reason → Type 0
+Gives s b ent t f x (Ok v) = (x ≡ got (f v)) × Stands s b ent t v
+Gives s b ent t f x (Err e) = Refuses x (Some e)
 
 -- as a parameter
-abbrev pub Expands : Bytes → Bytes → List ℕ → ℕ → rule.Got ScopedJson → Got → Type 0
+abbrev pub Expands : Bytes → Bytes → List ℕ → ℕ → rule.Got ScopedJson → Result Value Reason → Type 0
 Expands s b ent t x r = Gives s b ent t (scoped_of s b ent) x r
 
 -- as a name: its printed text
 abbrev pub name_of : Bytes → Bytes → List ℕ → Value → Bytes
 name_of s b ent v = render (json_of s b ent v)
 
-abbrev pub Names : Bytes → Bytes → List ℕ → ℕ → rule.Got Bytes → Got → Type 0
+abbrev pub Names : Bytes → Bytes → List ℕ → ℕ → rule.Got Bytes → Result Value Reason → Type 0
 Names s b ent t x r = Gives s b ent t (name_of s b ent) x r
 
--- n is 0 or the number of the refusal
-pub record Works {A : Type 0} (P : A → Type 0) (x : rule.Got A) (n : ℕ) : Type 0 where
-  pub fine : n ≡ 0 → (a : A) × (x ≡ got a) × P a
-  pub refused : (n ≡ 0 → ⊥) → Refuses x n
+-- n is the refusal, if there is one
+pub record Works {A : Type 0} (P : A → Type 0) (x : rule.Got A) (n : RustOption Reason) : Type 0 where
+  pub fine : n ≡ None → (a : A) × (x ≡ got a) × P a
+  pub refused : (n ≡ None → ⊥) → Refuses x n
 
 -- the first two of a list of values
 abbrev pub Begins : Bytes → Bytes → List ℕ → List ScopedJson → Value → Value → Type 0
@@ -141,48 +142,45 @@ abbrev pub packed : Bytes → ℕ
 packed l = packed_onto 0 l
 
 -- what a helper with no bodies writes is nothing
-abbrev pub written : ℕ → Got
-written n = pick (eqb n 0) (Bad (number param-not-found-for-index)) (Is Empty)
+abbrev pub written : ℕ → Result Value Reason
+written n = pick (eqb n 0) (Err (coded param-not-found-for-index)) (Ok Empty)
 
-abbrev pub in_scope : ℕ → Got
-in_scope used = pick (ltb used 32) (Is Empty) (Bad (number scopes-limit))
+abbrev pub in_scope : ℕ → Result Value Reason
+in_scope used = pick (ltb used 32) (Ok Empty) (Err (coded scopes-limit))
 
-abbrev pub unless_strict : Bool → Value → Got
-unless_strict strict v = pick strict (Bad (number missing-variable)) (Is v)
+abbrev pub unless_strict : Bool → Value → Result Value Reason
+unless_strict strict v = pick strict (Err (coded missing-variable)) (Ok v)
 
 -- what the helper gives
-abbrev pub Calls : Bytes → Bytes → List ℕ → ℕ → Options → Expanded → (Registry → RenderContext → block-util.Expanded → rule.Got ScopedJson) → Got → Type 0
+abbrev pub Calls : Bytes → Bytes → List ℕ → ℕ → Options → Expanded → (Registry → RenderContext → block-util.Expanded → rule.Got ScopedJson) → Result Value Reason → Type 0
 Calls s b ent used o w f r = (g : Registry) (st : RenderContext) (t : ℕ) (e : block-util.Expanded) → Alike used o g st → IsExpanded s b ent t w e → Expands s b ent t (f g st e) r
 
 -- the same of one that may be refused
-abbrev pub Finishes : Bytes → Bytes → List ℕ → ℕ → Options → Expanded → Got → Type 0
+abbrev pub Finishes : Bytes → Bytes → List ℕ → ℕ → Options → Expanded → Result Value Reason → Type 0
 Finishes s b ent used o w r =
     (g : Registry) (st : RenderContext) (t : ℕ) (x : rule.Got block-util.Expanded) → Alike used o g st → IsTemplate s b ent t x w → Expands s b ent t (wth x (rules.called g st)) r
 
 -- Parts of a list
 
-abbrev pub joined : Got → Params → Params
-joined (Is v) l = record { first = v; second = l.first; bad = l.bad }
-joined (Bad n) l = record { first = Missing; second = Missing; bad = n }
+abbrev pub joined : Result Value Reason → Params → Params
+joined (Ok v) l = record { first = v; second = l.first; bad = l.bad }
+joined (Err e) l = record { first = Missing; second = Missing; bad = Some e }
 
-abbrev pub first_of : ℕ → ℕ → ℕ
-first_of x y = pick (eqb x 0) y x
-
-abbrev pub gathered : Got → ℕ → Params → Hash → Expanded
-gathered (Is v) n ps hs = record { name = v; count = n; first = ps.first; second = ps.second; zero = hs.zero; bad = first_of ps.bad hs.bad }
-gathered (Bad x) n ps hs = record { name = Missing; count = 0; first = Missing; second = Missing; zero = false; bad = x }
+abbrev pub gathered : Result Value Reason → ℕ → Params → Hash → Expanded
+gathered (Ok v) n ps hs = record { name = v; count = n; first = ps.first; second = ps.second; zero = hs.zero; bad = option_or ps.bad hs.bad }
+gathered (Err e) n ps hs = record { name = Missing; count = 0; first = Missing; second = Missing; zero = false; bad = Some e }
 
 -- a call that is the string at q and no hash, with no parameter or one
 abbrev pub bare : ℕ → Expanded
-bare q = record { name = Text q; count = 0; first = Missing; second = Missing; zero = false; bad = 0 }
+bare q = record { name = Text q; count = 0; first = Missing; second = Missing; zero = false; bad = None }
 
-abbrev pub with_one : ℕ → Got → Expanded
-with_one q (Is v) = record { name = Text q; count = 1; first = v; second = Missing; zero = false; bad = 0 }
-with_one q (Bad n) = record { name = Text q; count = 1; first = Missing; second = Missing; zero = false; bad = n }
+abbrev pub with_one : ℕ → Result Value Reason → Expanded
+with_one q (Ok v) = record { name = Text q; count = 1; first = v; second = Missing; zero = false; bad = None }
+with_one q (Err e) = record { name = Text q; count = 1; first = Missing; second = Missing; zero = false; bad = Some e }
 
-abbrev pub GotKnown : Bytes → Bytes → Got → Type 0
-GotKnown s b (Is v) = Known s b v
-GotKnown s b (Bad n) = Unit {0}
+abbrev pub GotKnown : Bytes → Bytes → Result Value Reason → Type 0
+GotKnown s b (Ok v) = Known s b v
+GotKnown s b (Err e) = Unit {0}
 
 -- whether includeZero is true, by the key k and the value j, or else by what comes later
 abbrev pub zero_or : Bytes → Bool → Json → Bool
@@ -192,6 +190,6 @@ pub record PairedIs (s b : Bytes) (p : ℕ) (v : Value) (l x : Hash) : Type 0 wh
   pub zero : Means s b v (λ j. x.zero ≡ zero_or (text_at (bits b) p) l.zero j)
   pub bad : x.bad ≡ l.bad
 
-abbrev pub Paired : Bytes → Bytes → ℕ → Got → Hash → Hash → Type 0
-Paired s b p (Is v) l x = PairedIs s b p v l x
-Paired s b p (Bad n) l x = x ≡ record { zero = false; bad = n }
+abbrev pub Paired : Bytes → Bytes → ℕ → Result Value Reason → Hash → Hash → Type 0
+Paired s b p (Ok v) l x = PairedIs s b p v l x
+Paired s b p (Err e) l x = x ≡ record { zero = false; bad = Some e }

@@ -20,19 +20,16 @@ ghost use Rattle.text.specs.Rest.{rest, Stands};
 ghost use Rattle.meaning.specs.Forms.{Known};
 ghost use Rattle.meaning.specs.Means.{Means};
 ghost use Rattle.context.specs.Evaluated.{present};
-ghost use Rattle.expand.specs.Answers.{Setting, Expands, Names, ExpandsAll, ExpandsHash, IsTemplate, ExpandedHeld, helper_of, may_name, written, in_scope, unless_strict, Calls, Finishes, joined, first_of, gathered, bare, with_one, zero_or, GotKnown, Paired, packed};
+ghost use Rattle.expand.specs.Answers.{Setting, Expands, Names, ExpandsAll, ExpandsHash, IsTemplate, ExpandedHeld, helper_of, may_name, written, in_scope, unless_strict, Calls, Finishes, joined, gathered, bare, with_one, zero_or, GotKnown, Paired, packed};
 ghost use Rattle.expand.specs.WithoutHash.{without_hash};
 ghost use Rattle.context.specs.Near.{NearScopes};
 
 use calls::{Parameter, Short};
 use context::Evaluated;
-use error::{
-    HELPER_NOT_FOUND, INVALID_JSON_INDEX, MISSING_VARIABLE, PARAM_NOT_FOUND_FOR_INDEX, SCOPES_LIMIT,
-};
-use lookup::Found;
+use error::RenderErrorReason;
 use meaning::Form;
 use scope::Scope;
-use text::{Step, Text};
+use text::Text;
 use value::Value;
 
 #[derive(Clone, Copy)]
@@ -41,13 +38,6 @@ pub struct Options {
     pub recursive_lookup: bool,
     // guide truth (added)
     pub guide_truth: bool,
-}
-
-// A value, or the paper's number of the refusal.
-#[derive(Clone, Copy)]
-pub enum Got {
-    Is(Value),
-    Bad(u8),
 }
 
 // What `Helper::try_from_template` works out.
@@ -61,21 +51,21 @@ pub struct Expanded {
     pub second: Value,
     // whether the hash value includeZero is the boolean true
     pub zero: bool,
-    // 0, or the number of the refusal
-    pub bad: u8,
+    // why it is refused, if it is
+    pub bad: Option<RenderErrorReason>,
 }
 
 #[derive(Clone, Copy)]
 struct Params {
     first: Value,
     second: Value,
-    bad: u8,
+    bad: Option<RenderErrorReason>,
 }
 
 #[derive(Clone, Copy)]
 struct Hash {
     zero: bool,
-    bad: u8,
+    bad: Option<RenderErrorReason>,
 }
 
 // Helpers, called for their value
@@ -107,7 +97,7 @@ fn named_helper(s: &[u8], b: &[u8], t: Text) -> HelperDef
     requires { (length s.now ≤ 65536) × Stands s.now b.now t }
     ensures { result ≡ helper_of (get_helper (rest s.now b.now t)) }
 {
-    let Step::Byte(c, u) = text::next(s, b, t) else {
+    let Some((c, u)) = text::next(s, b, t) else {
         return HelperDef::Unknown;
     };
     if c == b'e' {
@@ -134,10 +124,8 @@ pub fn packed(t: &[u8]) -> u64
     ensures { result ≡ packed t.now }
 {
     let mut x: u64 = 0;
-    let mut i: usize = 0;
-    while i < t.len() {
-        x = x * 256 + (t[i] as u64);
-        i += 1;
+    for &c in t {
+        x = x * 256 + c as u64;
     }
     x
 }
@@ -205,22 +193,22 @@ pub fn get_helper(s: &[u8], tab: &[u64], b: &[u8], v: Value) -> HelperDef
 }
 
 // each, if and unless write nothing, for they have no bodies here.
-fn written(count: usize) -> Got
+fn written(count: usize) -> Result<Value, RenderErrorReason>
     ensures { result ≡ written count }
 {
     if count == 0 {
-        return Got::Bad(PARAM_NOT_FOUND_FOR_INDEX);
+        return Err(RenderErrorReason::ParamNotFoundForIndex);
     }
-    Got::Is(Value::Empty)
+    Ok(Value::Empty)
 }
 
-fn unless_strict(strict: bool, v: Value) -> Got
+fn unless_strict(strict: bool, v: Value) -> Result<Value, RenderErrorReason>
     ensures { result ≡ unless_strict strict v }
 {
     if strict {
-        return Got::Bad(MISSING_VARIABLE);
+        return Err(RenderErrorReason::MissingVariable);
     }
-    Got::Is(v)
+    Ok(v)
 }
 
 // What is found is not missing.
@@ -234,22 +222,29 @@ fn present(v: Value) -> Value
 }
 
 // Under one more scope, if there may be one.
-fn in_scope(used: usize) -> Got
+fn in_scope(used: usize) -> Result<Value, RenderErrorReason>
     ensures { result ≡ in_scope used }
 {
     if used < 32 {
-        return Got::Is(Value::Empty);
+        return Ok(Value::Empty);
     }
-    Got::Bad(SCOPES_LIMIT)
+    Err(RenderErrorReason::ScopesLimit)
 }
 
-fn with_value(s: &[u8], tab: &[u64], b: &[u8], used: usize, options: Options, w: Expanded) -> Got
+fn with_value(
+    s: &[u8],
+    tab: &[u64],
+    b: &[u8],
+    used: usize,
+    options: Options,
+    w: Expanded,
+) -> Result<Value, RenderErrorReason>
     requires { Accepted s.now tab.now × (length b.now ≤ 65536) × Known s.now b.now w.first }
     ensures { (ent : List ℕ) → Calls s.now b.now ent used options w
         (λ g st e. rules.call_helper_for_value g st with e) result }
 {
     if w.count == 0 {
-        return Got::Bad(PARAM_NOT_FOUND_FOR_INDEX);
+        return Err(RenderErrorReason::ParamNotFoundForIndex);
     }
     let v = w.first;
     if meaning::is_truthy(s, tab, b, v, false) {
@@ -266,20 +261,20 @@ fn lookup_value(
     used: usize,
     options: Options,
     w: Expanded,
-) -> Got
+) -> Result<Value, RenderErrorReason>
     requires { Accepted s.now tab.now × (length b.now ≤ 65536) × ExpandedHeld s.now b.now ent.now w }
     ensures { Calls s.now b.now ent.now used options w
         (λ g st e. rules.call_helper_for_value g st lookup e) result }
 {
     if w.count < 2 {
-        return Got::Bad(PARAM_NOT_FOUND_FOR_INDEX);
+        return Err(RenderErrorReason::ParamNotFoundForIndex);
     }
     let v = w.first;
     let i = w.second;
     let found = lookup::looked_up(s, tab, b, ent, v, i);
     match found {
-        Found::Is(x) => Got::Is(present(x)),
-        Found::Nothing => unless_strict(options.strict, Value::Null),
+        Some(x) => Ok(present(x)),
+        None => unless_strict(options.strict, Value::Null),
     }
 }
 
@@ -292,7 +287,7 @@ pub fn called(
     used: usize,
     options: Options,
     w: Expanded,
-) -> Got
+) -> Result<Value, RenderErrorReason>
     requires { Accepted s.now tab.now × (length b.now ≤ 65536) × ExpandedHeld s.now b.now ent.now w }
     ensures { Calls s.now b.now ent.now used options w
         (λ g st e. rules.called g st e) result }
@@ -305,7 +300,7 @@ pub fn called(
         HelperDef::If => written(w.count),
         HelperDef::Unless => written(w.count),
         HelperDef::Lookup => lookup_value(s, tab, b, ent, used, options, w),
-        HelperDef::Unknown => Got::Bad(HELPER_NOT_FOUND),
+        HelperDef::Unknown => Err(RenderErrorReason::HelperNotFound),
     }
 }
 
@@ -318,15 +313,15 @@ fn finished(
     used: usize,
     options: Options,
     w: Expanded,
-) -> Got
+) -> Result<Value, RenderErrorReason>
     requires { Accepted s.now tab.now × (length b.now ≤ 65536)
-        × (w.bad ≡ 0 → ExpandedHeld s.now b.now ent.now w) }
+        × (w.bad ≡ None → ExpandedHeld s.now b.now ent.now w) }
     ensures { Finishes s.now b.now ent.now used options w result }
 {
-    if w.bad == 0 {
-        return called(s, tab, b, ent, used, options, w);
+    match w.bad {
+        None => called(s, tab, b, ent, used, options, w),
+        Some(e) => Err(e),
     }
-    Got::Bad(w.bad)
 }
 
 // Parts of a call
@@ -340,7 +335,7 @@ pub fn path_value(
     used: usize,
     options: Options,
     p: usize,
-) -> Got
+) -> Result<Value, RenderErrorReason>
     requires { Accepted s.now tab.now × (length b.now ≤ 65536) × (0 < used) × (used ≤ 32)
         × NearScopes s.now b.now ent.now scopes used × Holds path (bits b.now) p }
     ensures { (g : Registry) (st : RenderContext) (t : ℕ)
@@ -350,21 +345,21 @@ pub fn path_value(
 {
     let found = context::evaluate2(s, tab, b, ent, scopes, used, options.recursive_lookup, p);
     if let Evaluated::BadIndex = found {
-        return Got::Bad(INVALID_JSON_INDEX);
+        return Err(RenderErrorReason::InvalidJsonIndex);
     }
     // a path that leads nowhere
     let Evaluated::Is(v) = found else {
-        return Got::Is(Value::Missing);
+        return Ok(Value::Missing);
     };
-    Got::Is(v)
+    Ok(v)
 }
 
 // A parameter's value in front of those behind it.
-fn joined(r: Got, rest: Params) -> Params
+fn joined(r: Result<Value, RenderErrorReason>, rest: Params) -> Params
     ensures { result ≡ joined r rest }
 {
     match r {
-        Got::Is(v) => {
+        Ok(v) => {
             let w = rest.first;
             Params {
                 first: v,
@@ -372,10 +367,10 @@ fn joined(r: Got, rest: Params) -> Params
                 bad: rest.bad,
             }
         }
-        Got::Bad(n) => Params {
+        Err(e) => Params {
             first: Value::Missing,
             second: Value::Missing,
-            bad: n,
+            bad: Some(e),
         },
     }
 }
@@ -393,28 +388,35 @@ fn zero_or(s: &[u8], tab: &[u64], b: &[u8], p: usize, v: Value, later: bool) -> 
 }
 
 // A pair in front of those behind it.
-fn paired(s: &[u8], tab: &[u64], b: &[u8], p: usize, r: Got, rest: Hash) -> Hash
+fn paired(
+    s: &[u8],
+    tab: &[u64],
+    b: &[u8],
+    p: usize,
+    r: Result<Value, RenderErrorReason>,
+    rest: Hash,
+) -> Hash
     requires { Accepted s.now tab.now × (length b.now ≤ 65536) × (p ≤ 524288) × GotKnown s.now b.now r }
     ensures { Paired s.now b.now p r rest result }
 {
     match r {
-        Got::Is(v) => Hash {
+        Ok(v) => Hash {
             zero: zero_or(s, tab, b, p, v, rest.zero),
             bad: rest.bad,
         },
-        Got::Bad(n) => Hash {
+        Err(e) => Hash {
             zero: false,
-            bad: n,
+            bad: Some(e),
         },
     }
 }
 
 // A name, the first of n parameters, and the hash.
-fn gathered(name: Got, n: u64, ps: Params, hs: Hash) -> Expanded
+fn gathered(name: Result<Value, RenderErrorReason>, n: u64, ps: Params, hs: Hash) -> Expanded
     ensures { result ≡ gathered name n ps hs }
 {
     match name {
-        Got::Is(v) => {
+        Ok(v) => {
             let first = ps.first;
             let second = ps.second;
             Expanded {
@@ -423,16 +425,16 @@ fn gathered(name: Got, n: u64, ps: Params, hs: Hash) -> Expanded
                 first: first,
                 second: second,
                 zero: hs.zero,
-                bad: first_of(ps.bad, hs.bad),
+                bad: ps.bad.or(hs.bad),
             }
         }
-        Got::Bad(x) => Expanded {
+        Err(e) => Expanded {
             name: Value::Missing,
             count: 0,
             first: Value::Missing,
             second: Value::Missing,
             zero: false,
-            bad: x,
+            bad: Some(e),
         },
     }
 }
@@ -447,41 +449,32 @@ fn bare(q: usize) -> Expanded
         first: Value::Missing,
         second: Value::Missing,
         zero: false,
-        bad: 0,
+        bad: None,
     }
 }
 
 // The same of the string at q as the name, and one parameter.
-fn with_one(q: usize, r: Got) -> Expanded
+fn with_one(q: usize, r: Result<Value, RenderErrorReason>) -> Expanded
     ensures { result ≡ with_one q r }
 {
     match r {
-        Got::Is(v) => Expanded {
+        Ok(v) => Expanded {
             name: Value::Text(q),
             count: 1,
             first: v,
             second: Value::Missing,
             zero: false,
-            bad: 0,
+            bad: None,
         },
-        Got::Bad(n) => Expanded {
+        Err(e) => Expanded {
             name: Value::Text(q),
             count: 1,
             first: Value::Missing,
             second: Value::Missing,
             zero: false,
-            bad: n,
+            bad: Some(e),
         },
     }
-}
-
-fn first_of(x: u8, y: u8) -> u8
-    ensures { result ≡ first_of x y }
-{
-    if x == 0 {
-        return y;
-    }
-    x
 }
 
 // The cycle
@@ -509,7 +502,7 @@ fn expand_all(
     let none = Params {
         first: Value::Missing,
         second: Value::Missing,
-        bad: 0,
+        bad: None,
     };
     if n == 0 {
         return none;
@@ -546,7 +539,7 @@ fn expand_hash(
 {
     let none = Hash {
         zero: false,
-        bad: 0,
+        bad: None,
     };
     if n == 0 {
         return none;
@@ -600,7 +593,7 @@ pub fn expand(
     options: Options,
     p: usize,
     d: usize,
-) -> Got
+) -> Result<Value, RenderErrorReason>
     requires { Accepted s.now tab.now × (length b.now ≤ 65536) × (0 < used) × (used ≤ 32)
         × NearScopes s.now b.now ent.now scopes used × Holds (param d) (bits b.now) p }
     ensures { (g : Registry) (st : RenderContext) (t : ℕ)
@@ -610,9 +603,9 @@ pub fn expand(
 {
     let x = calls::param_at(b, p);
     match x {
-        Parameter::Name(_) => Got::Is(Value::Missing),
+        Parameter::Name(_) => Ok(Value::Missing),
         Parameter::Path(q) => path_value(s, tab, b, ent, scopes, used, options, q),
-        Parameter::Literal(q) => Got::Is(Value::Literal(q)),
+        Parameter::Literal(q) => Ok(Value::Literal(q)),
         Parameter::Subexpression(q) => {
             let w = from_template(s, tab, b, ent, scopes, used, options, q, d - 1);
             finished(s, tab, b, ent, used, options, w)
@@ -632,7 +625,7 @@ pub fn expand_as_name(
     options: Options,
     p: usize,
     d: usize,
-) -> Got
+) -> Result<Value, RenderErrorReason>
     requires { Accepted s.now tab.now × (length b.now ≤ 65536) × (0 < used) × (used ≤ 32)
         × NearScopes s.now b.now ent.now scopes used × Holds (param d) (bits b.now) p }
     ensures { (g : Registry) (st : RenderContext) (t : ℕ)
@@ -642,9 +635,9 @@ pub fn expand_as_name(
 {
     let x = calls::param_at(b, p);
     match x {
-        Parameter::Name(q) => Got::Is(Value::Text(q)),
-        Parameter::Path(q) => Got::Is(Value::Text(q)),
-        Parameter::Literal(q) => Got::Is(Value::Literal(q)),
+        Parameter::Name(q) => Ok(Value::Text(q)),
+        Parameter::Path(q) => Ok(Value::Text(q)),
+        Parameter::Literal(q) => Ok(Value::Literal(q)),
         Parameter::Subexpression(q) => {
             let w = from_template(s, tab, b, ent, scopes, used, options, q, d - 1);
             finished(s, tab, b, ent, used, options, w)
@@ -678,7 +671,7 @@ pub fn try_from_template(
         Short::Named(q, c) => {
             let ps = expand_all(s, tab, b, ent, scopes, used, options, c.param, c.params, d);
             let hs = expand_hash(s, tab, b, ent, scopes, used, options, c.pair, c.pairs, d);
-            gathered(Got::Is(Value::Text(q)), c.params, ps, hs)
+            gathered(Ok(Value::Text(q)), c.params, ps, hs)
         }
         Short::Other => from_template(s, tab, b, ent, scopes, used, options, p, d),
     }
@@ -707,7 +700,7 @@ pub fn name_and_params(
 {
     let none = Hash {
         zero: false,
-        bad: 0,
+        bad: None,
     };
     let x = calls::short_at(b, p, d);
     match x {
@@ -719,7 +712,7 @@ pub fn name_and_params(
                 return bare(q);
             }
             let ps = expand_all(s, tab, b, ent, scopes, used, options, c.param, c.params, d);
-            gathered(Got::Is(Value::Text(q)), c.params, ps, none)
+            gathered(Ok(Value::Text(q)), c.params, ps, none)
         }
         Short::Other => {
             let c = calls::call_at(b, p, d);

@@ -1,4 +1,5 @@
 -- What was found, as the answers say it.
+use Rattle.std.specs.Prelude.{Option as RustOption, Some, None}
 use Prim.Native.Nat.{ℕ, zero, suc, ◌+◌, ◌-◌, ◌*◌, ◌≤◌, ◌<◌}
 use mathlib.Core.Bool.{Bool, true, false, ◌||◌}
 use mathlib.Core.List.{List, [], ◌∷◌}
@@ -22,7 +23,6 @@ use Rattle.places.specs.Nodes.{few_places}
 use Rattle.places.specs.Children.{is_object, is_child, none_some}
 use Rattle.places.specs.Items.{object_at, list_item, list_count}
 use Rattle.places.proofs.MemberLaws.{object_member, member_latest}
-use Rattle.places.specs.declared.Found.{Found as PlaceFound}
 use Rattle.value.specs.declared.Value.{Value}
 use Rattle.value.specs.declared.Value.TheVariants.{Null, Place, Merged}
 use Rattle.meaning.specs.Entries.{place, hash_value, hash_base}
@@ -39,8 +39,6 @@ use Rattle.lookup.specs.Keys.{KeyAt, pairs_more}
 use Rattle.lookup.specs.Places.{placed_at, placed}
 use Rattle.lookup.specs.Telling.{stands_object, has_pair, tells}
 use Rattle.lookup.proofs.Telling.{tells_plain, tells_merged}
-use Rattle.lookup.specs.declared.Found.{Found}
-use Rattle.lookup.specs.declared.Found.TheVariants.{Is, Nothing}
 
 -- Lists are short
 
@@ -96,7 +94,7 @@ module _ (s b : Bytes) (v : Value) (h : PlainHeld s b v) (i : ℕ) (e : pathless
   pub place_held : i < places s
   place_held = (subst (PlainHeld s b) e (pathless_held s b v h)).stands
 
-  pub place_object : (tab : List ℕ) → Accepted s tab → is_object s i ≡ true → (k : Bytes) (at : PlaceFound) → found at ≡ member s i k
+  pub place_object : (tab : List ℕ) → Accepted s tab → is_object s i ≡ true → (k : Bytes) (at : RustOption ℕ) → found at ≡ member s i k
       → PlainFinds s b (get_member (base_map (plain_json s b v)) k) (placed at)
   place_object tab a o k at f =
       member_placed s tab a i place_held b (get_member (base_map (plain_json s b v)) k) k (found at)
@@ -142,14 +140,14 @@ module _ (s b : Bytes) (v : Value) (k : Bytes) where
     pub object_within : r ≡ form.Object i → ObjectForm s (plain_json s b v) i
     object_within e = (subst (Formed s b v) e h).is
 
-    pub plain_list : (e : r ≡ form.List i) (at : PlaceFound) → found at ≡ maybe (canonical k) none (get_elem? (children s i))
+    pub plain_list : (e : r ≡ form.List i) (at : RustOption ℕ) → found at ≡ maybe (canonical k) none (get_elem? (children s i))
         → PlainFinds s b (get_member (base_map (plain_json s b v)) k) (placed at)
     plain_list e at f =
         let l = list_within e in
         list_placed s tab a i l.within b (get_member (base_map (plain_json s b v)) k) (canonical k) (found at)
         (ap (λ (j : Json). get_member (base_map j) k) l.at ∙ list_found s tab a i l.within (items_of (plain_json s b v)) (sym l.at ∙ l.is) k ∙ ap (value_at s) (sym f)) f
 
-    pub plain_object : (e : r ≡ form.Object i) (at : PlaceFound) → found at ≡ member s i k → PlainFinds s b (get_member (base_map (plain_json s b v)) k) (placed at)
+    pub plain_object : (e : r ≡ form.Object i) (at : RustOption ℕ) → found at ≡ member s i k → PlainFinds s b (get_member (base_map (plain_json s b v)) k) (placed at)
     plain_object e at f =
         let l = object_within e in
         member_placed s tab a i l.within b (get_member (base_map (plain_json s b v)) k) k (found at)
@@ -202,13 +200,13 @@ module _ (s b : Bytes) (ent : List ℕ) (v : Value) (k : Bytes) where
     pub inward_plain : merged_of u ≡ none → PlainHeld s b u
     inward_plain e = record { plain = e; stands = stands_plain s b ent w.held.used u e w.held.stands }
 
-    pub inward_end : merged_of u ≡ none → (r : Found) → PlainFinds s b (get_member (base_map (plain_json s b u)) k) r → Finds s b ent v (get_member (base_map (json_of s b ent v)) k) r
-    inward_end e (Is x) f = record {
+    pub inward_end : merged_of u ≡ none → (r : RustOption Value) → PlainFinds s b (get_member (base_map (plain_json s b u)) k) r → Finds s b ent v (get_member (base_map (json_of s b ent v)) k) r
+    inward_end e (Some x) f = record {
       value = w.same ∙ ap (λ (j : Json). get_member (base_map j) k) (plain_is s b ent u e) ∙ f.value ∙ ap some (sym (plain_is s b ent x f.plain));
       stands = λ t z. plain f.plain f.stands;
       no_path = f.no_path;
     }
-    inward_end e Nothing f = w.same ∙ ap (λ (j : Json). get_member (base_map j) k) (plain_is s b ent u e) ∙ f
+    inward_end e None f = w.same ∙ ap (λ (j : Json). get_member (base_map j) k) (plain_is s b ent u e) ∙ f
 
     -- there it is told where an object of the plan stands
     pub inward_told : merged_of u ≡ none → tells s b ent k v ≡ stands_object s u

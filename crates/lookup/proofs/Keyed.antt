@@ -1,4 +1,5 @@
 -- The helper `lookup` by numbers.
+use Rattle.std.specs.Prelude.{Option as RustOption}
 use Prim.Native.Nat.{ℕ, ◌+◌, ◌-◌, ◌/◌, ◌%◌, ◌≤◌, ◌<◌}
 use mathlib.Core.Bool.{Bool, true, false, ◌||◌}
 use mathlib.Core.List.{List, [], ◌∷◌}
@@ -45,7 +46,6 @@ use Rattle.lookup.specs.Numbers.{MemberNumber, placed_number, numbered_found}
 use Rattle.lookup.specs.Keyed.{key_told, KeyNumber, MergedNumber, LookedNumber}
 use Rattle.lookup.specs.Telling.{stands_object, has_pair}
 use Rattle.places.specs.Children.{is_object}
-use Rattle.lookup.specs.declared.Found.{Found}
 use Rattle.lookup.proofs.Finding.{object_found, member_placed, Inward, inward_start, inward_on}
 use Rattle.lookup.proofs.Leading.{means, placed_json, placed_within, finds_eq, finds_plain, object_lookup}
 use Rattle.lookup.proofs.Numbers.{pathless_number, number_object, placed_small, placed_known, placed_told, found_place}
@@ -167,7 +167,7 @@ module _ (s b : Bytes) (ent : List ℕ) (v : Value) (l x : ℕ) (hx : x ≡ fiel
   pub looked_other : OneOf (0 ∷ 1 ∷ 2 ∷ 3 ∷ 4 ∷ 7 ∷ 8 ∷ 9 ∷ 10 ∷ 11 ∷ 12 ∷ 13 ∷ []) (tag_of the_type v) → LookedNumber s b ent v l 0
   looked_other o = record { small = omega arith; known = sym (no_key s b ent k v o) ∙ by_key; told = λ ne. absurd (ne refl) }
 
-pub looked_literal : (s b : Bytes) (ent : List ℕ) (v i : Value) (l : ℕ) → i ≡ Literal l → (r : ℕ) → LookedNumber s b ent v l r → (r ≡ 0 → ⊥) → (f : Found) → f ≡ numbered_found r
+pub looked_literal : (s b : Bytes) (ent : List ℕ) (v i : Value) (l : ℕ) → i ≡ Literal l → (r : ℕ) → LookedNumber s b ent v l r → (r ≡ 0 → ⊥) → (f : RustOption Value) → f ≡ numbered_found r
     → Finds s b ent v (looked_up (json_of s b ent v) (json_of s b ent i)) f
 looked_literal s b ent v i l e r m ne f g =
     subst (Finds s b ent v (looked_up (json_of s b ent v) (json_of s b ent i))) (sym g)

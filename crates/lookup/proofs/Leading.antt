@@ -1,4 +1,5 @@
 -- Segments of paths and the helper `lookup`, by the form of a value.
+use Rattle.std.specs.Prelude.{Option as RustOption, Some, None}
 use Prim.Native.Nat.{ℕ, zero, suc, ◌-◌, ◌<◌}
 use mathlib.Core.List.{List}
 use mathlib.Core.Option.{Option, none, some}
@@ -34,8 +35,6 @@ use Rattle.lookup.specs.Answers.{Held, pathless, Finds, PlainFinds, Leads, DataG
 use Rattle.lookup.specs.Places.{placed_at, reached_at, list_reached, Reaches, with_path, without_path, from_member}
 use Rattle.lookup.specs.declared.Reached.{Reached}
 use Rattle.lookup.specs.declared.Reached.TheVariants.{At as ReachedAt, Nothing as ReachedNothing, BadIndex as ReachedBad}
-use Rattle.lookup.specs.declared.Found.{Found}
-use Rattle.lookup.specs.declared.Found.TheVariants.{Is, Nothing}
 use Rattle.lookup.proofs.Told.{pathless_json, pathless_stands}
 use Rattle.lookup.proofs.Finding.{list_placed}
 
@@ -175,14 +174,14 @@ module _ (s b : Bytes) (ent : List ℕ) where
     derived_place i e ReachedNothing k = ap (λ (j : Json). get_data (some j) q) e ∙ k
     derived_place i e ReachedBad k = ap (λ (j : Json). get_data (some j) q) e ∙ k
 
-    pub derived_member : json_of s b ent v ≡ jobj (base_map (json_of s b ent v)) → (r : Found) → Finds s b ent v (get_member (base_map (json_of s b ent v)) q) r
+    pub derived_member : json_of s b ent v ≡ jobj (base_map (json_of s b ent v)) → (r : RustOption Value) → Finds s b ent v (get_member (base_map (json_of s b ent v)) q) r
         → DataGot s b ent v q (from_member r)
-    derived_member e (Is w) k = record {
+    derived_member e (Some w) k = record {
       value = ap (λ (j : Json). get_data (some j) q) e ∙ ap got k.value;
       stands = k.stands;
       leads = subst (λ (o : Option ℕ). Leads s o q w) (sym p) k.no_path;
     }
-    derived_member e Nothing k = ap (λ (j : Json). get_data (some j) q) e ∙ ap got k
+    derived_member e None k = ap (λ (j : Json). get_data (some j) q) e ∙ ap got k
 
 -- A value that is the place i of the plan, with its path or without
 module _ (s b : Bytes) (ent : List ℕ) (v : Value) (i : ℕ) (e : pathless v ≡ Place i) where
@@ -271,12 +270,12 @@ means_string s b j (form.Object p) m = ap as_str m.is
 means_string s b j (form.Merged h k) m = ap as_str m
 
 module _ (s b : Bytes) (ent : List ℕ) (v : Value) where
-  pub finds_eq : (o p : Option Json) (r : Found) → o ≡ p → Finds s b ent v p r → Finds s b ent v o r
+  pub finds_eq : (o p : Option Json) (r : RustOption Value) → o ≡ p → Finds s b ent v p r → Finds s b ent v o r
   finds_eq o p r e f = subst (λ (x : Option Json). Finds s b ent v x r) (sym e) f
 
-  pub finds_plain : (o : Option Json) (r : Found) → PlainFinds s b o r → Finds s b ent v o r
-  finds_plain o (Is w) f = record { value = f.value ∙ ap some (sym (plain_is s b ent w f.plain)); stands = λ t z. plain f.plain f.stands; no_path = f.no_path }
-  finds_plain o Nothing f = f
+  pub finds_plain : (o : Option Json) (r : RustOption Value) → PlainFinds s b o r → Finds s b ent v o r
+  finds_plain o (Some w) f = record { value = f.value ∙ ap some (sym (plain_is s b ent w f.plain)); stands = λ t z. plain f.plain f.stands; no_path = f.no_path }
+  finds_plain o None f = f
 
   pub list_lookup : (tab : List ℕ) → Accepted s tab → (p : ℕ) → ListForm s (json_of s b ent v) p → (i : Json) (n : Option ℕ) → as_u64 i ≡ n
       → Finds s b ent v (looked_up (json_of s b ent v) i) (placed_at (maybe n none (get_elem? (children s p))))

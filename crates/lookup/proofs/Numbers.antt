@@ -1,4 +1,5 @@
 -- Members as numbers.
+use Rattle.std.specs.Prelude.{Some}
 use Prim.Native.Nat.{ℕ, zero, suc, ◌+◌, ◌*◌, ◌-◌, ◌/◌, ◌%◌, ◌≤◌, ◌<◌}
 use mathlib.Core.Bool.{Bool, true, false, ◌||◌}
 use mathlib.Core.List.{List}
@@ -25,7 +26,6 @@ use Rattle.places.specs.Nodes.{few_places}
 use Rattle.places.specs.declared.Kind.TheVariants as kind
 use Rattle.value.specs.declared.Value.{Value}
 use Rattle.value.specs.declared.Value.TheVariants.{Missing, Null, False, True, Empty, Context, Place, Literal, Index, IndexText, Name, Text, SaidChar, PackedChar, Merged}
-use Rattle.places.specs.declared.Found.TheVariants.{At}
 use Rattle.value.specs.Numbers.{word_of, place_of, pair_of, decoded, context_number, place_number, decoded_encoded}
 use Rattle.merging.specs.Lookup.{find_last}
 use Rattle.meaning.specs.Entries.{hash_value}
@@ -39,7 +39,6 @@ use Rattle.lookup.specs.Places.{placed_at, reached_at, Reaches, with_path, witho
 use Rattle.lookup.specs.Numbers.{IsMember, MemberNumber, placed_number, numbered_got, NumberGot, pair_at, numbered_found, Within, Inner, Asked}
 use Rattle.lookup.specs.declared.Got.{Got}
 use Rattle.lookup.specs.declared.Got.TheVariants.{Is}
-use Rattle.lookup.specs.declared.Found.TheVariants.{Is as FoundIs}
 use Rattle.lookup.proofs.Told.{pathless_none, pathless_plain, pathless_held}
 use Rattle.lookup.proofs.Telling.{tells_plain}
 use Rattle.lookup.proofs.Finding.{object_found, member_placed, Inward, inward_plain, inward_end, inward_told, inward_known, inward_found}
@@ -140,7 +139,7 @@ pub other_count : (b : Bits) (p q n m : ℕ) → n ≡ field b 16 p → m ≡ fi
 other_count b p q n m e f h =
     same_lengths (text_at b p) (text_at b q) (λ k. h (e ∙ sym (bytes_length b (p + 16) (field b 16 p)) ∙ k ∙ bytes_length b (q + 16) (field b 16 q) ∙ sym f))
 
-pub pair_some : (h k : ℕ) → 0 < k → pair_at h k ≡ At (h + (k - 1))
+pub pair_some : (h k : ℕ) → 0 < k → pair_at h k ≡ Some (h + (k - 1))
 pair_some h k lt = let e : k ≡ suc (k - 1) = omega arith in ap (pair_at h) e
 
 pub pair_key : (s b : Bytes) (ent : List ℕ) (h n : ℕ) (o : Option Json) (r : ℕ) → (r ≡ 0 → ⊥) → KeyFound s b ent h n o (pair_at h r) → KeyAt s b ent h n o (h + (r - 1))
@@ -201,9 +200,9 @@ found_place zero h le = absurd (h refl)
 found_place (suc zero) h le = refl
 found_place (suc (suc c)) h le =
     let g : suc (suc c) - 1 ≡ suc c = omega arith in
-    ap (λ (n : ℕ). placed_at (numbered n)) g ∙ sym (ap numbered_found (placed_more c 6) ∙ ap FoundIs (decoded_encoded (Place (suc c)) (omega arith)))
+    ap (λ (n : ℕ). placed_at (numbered n)) g ∙ sym (ap numbered_found (placed_more c 6) ∙ ap Some (decoded_encoded (Place (suc c)) (omega arith)))
 
-pub number_found : (r n : ℕ) → r ≡ 2 + n → FoundIs (decoded n) ≡ numbered_found r
+pub number_found : (r n : ℕ) → r ≡ 2 + n → Some (decoded n) ≡ numbered_found r
 number_found r n e = let f : r ≡ suc (suc n) = omega arith in sym (ap numbered_found f)
 
 pub number_some : (n : ℕ) → ltb 0 (2 + n) ≡ true

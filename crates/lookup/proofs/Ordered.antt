@@ -1,4 +1,5 @@
 -- The machine that parses a text.
+use Rattle.std.specs.Prelude.{Option as RustOption, Some, None}
 use Prim.Native.Nat.{ℕ, ◌≤◌}
 use mathlib.Core.Bool.{Bool, true, false}
 use mathlib.Core.List.{◌∷◌}
@@ -20,8 +21,6 @@ use Rattle.parts.specs.HoldsLaws.{string_in}
 use Rattle.places.specs.Places.{tree_at, name_at}
 use Rattle.decimal.specs.Parsing.{fed, coming, parsed}
 use Rattle.decimal.specs.declared.Parse.{Parse}
-use Rattle.decimal.specs.declared.Parsed.{Parsed}
-use Rattle.decimal.specs.declared.Parsed.TheVariants.{Is as Number, Refused as NoNumber}
 use Rattle.decimal.proofs.Parsing.{coming_fed}
 
 -- one byte more of the text
@@ -29,11 +28,11 @@ pub coming_step : (p : Parse) (c : ℕ) (t u : Bytes) (o : Option ℕ) → comin
 coming_step p c t u o e f = coming_fed p c u ∙ ap (coming p) (sym f) ∙ e
 
 -- what was parsed
-pub parsed_some : (o : Option ℕ) (n : ℕ) → Number n ≡ parsed o → o ≡ some n
+pub parsed_some : (o : Option ℕ) (n : ℕ) → Some n ≡ parsed o → o ≡ some n
 parsed_some none n e = cc
 parsed_some (some m) n e = cc
 
-pub parsed_none : (o : Option ℕ) → NoNumber ≡ parsed o → o ≡ none
+pub parsed_none : (o : Option ℕ) → None ≡ parsed o → o ≡ none
 parsed_none none e = refl
 parsed_none (some m) e = cc
 
@@ -47,15 +46,15 @@ pub string_near : (b : Bytes) (p : ℕ) → length b ≤ 65536 → Holds string 
 string_near b p le h = omega (arith, string_in (bits b) p h, bits_size b)
 
 -- what `canonical` says, by the number that was parsed
-pub canonical_refused : (k : Bytes) (r : Parsed) → r ≡ parsed (parse_usize k) → r ≡ NoNumber → NoNumber ≡ parsed (canonical k)
+pub canonical_refused : (k : Bytes) (r : RustOption ℕ) → r ≡ parsed (parse_usize k) → r ≡ None → None ≡ parsed (canonical k)
 canonical_refused k r e f = ap parsed (sym (canonical_none k (parsed_none (parse_usize k) (sym f ∙ e))))
 
-module _ (k : Bytes) (r : Parsed) (n : ℕ) (e : r ≡ parsed (parse_usize k)) (f : r ≡ Number n) (t : Bool) (g : t ≡ same (digits n) k) where
+module _ (k : Bytes) (r : RustOption ℕ) (n : ℕ) (e : r ≡ parsed (parse_usize k)) (f : r ≡ Some n) (t : Bool) (g : t ≡ same (digits n) k) where
   is_canonical : canonical k ≡ pick t (some n) none
   is_canonical = canonical_parsed k n (parsed_some (parse_usize k) n (sym f ∙ e)) ∙ ap (λ (x : Bool). pick x (some n) none) (sym g)
 
-  pub canonical_found : t ≡ true → Number n ≡ parsed (canonical k)
+  pub canonical_found : t ≡ true → Some n ≡ parsed (canonical k)
   canonical_found h = ap parsed (sym (is_canonical ∙ ap (λ (x : Bool). pick x (some n) none) h))
 
-  pub canonical_other : t ≡ false → NoNumber ≡ parsed (canonical k)
+  pub canonical_other : t ≡ false → None ≡ parsed (canonical k)
   canonical_other h = ap parsed (sym (is_canonical ∙ ap (λ (x : Bool). pick x (some n) none) h))

@@ -1,4 +1,5 @@
 -- A loop over the values inside the one at i: f is what it finds among those still to come, step what one of them makes of the best one so far.
+use Rattle.std.specs.Prelude.{Option as RustOption, Some, None}
 use Prim.Native.Nat.{ℕ, zero, suc, ◌-◌, ◌<◌}
 use mathlib.Core.Bool.{Bool, true, false}
 use mathlib.Core.List.{List, [], ◌∷◌}
@@ -14,13 +15,11 @@ use Rattle.places.specs.Nodes.{size_positive}
 use Rattle.places.specs.Accepted.{Accepted}
 use Rattle.places.specs.Kinds.{found}
 use Rattle.places.specs.Children.{end_at, Walk, walk_child, walk_on, walk_end, Child, child_walk, is_child, none_some, some_eq}
-use Rattle.places.specs.declared.Found.{Found}
-use Rattle.places.specs.declared.Found.TheVariants.{At, Nothing}
 
 -- the places that may still come
-abbrev pub ahead : Bytes → Found → ℕ
-ahead s (At c) = places s - c
-ahead s Nothing = 0
+abbrev pub ahead : Bytes → RustOption ℕ → ℕ
+ahead s (Some c) = places s - c
+ahead s None = 0
 
 past : (l : List ℕ) (j : ℕ) → none ≡ get_elem? l j → drop j l ≡ []
 past [] zero e = refl
@@ -35,7 +34,7 @@ ended (x ∷ l) zero e = let z : ◌≡◌ {A = ℕ} 0 1 = cc in absurd (omega a
 ended (x ∷ l) (suc j) e = ended l j e
 
 -- where the loop is: at the child of that number, or past the last one
-pub record Walks (s : Bytes) (i : ℕ) (at : Found) : Type 0 where
+pub record Walks (s : Bytes) (i : ℕ) (at : RustOption ℕ) : Type 0 where
   pub number : ℕ
   pub is : found at ≡ get_elem? (children s i) number
 
@@ -53,11 +52,11 @@ module _ (s : Bytes) (tab : List ℕ) (h : Accepted s tab) (i : ℕ) (lt : i < p
           omega (arith, size_positive (tree_at s c))
       go false q = none_some (sym (ended (children s i) (suc j) (walk_end s i (suc j) (end_at s c) w (ltb-false (end_at s c) (end_at s i) q))) ∙ f)
 
-  module _ (at : Found) (w : Walks s i at) where
-    pub at_child : (c : ℕ) → at ≡ At c → Child s i w.number c
+  module _ (at : RustOption ℕ) (w : Walks s i at) where
+    pub at_child : (c : ℕ) → at ≡ Some c → Child s i w.number c
     at_child c e = is_child s i w.number c h.answers lt (sym w.is ∙ ap found e)
 
-    module _ (next : Found) (c : ℕ) (e : at ≡ At c) (f : (j : ℕ) → get_elem? (children s i) j ≡ some c → found next ≡ get_elem? (children s i) (suc j)) where
+    module _ (next : RustOption ℕ) (c : ℕ) (e : at ≡ Some c) (f : (j : ℕ) → get_elem? (children s i) j ≡ some c → found next ≡ get_elem? (children s i) (suc j)) where
       pub walks_on : Walks s i next
       walks_on = record { number = suc w.number; is = f w.number (at_child c e).is }
 
@@ -67,29 +66,29 @@ module _ (s : Bytes) (tab : List ℕ) (h : Accepted s tab) (i : ℕ) (lt : i < p
           k : Child s i w.number c
           k = at_child c e
 
-          go : (n : Found) → next ≡ n → ahead s n < places s - c
-          go (At d) g =
+          go : (n : RustOption ℕ) → next ≡ n → ahead s n < places s - c
+          go (Some d) g =
               let b = is_child s i (suc w.number) d h.answers lt (sym (f w.number k.is) ∙ ap found g) in
               omega (arith, later w.number c d k.is b.is, b.within)
-          go Nothing g = omega (arith, k.within)
+          go None g = omega (arith, k.within)
 
 -- what it finds
 module _ (s : Bytes) (i : ℕ) (f : Option ℕ → List ℕ → Option ℕ) (step : Option ℕ → ℕ → Option ℕ)
     (none_left : (o : Option ℕ) → f o [] ≡ o) (one_more : (o : Option ℕ) (p : ℕ) (l : List ℕ) → f o (p ∷ l) ≡ f (step o p) l) where
   -- from the best one so far
-  pub record Scans (best : Option ℕ) (at : Found) : Type 0 where
+  pub record Scans (best : Option ℕ) (at : RustOption ℕ) : Type 0 where
     pub walks : Walks s i at
     pub so_far : f best (drop walks.number (children s i)) ≡ f none (children s i)
 
-  pub scan_start : (at : Found) → found at ≡ get_elem? (children s i) 0 → Scans none at
+  pub scan_start : (at : RustOption ℕ) → found at ≡ get_elem? (children s i) 0 → Scans none at
   scan_start at e = record { walks = record { number = 0; is = e }; so_far = refl }
 
-  pub scan_end : (best : Option ℕ) (at : Found) → Scans best at → at ≡ Nothing → best ≡ f none (children s i)
+  pub scan_end : (best : Option ℕ) (at : RustOption ℕ) → Scans best at → at ≡ None → best ≡ f none (children s i)
   scan_end best at w e =
       sym (none_left best) ∙ ap (f best) (sym (past (children s i) w.walks.number (sym (ap found e) ∙ w.walks.is))) ∙ w.so_far
 
-  module _ (tab : List ℕ) (h : Accepted s tab) (lt : i < places s) (best : Option ℕ) (at : Found) (w : Scans best at) (c : ℕ) (e : at ≡ At c) where
-    pub scan_on : (more : Option ℕ) (next : Found) → more ≡ step best c
+  module _ (tab : List ℕ) (h : Accepted s tab) (lt : i < places s) (best : Option ℕ) (at : RustOption ℕ) (w : Scans best at) (c : ℕ) (e : at ≡ Some c) where
+    pub scan_on : (more : Option ℕ) (next : RustOption ℕ) → more ≡ step best c
         → ((j : ℕ) → get_elem? (children s i) j ≡ some c → found next ≡ get_elem? (children s i) (suc j)) → Scans more next
     unfolding walks_on
     scan_on more next m g =

@@ -1,5 +1,5 @@
 -- What is found in a value: s is the plan, b the bundle, ent the entries of open partials.
-use Rattle.std.specs.Prelude.{ℕ, ◌*◌, ◌≤◌, List, ◌≡◌, length}
+use Rattle.std.specs.Prelude.{ℕ, ◌*◌, ◌≤◌, List, ◌≡◌, length, Option as RustOption, Some, None}
 use Rattle.std.proofs.Math.Option.{Option, none, some}
 use Rattle.rules.specs.Bytes.{Bytes}
 use Rattle.rules.specs.Json.{Json, jstr}
@@ -13,8 +13,6 @@ use Rattle.value.specs.declared.Value.{Value}
 use Rattle.value.specs.declared.Value.TheVariants.{Missing, Null, False, True, Empty, Context, Place, Literal, Index, IndexText, Name, Text, SaidChar, PackedChar, Merged}
 use Rattle.meaning.specs.Meaning.{plain_json, merged_of, context_place, json_of}
 use Rattle.meaning.specs.Standing.{PlainStands, Stands, plain}
-use Rattle.lookup.specs.declared.Found.{Found}
-use Rattle.lookup.specs.declared.Found.TheVariants.{Is, Nothing}
 use Rattle.lookup.specs.declared.Got.{Got}
 use Rattle.lookup.specs.declared.Got.TheVariants.{Is as GotIs, Nothing as GotNothing, BadIndex}
 
@@ -61,9 +59,9 @@ pub record IsFound (s b : Bytes) (ent : List ℕ) (v : Value) (o : Option Json) 
   pub stands : (t : ℕ) → Stands s b ent t v → Stands s b ent t w
   pub no_path : context_place w ≡ none
 
-abbrev pub Finds : Bytes → Bytes → List ℕ → Value → Option Json → Found → Type 0
-Finds s b ent v o (Is w) = IsFound s b ent v o w
-Finds s b ent v o Nothing = o ≡ none
+abbrev pub Finds : Bytes → Bytes → List ℕ → Value → Option Json → RustOption Value → Type 0
+Finds s b ent v o (Some w) = IsFound s b ent v o w
+Finds s b ent v o None = o ≡ none
 
 -- the same of values that are not merged
 pub record PlainFound (s b : Bytes) (o : Option Json) (w : Value) : Type 0 where
@@ -72,9 +70,9 @@ pub record PlainFound (s b : Bytes) (o : Option Json) (w : Value) : Type 0 where
   pub stands : PlainStands s b w
   pub no_path : context_place w ≡ none
 
-abbrev pub PlainFinds : Bytes → Bytes → Option Json → Found → Type 0
-PlainFinds s b o (Is w) = PlainFound s b o w
-PlainFinds s b o Nothing = o ≡ none
+abbrev pub PlainFinds : Bytes → Bytes → Option Json → RustOption Value → Type 0
+PlainFinds s b o (Some w) = PlainFound s b o w
+PlainFinds s b o None = o ≡ none
 
 -- the segment q leads from v to w: by its path from a place that has one, else without
 abbrev pub Leads : Bytes → Option ℕ → Bytes → Value → Type 0

@@ -1,13 +1,11 @@
 -- The hash pairs of a merged object, one by one.
-use Rattle.std.specs.Prelude.{ℕ, zero, suc, ◌+◌, ◌≤◌, ◌<◌, List, [], ◌∷◌, ◌++◌, ◌≡◌}
+use Rattle.std.specs.Prelude.{ℕ, zero, suc, ◌+◌, ◌≤◌, ◌<◌, List, [], ◌∷◌, ◌++◌, ◌≡◌, Option as RustOption, Some, None}
 use Rattle.std.proofs.Math.Option.{Option, none, some}
 use Rattle.std.proofs.Common.{ap, ◌∙◌, arith}
 use Rattle.rules.specs.Bytes.{Bytes}
 use Rattle.rules.specs.Json.{Json}
 use Rattle.rules.specs.Bits.{bits}
 use Rattle.layout.specs.Text.{text_at}
-use Rattle.places.specs.declared.Found.{Found}
-use Rattle.places.specs.declared.Found.TheVariants.{At, Nothing}
 use Rattle.value.specs.declared.Value.{Value}
 use Rattle.meaning.specs.Entries.{place, hash_value}
 use Rattle.meaning.specs.Meaning.{pairs, json_of}
@@ -18,9 +16,9 @@ pub record KeyAt (s b : Bytes) (ent : List ℕ) (h n : ℕ) (o : Option Json) (e
   pub high : e < h + n
   pub value : o ≡ some (json_of s b ent (hash_value ent e))
 
-abbrev pub KeyFound : Bytes → Bytes → List ℕ → ℕ → ℕ → Option Json → Found → Type 0
-KeyFound s b ent h n o (At e) = KeyAt s b ent h n o e
-KeyFound s b ent h n o Nothing = o ≡ none
+abbrev pub KeyFound : Bytes → Bytes → List ℕ → ℕ → ℕ → Option Json → RustOption ℕ → Type 0
+KeyFound s b ent h n o (Some e) = KeyAt s b ent h n o e
+KeyFound s b ent h n o None = o ≡ none
 
 -- one pair more at the end
 pub pairs_more : (b : Bytes) (ent : List ℕ) (f : Value → Json) (e n : ℕ)

@@ -1,5 +1,5 @@
 -- Answers as numbers.
-use Rattle.std.specs.Prelude.{ℕ, zero, suc, ◌+◌, ◌*◌, ◌-◌, ◌/◌, ◌%◌, ◌≤◌, ◌<◌, true, false, ◌||◌, List, ◌≡◌, eqb, ltb}
+use Rattle.std.specs.Prelude.{ℕ, zero, suc, ◌+◌, ◌*◌, ◌-◌, ◌/◌, ◌%◌, ◌≤◌, ◌<◌, true, false, ◌||◌, List, ◌≡◌, eqb, ltb, Option as RustOption, Some, None}
 use Rattle.std.proofs.Math.Option.{none}
 use Rattle.rules.specs.Bytes.{Bytes, pick}
 use Rattle.rules.specs.Json.{get_member}
@@ -11,10 +11,6 @@ use Rattle.places.specs.Children.{is_object}
 use Rattle.value.specs.declared.Value.{Value}
 use Rattle.value.specs.Numbers.{decoded}
 use Rattle.meaning.specs.Meaning.{plain_json, json_of, context_place}
-use Rattle.places.specs.declared.Found.{Found as PlaceFound}
-use Rattle.places.specs.declared.Found.TheVariants.{At, Nothing as NoPlace}
-use Rattle.lookup.specs.declared.Found.{Found}
-use Rattle.lookup.specs.declared.Found.TheVariants.{Is as FoundIs, Nothing as FoundNothing}
 use Rattle.lookup.specs.Answers.{PlainHeld, IsFound, Finds, PlainFinds, DataGot}
 use Rattle.lookup.specs.Telling.{stands_object, tells}
 use Rattle.lookup.specs.declared.Got.{Got}
@@ -48,16 +44,16 @@ pub record NumberGot (s b : Bytes) (ent : List ℕ) (v : Value) (k : Bytes) (r :
 
 -- One of a merged object's pairs, from h on: 0 for none, else one more than its number
 
-abbrev pub pair_at : ℕ → ℕ → PlaceFound
-pair_at h zero = NoPlace
-pair_at h (suc k) = At (h + k)
+abbrev pub pair_at : ℕ → ℕ → RustOption ℕ
+pair_at h zero = None
+pair_at h (suc k) = Some (h + k)
 
 -- What stands under k in a value taken as an object
 
-abbrev pub numbered_found : ℕ → Found
-numbered_found zero = FoundNothing
-numbered_found (suc zero) = FoundNothing
-numbered_found (suc (suc n)) = FoundIs (decoded n)
+abbrev pub numbered_found : ℕ → RustOption Value
+numbered_found zero = None
+numbered_found (suc zero) = None
+numbered_found (suc (suc n)) = Some (decoded n)
 
 -- Where a name is to be looked for
 
@@ -66,7 +62,7 @@ pub record Within (s b : Bytes) (ent : List ℕ) (v : Value) (k : Bytes) (u : Va
   pub held : PlainHeld s b u
   pub no_path : context_place u ≡ none
   pub known : tells s b ent k v ≡ stands_object s u
-  pub finds : (x : Found) → PlainFinds s b (get_member (base_map (plain_json s b u)) k) x → Finds s b ent v (get_member (base_map (json_of s b ent v)) k) x
+  pub finds : (x : RustOption Value) → PlainFinds s b (get_member (base_map (plain_json s b u)) k) x → Finds s b ent v (get_member (base_map (json_of s b ent v)) k) x
 
 -- the number of that value; with 2 ^ 32 added the number of what one of the pairs has
 pub record Inner (s b : Bytes) (ent : List ℕ) (v : Value) (k : Bytes) (r : ℕ) : Type 0 where

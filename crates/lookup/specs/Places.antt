@@ -1,5 +1,5 @@
 -- Places of the plan as answers.
-use Rattle.std.specs.Prelude.{ℕ, List, ◌≡◌}
+use Rattle.std.specs.Prelude.{ℕ, List, ◌≡◌, Option as RustOption, Some, None}
 use Rattle.std.proofs.Math.Option.{Option, none, some}
 use Rattle.std.proofs.Math.ListN.{get_elem?}
 use Rattle.rules.specs.Bytes.{Bytes, maybe}
@@ -8,20 +8,18 @@ use Rattle.rules.specs.Context.{get_data}
 use Rattle.places.specs.Places.{json_at}
 use Rattle.places.specs.Paths.{Segment}
 use Rattle.places.specs.Kinds.{found}
-use Rattle.places.specs.declared.Found.{Found as PlaceFound}
 use Rattle.value.specs.declared.Value.TheVariants.{Context, Place}
 use Rattle.lookup.specs.declared.Reached.{Reached}
 use Rattle.lookup.specs.declared.Reached.TheVariants.{At as ReachedAt, Nothing as ReachedNothing, BadIndex as ReachedBad}
-use Rattle.lookup.specs.declared.Found.{Found}
-use Rattle.lookup.specs.declared.Found.TheVariants.{Is, Nothing}
 use Rattle.lookup.specs.declared.Got.{Got}
 use Rattle.lookup.specs.declared.Got.TheVariants.{Is as GotIs, Nothing as GotNothing, BadIndex}
+use Rattle.value.specs.declared.Value.{Value}
 
 -- without its path
-abbrev pub placed_at : Option ℕ → Found
-placed_at o = maybe o Nothing (λ c. Is (Place c))
+abbrev pub placed_at : Option ℕ → RustOption Value
+placed_at o = maybe o None (λ c. Some (Place c))
 
-abbrev pub placed : PlaceFound → Found
+abbrev pub placed : RustOption ℕ → RustOption Value
 placed at = placed_at (found at)
 
 -- what a segment leads to: with its path, and without
@@ -47,6 +45,6 @@ without_path (ReachedAt c) = GotIs (Place c)
 without_path ReachedNothing = GotNothing
 without_path ReachedBad = BadIndex
 
-abbrev pub from_member : Found → Got
-from_member (Is w) = GotIs w
-from_member Nothing = GotNothing
+abbrev pub from_member : RustOption Value → Got
+from_member (Some w) = GotIs w
+from_member None = GotNothing

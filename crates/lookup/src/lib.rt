@@ -35,13 +35,11 @@ ghost use Rattle.lookup.specs.Numbers.{MemberNumber, placed_number, NumberGot, p
 ghost use Rattle.lookup.specs.Keyed.{KeyNumber, MergedNumber, LookedNumber};
 ghost use Rattle.lookup.specs.Places.{placed, placed_at, reached_at, list_reached, Reaches, with_path, without_path, from_member};
 
-use chars::Nth;
-use decimal::Parsed;
 use meaning::Form;
 use parts::Literal;
 use places::Kind;
 use saying::Name;
-use text::{Step, Text};
+use text::Text;
 use value::Value;
 
 // How many bytes a plan may have
@@ -96,12 +94,6 @@ const PAIR: u64 = 1 << 32;
 const PAIR_TO_VALUE: u64 = PAIR - VALUE;
 
 #[derive(Clone, Copy)]
-pub enum Found {
-    Is(Value),
-    Nothing,
-}
-
-#[derive(Clone, Copy)]
 pub enum Got {
     Is(Value),
     Nothing,
@@ -118,33 +110,29 @@ enum Reached {
 // Texts
 
 // `parse::<usize>` of a text.
-fn index_of(s: &[u8], b: &[u8], t: Text) -> Parsed
+fn index_of(s: &[u8], b: &[u8], t: Text) -> Option<u64>
     requires { (length s.now ≤ 65536) × Stands s.now b.now t }
     ensures { result ≡ parsed (parse_usize (rest s.now b.now t)) }
 {
     let mut p = decimal::start();
     let mut u = t;
-    loop {
-        let Step::Byte(c, v) = text::next(s, b, u) else {
-            return decimal::finish(p);
-        };
+    while let Some((c, v)) = text::next(s, b, u) {
         p = decimal::feed(p, c);
         u = v;
     }
+    decimal::finish(p)
 }
 
 // The number whose digits a text is.
-fn canonical(s: &[u8], b: &[u8], t: Text) -> Parsed
+fn canonical(s: &[u8], b: &[u8], t: Text) -> Option<u64>
     requires { (length s.now ≤ 65536) × Stands s.now b.now t }
     ensures { result ≡ parsed (canonical (rest s.now b.now t)) }
 {
-    let Parsed::Is(n) = index_of(s, b, t) else {
-        return Parsed::Refused;
-    };
+    let n = index_of(s, b, t)?;
     if text::same(s, b, Text::Digits(n, 0), t) {
-        return Parsed::Is(n);
+        return Some(n);
     }
-    Parsed::Refused
+    None
 }
 
 // The string at the bit place p of the bundle.
@@ -161,36 +149,34 @@ pub fn text_of(s: &[u8], b: &[u8], p: usize) -> Text
 // Places of the plan
 
 // The place c where its name is t, or else the best one so far.
-fn latest(s: &[u8], tab: &[u64], b: &[u8], t: Text, c: usize, best: places::Found) -> places::Found
+fn latest(s: &[u8], tab: &[u64], b: &[u8], t: Text, c: usize, best: Option<usize>) -> Option<usize>
     requires { Accepted s.now tab.now × (c < places s.now) × Stands s.now b.now t }
     ensures { found result
         ≡ pick (same (name_at s.now c) (rest s.now b.now t)) (some c) (found best) }
 {
     let n = places::name(s, tab, c);
     if text::same(s, b, Text::Said(n + 1, 0), t) {
-        return places::Found::At(c);
+        return Some(c);
     }
     best
 }
 
 // The member of that name of the object at i, whatever text the name is: of equal names the last one.
-fn any_member(s: &[u8], tab: &[u64], b: &[u8], i: usize, t: Text) -> places::Found
+fn any_member(s: &[u8], tab: &[u64], b: &[u8], i: usize, t: Text) -> Option<usize>
     requires { Accepted s.now tab.now × (i < places s.now) × Stands s.now b.now t }
     ensures { found result ≡ member s.now i (rest s.now b.now t) }
 {
-    let mut best = places::Found::Nothing;
+    let mut best = None;
     let mut at = places::first(s, tab, i);
-    loop {
-        let places::Found::At(c) = at else {
-            return best;
-        };
+    while let Some(c) = at {
         best = latest(s, tab, b, t, c, best);
         at = places::next(s, tab, i, c);
     }
+    best
 }
 
 // The same for what a string of the plan says from the place `at` and the byte k on. Most often that is all of it, and then two strings are compared where they stand.
-fn said_member(s: &[u8], tab: &[u64], b: &[u8], i: usize, at: usize, k: usize) -> places::Found
+fn said_member(s: &[u8], tab: &[u64], b: &[u8], i: usize, at: usize, k: usize) -> Option<usize>
     requires { Accepted s.now tab.now × (i < places s.now) × Inside s.now at k }
     ensures { found result ≡ member s.now i (remaining s.now at k) }
 {
@@ -202,7 +188,7 @@ fn said_member(s: &[u8], tab: &[u64], b: &[u8], i: usize, at: usize, k: usize) -
 }
 
 // The member of that name of the object at i.
-fn object_member(s: &[u8], tab: &[u64], b: &[u8], i: usize, t: Text) -> places::Found
+fn object_member(s: &[u8], tab: &[u64], b: &[u8], i: usize, t: Text) -> Option<usize>
     requires { Accepted s.now tab.now × (i < places s.now) × Stands s.now b.now t }
     ensures { found result ≡ member s.now i (rest s.now b.now t) }
 {
@@ -214,14 +200,12 @@ fn object_member(s: &[u8], tab: &[u64], b: &[u8], i: usize, t: Text) -> places::
 }
 
 // The item of the list at i that stands under t where the list is taken as an object.
-fn list_member(s: &[u8], tab: &[u64], b: &[u8], i: usize, t: Text) -> places::Found
+fn list_member(s: &[u8], tab: &[u64], b: &[u8], i: usize, t: Text) -> Option<usize>
     requires { Accepted s.now tab.now × (i < places s.now) × Stands s.now b.now t }
     ensures { found result
         ≡ maybe (canonical (rest s.now b.now t)) none (get_elem? (children s.now i)) }
 {
-    let Parsed::Is(n) = canonical(s, b, t) else {
-        return places::Found::Nothing;
-    };
+    let n = canonical(s, b, t)?;
     places::nth(s, tab, i, n as usize)
 }
 
@@ -238,12 +222,12 @@ fn pathless(v: Value) -> Value
 }
 
 // A place that was found, without its path.
-fn placed(at: places::Found) -> Found
+fn placed(at: Option<usize>) -> Option<Value>
     ensures { result ≡ placed at }
 {
     match at {
-        places::Found::At(c) => Found::Is(Value::Place(c)),
-        places::Found::Nothing => Found::Nothing,
+        Some(c) => Some(Value::Place(c)),
+        None => None,
     }
 }
 
@@ -296,7 +280,7 @@ pub fn string_text(s: &[u8], tab: &[u64], b: &[u8], v: Value) -> Text
 }
 
 // The character of a string that stands under t where the string is taken as an object.
-fn string_member(s: &[u8], b: &[u8], x: Text, t: Text) -> Found
+fn string_member(s: &[u8], b: &[u8], x: Text, t: Text) -> Option<Value>
     requires { (length s.now ≤ 65536)
         × (length b.now ≤ 65536)
         × Spelled s.now b.now x
@@ -305,17 +289,13 @@ fn string_member(s: &[u8], b: &[u8], x: Text, t: Text) -> Found
         (get_member (base_map (jstr (rest s.now b.now x)))
         (rest s.now b.now t)) result }
 {
-    let Parsed::Is(n) = canonical(s, b, t) else {
-        return Found::Nothing;
-    };
-    let Nth::Is(w) = chars::nth_char(s, b, x, n as usize) else {
-        return Found::Nothing;
-    };
-    Found::Is(pathless(w))
+    let n = canonical(s, b, t)?;
+    let w = chars::nth_char(s, b, x, n as usize)?;
+    Some(pathless(w))
 }
 
 // What stands under t in a value that is not merged, taken as an object: by its form.
-fn form_member(s: &[u8], tab: &[u64], b: &[u8], v: Value, t: Text) -> Found
+fn form_member(s: &[u8], tab: &[u64], b: &[u8], v: Value, t: Text) -> Option<Value>
     requires { Accepted s.now tab.now
         × (length b.now ≤ 65536)
         × PlainHeld s.now b.now v
@@ -326,19 +306,19 @@ fn form_member(s: &[u8], tab: &[u64], b: &[u8], v: Value, t: Text) -> Found
 {
     let f = meaning::form_of(s, tab, b, v);
     match f {
-        Form::Null => Found::Nothing,
-        Form::Boolean(_) => Found::Nothing,
-        Form::Unsigned(_) => Found::Nothing,
-        Form::Negative(_) => Found::Nothing,
+        Form::Null => None,
+        Form::Boolean(_) => None,
+        Form::Unsigned(_) => None,
+        Form::Negative(_) => None,
         Form::String(_) => string_member(s, b, string_text(s, tab, b, v), t),
         Form::List(i) => placed(list_member(s, tab, b, i, t)),
         Form::Object(i) => placed(object_member(s, tab, b, i, t)),
-        Form::Merged(_, _) => Found::Nothing,
+        Form::Merged(_, _) => None,
     }
 }
 
 // The same. Most often an object of the plan stands there, which is told without the form.
-fn plain_member(s: &[u8], tab: &[u64], b: &[u8], v: Value, t: Text) -> Found
+fn plain_member(s: &[u8], tab: &[u64], b: &[u8], v: Value, t: Text) -> Option<Value>
     requires { Accepted s.now tab.now
         × (length b.now ≤ 65536)
         × PlainHeld s.now b.now v
@@ -357,7 +337,7 @@ fn plain_member(s: &[u8], tab: &[u64], b: &[u8], v: Value, t: Text) -> Found
 }
 
 // The last of the n entries from h on whose key is t.
-fn last_key(s: &[u8], b: &[u8], ent: &[u64], h: usize, n: usize, t: Text) -> places::Found
+fn last_key(s: &[u8], b: &[u8], ent: &[u64], h: usize, n: usize, t: Text) -> Option<usize>
     requires { (length s.now ≤ 65536)
         × (length b.now ≤ 65536)
         × (2 * (h + n) ≤ length ent.now)
@@ -368,19 +348,17 @@ fn last_key(s: &[u8], b: &[u8], ent: &[u64], h: usize, n: usize, t: Text) -> pla
         (pairs b.now ent.now (json_of s.now b.now ent.now) h n)
         (rest s.now b.now t)) result }
 {
-    let mut k = n;
-    while 0 < k {
-        k -= 1;
+    for k in (0..n).rev() {
         let key = text_of(s, b, entries::place(ent, h + k));
         if text::same(s, b, key, t) {
-            return places::Found::At(h + k);
+            return Some(h + k);
         }
     }
-    places::Found::Nothing
+    None
 }
 
 // What stands under t in a value taken as an object: of a merged one the last hash pair of that name, and where there is none what its base has.
-pub fn get_member(s: &[u8], tab: &[u64], b: &[u8], ent: &[u64], v: Value, t: Text) -> Found
+pub fn get_member(s: &[u8], tab: &[u64], b: &[u8], ent: &[u64], v: Value, t: Text) -> Option<Value>
     requires { Accepted s.now tab.now
         × (length b.now ≤ 65536)
         × Held s.now b.now ent.now v
@@ -390,25 +368,23 @@ pub fn get_member(s: &[u8], tab: &[u64], b: &[u8], ent: &[u64], v: Value, t: Tex
         (rest s.now b.now t)) result }
 {
     let mut u = v;
-    loop {
-        let Value::Merged(h, n) = u else {
-            return plain_member(s, tab, b, u, t);
-        };
-        if let places::Found::At(e) = last_key(s, b, ent, h, n, t) {
-            return Found::Is(pathless(value::decode(entries::low(ent, e))));
+    while let Value::Merged(h, n) = u {
+        if let Some(e) = last_key(s, b, ent, h, n, t) {
+            return Some(pathless(value::decode(entries::low(ent, e))));
         }
         u = value::decode(entries::high(ent, h));
     }
+    plain_member(s, tab, b, u, t)
 }
 
 // Paths
 
-fn from_place(at: places::Found) -> Reached
+fn from_place(at: Option<usize>) -> Reached
     ensures { result ≡ reached_at (found at) }
 {
     match at {
-        places::Found::At(c) => Reached::At(c),
-        places::Found::Nothing => Reached::Nothing,
+        Some(c) => Reached::At(c),
+        None => Reached::Nothing,
     }
 }
 
@@ -417,7 +393,7 @@ fn list_data(s: &[u8], tab: &[u64], b: &[u8], i: usize, t: Text) -> Reached
     ensures { result ≡ list_reached (children s.now i)
         (parse_usize (rest s.now b.now t)) }
 {
-    let Parsed::Is(n) = index_of(s, b, t) else {
+    let Some(n) = index_of(s, b, t) else {
         return Reached::BadIndex;
     };
     from_place(places::nth(s, tab, i, n as usize))
@@ -461,12 +437,12 @@ fn without_path(at: Reached) -> Got
     }
 }
 
-fn from_member(found: Found) -> Got
+fn from_member(found: Option<Value>) -> Got
     ensures { result ≡ from_member found }
 {
     match found {
-        Found::Is(w) => Got::Is(w),
-        Found::Nothing => Got::Nothing,
+        Some(w) => Got::Is(w),
+        None => Got::Nothing,
     }
 }
 
@@ -581,13 +557,11 @@ fn last_pair(b: &[u8], ent: &[u64], h: usize, n: usize, q: usize, m: usize) -> u
         (find_last (pairs b.now ent.now (json_of s b.now ent.now) h n)
         (text_at (bits b.now) q)) (pair_at h result) }
 {
-    let mut left = n;
-    while 0 < left {
-        let p = entries::place(ent, h + (left - 1));
+    for i in (0..n).rev() {
+        let p = entries::place(ent, h + i);
         if is_key(b, p, q, m) {
-            return left;
+            return i + 1;
         }
-        left -= 1;
     }
     0
 }
@@ -612,11 +586,7 @@ fn inner_number(s: &[u8], b: &[u8], ent: &[u64], v: u32, q: usize, m: usize) -> 
         (text_at (bits b.now) q) result }
 {
     let mut u = v;
-    loop {
-        let w = value::decode(u);
-        let Value::Merged(h, n) = w else {
-            return pathless_number(u) as u64;
-        };
+    while let Value::Merged(h, n) = value::decode(u) {
         let k = last_pair(b, ent, h, n, q, m);
         if k != 0 {
             let low = entries::low(ent, h + (k - 1));
@@ -624,6 +594,7 @@ fn inner_number(s: &[u8], b: &[u8], ent: &[u64], v: u32, q: usize, m: usize) -> 
         }
         u = entries::high(ent, h);
     }
+    pathless_number(u) as u64
 }
 
 // The same for any value: what is not merged keeps its path.
@@ -665,7 +636,7 @@ pub fn get_number(s: &[u8], tab: &[u64], b: &[u8], ent: &[u64], v: u32, q: usize
 
 // The helper `lookup`
 
-fn item_at(s: &[u8], tab: &[u64], b: &[u8], i: usize, n: Value) -> Found
+fn item_at(s: &[u8], tab: &[u64], b: &[u8], i: usize, n: Value) -> Option<Value>
     requires { Accepted s.now tab.now
         × (length b.now ≤ 65536)
         × Known s.now b.now n
@@ -676,18 +647,18 @@ fn item_at(s: &[u8], tab: &[u64], b: &[u8], i: usize, n: Value) -> Found
 {
     let f = meaning::form_of(s, tab, b, n);
     match f {
-        Form::Null => Found::Nothing,
-        Form::Boolean(_) => Found::Nothing,
+        Form::Null => None,
+        Form::Boolean(_) => None,
         Form::Unsigned(k) => placed(places::nth(s, tab, i, k as usize)),
-        Form::Negative(_) => Found::Nothing,
-        Form::String(_) => Found::Nothing,
-        Form::List(_) => Found::Nothing,
-        Form::Object(_) => Found::Nothing,
-        Form::Merged(_, _) => Found::Nothing,
+        Form::Negative(_) => None,
+        Form::String(_) => None,
+        Form::List(_) => None,
+        Form::Object(_) => None,
+        Form::Merged(_, _) => None,
     }
 }
 
-fn member_at(s: &[u8], tab: &[u64], b: &[u8], ent: &[u64], v: Value, k: Value) -> Found
+fn member_at(s: &[u8], tab: &[u64], b: &[u8], ent: &[u64], v: Value, k: Value) -> Option<Value>
     requires { Accepted s.now tab.now
         × (length b.now ≤ 65536)
         × Held s.now b.now ent.now v
@@ -698,18 +669,18 @@ fn member_at(s: &[u8], tab: &[u64], b: &[u8], ent: &[u64], v: Value, k: Value) -
 {
     let f = meaning::form_of(s, tab, b, k);
     match f {
-        Form::Null => Found::Nothing,
-        Form::Boolean(_) => Found::Nothing,
-        Form::Unsigned(_) => Found::Nothing,
-        Form::Negative(_) => Found::Nothing,
+        Form::Null => None,
+        Form::Boolean(_) => None,
+        Form::Unsigned(_) => None,
+        Form::Negative(_) => None,
         Form::String(t) => get_member(s, tab, b, ent, v, t),
-        Form::List(_) => Found::Nothing,
-        Form::Object(_) => Found::Nothing,
-        Form::Merged(_, _) => Found::Nothing,
+        Form::List(_) => None,
+        Form::Object(_) => None,
+        Form::Merged(_, _) => None,
     }
 }
 
-fn looked_any(s: &[u8], tab: &[u64], b: &[u8], ent: &[u64], v: Value, i: Value) -> Found
+fn looked_any(s: &[u8], tab: &[u64], b: &[u8], ent: &[u64], v: Value, i: Value) -> Option<Value>
     requires { Accepted s.now tab.now
         × (length b.now ≤ 65536)
         × Held s.now b.now ent.now v
@@ -720,11 +691,11 @@ fn looked_any(s: &[u8], tab: &[u64], b: &[u8], ent: &[u64], v: Value, i: Value) 
 {
     let f = meaning::form_of(s, tab, b, v);
     match f {
-        Form::Null => Found::Nothing,
-        Form::Boolean(_) => Found::Nothing,
-        Form::Unsigned(_) => Found::Nothing,
-        Form::Negative(_) => Found::Nothing,
-        Form::String(_) => Found::Nothing,
+        Form::Null => None,
+        Form::Boolean(_) => None,
+        Form::Unsigned(_) => None,
+        Form::Negative(_) => None,
+        Form::String(_) => None,
         Form::List(p) => item_at(s, tab, b, p, i),
         Form::Object(_) => member_at(s, tab, b, ent, v, i),
         Form::Merged(_, _) => member_at(s, tab, b, ent, v, i),
@@ -798,7 +769,7 @@ pub fn keyed_number(s: &[u8], tab: &[u64], b: &[u8], ent: &[u64], v: Value, l: u
     }
 }
 
-pub fn looked_up(s: &[u8], tab: &[u64], b: &[u8], ent: &[u64], v: Value, i: Value) -> Found
+pub fn looked_up(s: &[u8], tab: &[u64], b: &[u8], ent: &[u64], v: Value, i: Value) -> Option<Value>
     requires { Accepted s.now tab.now
         × (length b.now ≤ 65536)
         × Held s.now b.now ent.now v
@@ -815,7 +786,7 @@ pub fn looked_up(s: &[u8], tab: &[u64], b: &[u8], ent: &[u64], v: Value, i: Valu
         return looked_any(s, tab, b, ent, v, i);
     }
     if r == NOTHING {
-        return Found::Nothing;
+        return None;
     }
-    Found::Is(value::decode((r - VALUE) as u32))
+    Some(value::decode((r - VALUE) as u32))
 }

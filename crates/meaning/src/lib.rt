@@ -15,7 +15,7 @@ ghost use Rattle.meaning.specs.Forms.{Known, PlaceFormed, LiteralFormed, TextFor
 
 use parts::Literal;
 use places::Kind;
-use text::{Step, Text};
+use text::Text;
 use value::Value;
 
 #[derive(Clone, Copy)]
@@ -103,8 +103,8 @@ fn has_bytes(s: &[u8], b: &[u8], t: Text) -> bool
     ensures { result ≡ has_bytes (rest s.now b.now t) }
 {
     match text::next(s, b, t) {
-        Step::Byte(c, u) => true,
-        Step::End => false,
+        Some((c, u)) => true,
+        None => false,
     }
 }
 

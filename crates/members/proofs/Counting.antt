@@ -1,4 +1,5 @@
 -- How many members there are.
+use Rattle.std.specs.Prelude.{Option as RustOption, Some, None}
 use Prim.Native.Nat.{ℕ, zero, suc, ◌+◌, ◌-◌, ◌*◌, ◌≤◌, ◌<◌}
 use mathlib.Core.Bool.{Bool, true, false}
 use mathlib.Core.List.{List}
@@ -37,8 +38,6 @@ use Rattle.meaning.specs.declared.Form.{Form}
 use Rattle.meaning.specs.declared.Form.TheVariants as form
 use Rattle.lookup.specs.Answers.{Held, PlainHeld, Finds}
 use Rattle.lookup.specs.Keys.{pairs_more}
-use Rattle.lookup.specs.declared.Found.{Found}
-use Rattle.lookup.specs.declared.Found.TheVariants.{Is, Nothing}
 use Rattle.lookup.proofs.Finding.{few_children}
 use Rattle.members.specs.Parts.{Parts}
 
@@ -183,11 +182,11 @@ string_counted s b j l n e f le =
 
 -- One key
 
-module _ (s b : Bytes) (ent : List ℕ) (v : Value) (o p : Option Json) (r : Found) (h : Finds s b ent v o r) (g : o ≡ p) where
-  pub old_one : (w : Value) → r ≡ Is w → (0 ≡ one_if_new p) × (0 ≤ 1)
+module _ (s b : Bytes) (ent : List ℕ) (v : Value) (o p : Option Json) (r : RustOption Value) (h : Finds s b ent v o r) (g : o ≡ p) where
+  pub old_one : (w : Value) → r ≡ Some w → (0 ≡ one_if_new p) × (0 ≤ 1)
   old_one w e = let k = subst (Finds s b ent v o) e h in (ap one_if_new (sym k.value ∙ g), omega arith)
 
-  pub new_one : r ≡ Nothing → (1 ≡ one_if_new p) × (1 ≤ 1)
+  pub new_one : r ≡ None → (1 ≡ one_if_new p) × (1 ≤ 1)
   new_one e = let k = subst (Finds s b ent v o) e h in (ap one_if_new (sym k ∙ g), omega arith)
 
 -- the first k pairs

@@ -1,4 +1,5 @@
 -- Members that are compared: which of them is nearer, and what that means for the rules' map.
+use Rattle.std.specs.Prelude.{Option as RustOption, Some, None}
 use Prim.Native.Nat.{ℕ, ◌≤◌}
 use mathlib.Core.Bool.{Bool, true, false}
 use mathlib.Core.List.{List, [], ◌∷◌}
@@ -26,8 +27,6 @@ use Rattle.meaning.specs.MeaningLaws.{plain_is}
 use Rattle.meaning.specs.Standing.{Stands, plain, stands_plain}
 use Rattle.lookup.specs.Answers.{PlainHeld}
 use Rattle.members.specs.Next.{by_value, key_name, KeyHeld, after_name, Keyed, shown, PlainItem, MemberHas, combined, nearer_of}
-use Rattle.members.specs.declared.Member.{Member}
-use Rattle.members.specs.declared.Member.TheVariants.{Is, Nothing}
 
 -- By value
 
@@ -98,63 +97,63 @@ spelled_stands s b le (spelling.Minus n) h = absurd h
 -- Two members, and one more
 
 module _ (s b : Bytes) where
-  pub combined_only : (o i : Member) (k v : Value) → o ≡ Is k v → i ≡ Nothing → Is k v ≡ combined s b o i
+  pub combined_only : (o i : RustOption (Value × Value)) (k v : Value) → o ≡ Some (k, v) → i ≡ None → Some (k, v) ≡ combined s b o i
   combined_only o i k v e f = rw (e, f)
 
-  module _ (o i : Member) (k v l w : Value) (e : o ≡ Is k v) (f : i ≡ Is l w) where
-    pub combined_inner : before (key_name s b l) (key_name s b k) ≡ true → Is l w ≡ combined s b o i
+  module _ (o i : RustOption (Value × Value)) (k v l w : Value) (e : o ≡ Some (k, v)) (f : i ≡ Some (l, w)) where
+    pub combined_inner : before (key_name s b l) (key_name s b k) ≡ true → Some (l, w) ≡ combined s b o i
     combined_inner h = rw (e, f, h)
 
-    pub combined_outer : before (key_name s b l) (key_name s b k) ≡ false → Is k v ≡ combined s b o i
+    pub combined_outer : before (key_name s b l) (key_name s b k) ≡ false → Some (k, v) ≡ combined s b o i
     combined_outer h = rw (e, f, h)
 
-  pub above_name : (after : Member) (l w k : Value) (r : Bool) → after ≡ Is l w → r ≡ before (key_name s b l) (key_name s b k) → r ≡ is_above (after_name s b after) (key_name s b k)
+  pub above_name : (after : RustOption (Value × Value)) (l w k : Value) (r : Bool) → after ≡ Some (l, w) → r ≡ before (key_name s b l) (key_name s b k) → r ≡ is_above (after_name s b after) (key_name s b k)
   above_name after l w k r e f = rw e f
 
   module _ (f : Value → Json) where
-    pub shown_combined : (m n : Member) → shown s b f (combined s b m n) ≡ combine (shown s b f m) (shown s b f n)
-    shown_combined Nothing n = refl
-    shown_combined (Is k v) Nothing = refl
-    shown_combined (Is k v) (Is l w) = go (before (key_name s b l) (key_name s b k))
+    pub shown_combined : (m n : RustOption (Value × Value)) → shown s b f (combined s b m n) ≡ combine (shown s b f m) (shown s b f n)
+    shown_combined None n = refl
+    shown_combined (Some (k, v)) None = refl
+    shown_combined (Some (k, v)) (Some (l, w)) = go (before (key_name s b l) (key_name s b k))
       where
-        go : (t : Bool) → shown s b f (pick t (Is l w) (Is k v)) ≡ pick t (some (key_name s b l, f w)) (some (key_name s b k, f v))
+        go : (t : Bool) → shown s b f (pick t (Some (l, w)) (Some (k, v))) ≡ pick t (some (key_name s b l, f w)) (some (key_name s b k, f v))
         go true = refl
         go false = refl
 
-    pub shown_nearer : (after : Option Bytes) (k v : Value) (best : Member)
+    pub shown_nearer : (after : Option Bytes) (k v : Value) (best : RustOption (Value × Value))
         → shown s b f (nearer_of s b after k v best) ≡ nearer after (key_name s b k) (f v) (shown s b f best)
     shown_nearer after k v best = go (is_above after (key_name s b k))
       where
-        go : (t : Bool) → shown s b f (pick t (combined s b (Is k v) best) best) ≡ pick t (combine (some (key_name s b k, f v)) (shown s b f best)) (shown s b f best)
-        go true = shown_combined (Is k v) best
+        go : (t : Bool) → shown s b f (pick t (combined s b (Some (k, v)) best) best) ≡ pick t (combine (some (key_name s b k, f v)) (shown s b f best)) (shown s b f best)
+        go true = shown_combined (Some (k, v)) best
         go false = refl
 
   module _ (P : Value → Type 0) where
-    pub has_keyed : (m : Member) → MemberHas s b P m → Keyed s b m
-    has_keyed (Is k v) h = h.0
-    has_keyed Nothing h = tt
+    pub has_keyed : (m : RustOption (Value × Value)) → MemberHas s b P m → Keyed s b m
+    has_keyed (Some (k, v)) h = h.0
+    has_keyed None h = tt
 
-    pub has_combined : (m n : Member) → MemberHas s b P m → MemberHas s b P n → MemberHas s b P (combined s b m n)
-    has_combined Nothing n h g = g
-    has_combined (Is k v) Nothing h g = h
-    has_combined (Is k v) (Is l w) h g = go (before (key_name s b l) (key_name s b k))
+    pub has_combined : (m n : RustOption (Value × Value)) → MemberHas s b P m → MemberHas s b P n → MemberHas s b P (combined s b m n)
+    has_combined None n h g = g
+    has_combined (Some (k, v)) None h g = h
+    has_combined (Some (k, v)) (Some (l, w)) h g = go (before (key_name s b l) (key_name s b k))
       where
-        go : (t : Bool) → MemberHas s b P (pick t (Is l w) (Is k v))
+        go : (t : Bool) → MemberHas s b P (pick t (Some (l, w)) (Some (k, v)))
         go true = g
         go false = h
 
-    pub has_nearer : (after : Option Bytes) (k v : Value) (best : Member) → KeyHeld s b k → P v → MemberHas s b P best → MemberHas s b P (nearer_of s b after k v best)
+    pub has_nearer : (after : Option Bytes) (k v : Value) (best : RustOption (Value × Value)) → KeyHeld s b k → P v → MemberHas s b P best → MemberHas s b P (nearer_of s b after k v best)
     has_nearer after k v best q p h = go (is_above after (key_name s b k))
       where
-        go : (t : Bool) → MemberHas s b P (pick t (combined s b (Is k v) best) best)
-        go true = has_combined (Is k v) best (q, p) h
+        go : (t : Bool) → MemberHas s b P (pick t (combined s b (Some (k, v)) best) best)
+        go true = has_combined (Some (k, v)) best (q, p) h
         go false = h
 
-  pub has_so : (P Q : Value → Type 0) → ((v : Value) → P v → Q v) → (m : Member) → MemberHas s b P m → MemberHas s b Q m
-  has_so P Q f (Is k v) h = (h.0, f v h.1)
-  has_so P Q f Nothing h = tt
+  pub has_so : (P Q : Value → Type 0) → ((v : Value) → P v → Q v) → (m : RustOption (Value × Value)) → MemberHas s b P m → MemberHas s b Q m
+  has_so P Q f (Some (k, v)) h = (h.0, f v h.1)
+  has_so P Q f None h = tt
 
   -- a value that is not merged means the same with entries
-  pub shown_plain : (ent : List ℕ) (m : Member) → MemberHas s b (PlainItem s b) m → shown s b (json_of s b ent) m ≡ shown s b (plain_json s b) m
-  shown_plain ent (Is k v) h = ap (λ (j : Json). some (key_name s b k, j)) (plain_is s b ent v h.1.held.plain)
-  shown_plain ent Nothing h = refl
+  pub shown_plain : (ent : List ℕ) (m : RustOption (Value × Value)) → MemberHas s b (PlainItem s b) m → shown s b (json_of s b ent) m ≡ shown s b (plain_json s b) m
+  shown_plain ent (Some (k, v)) h = ap (λ (j : Json). some (key_name s b k, j)) (plain_is s b ent v h.1.held.plain)
+  shown_plain ent None h = refl

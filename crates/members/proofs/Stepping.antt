@@ -1,4 +1,5 @@
 -- The scans for the next member, step by step.
+use Rattle.std.specs.Prelude.{Option as RustOption, Some, None}
 use Prim.Native.Nat.{ℕ, zero, suc, ◌+◌, ◌*◌, ◌≤◌, ◌<◌}
 use mathlib.Core.Bool.{Bool, true, false, ◌&&◌, not}
 use mathlib.Core.List.{List, [], ◌∷◌, ◌++◌, append_assoc, append-nil}
@@ -33,8 +34,6 @@ use Rattle.places.specs.Items.{list_item, is_map}
 use Rattle.places.specs.Children.{is_child, Child, none_some}
 use Rattle.places.specs.Ascending.{object_rest}
 use Rattle.places.proofs.Texts.{name_says}
-use Rattle.places.specs.declared.Found.{Found as PlaceFound}
-use Rattle.places.specs.declared.Found.TheVariants.{At, Nothing as Nowhere}
 use Rattle.value.specs.declared.Value.{Value}
 use Rattle.value.specs.declared.Value.TheVariants.{Null, Place, IndexText, Name, Text, Merged}
 use Rattle.meaning.specs.Entries.{place, hash_value, hash_base}
@@ -51,8 +50,6 @@ use Rattle.lookup.proofs.Scanning.{Scans, scan_start, scan_end, scan_on, at_chil
 use Rattle.members.proofs.Counting.{Bare}
 use Rattle.members.proofs.Nearing.{by_value_no_path, by_value_present, by_value_means, by_value_held, by_value_json, by_value_stands, shown_combined, shown_nearer, has_combined, has_nearer, has_so, shown_plain}
 use Rattle.members.specs.Next.{by_value, KeyHeld, shown, ItemHeld, PlainItem, PairItem, PlainNext, MemberHas, MemberHeld, combined, nearer_of}
-use Rattle.members.specs.declared.Member.{Member}
-use Rattle.members.specs.declared.Member.TheVariants.{Is, Nothing}
 
 -- Keys
 
@@ -69,15 +66,15 @@ name_key s b o h = record { held = record { plain = refl; stands = h }; says = r
 
 module _ (s b : Bytes) (ent : List ℕ) (h n : ℕ) (after : Option Bytes) where
   -- k of them are passed
-  pub record Pairing (k : ℕ) (best : Member) : Type 0 where
+  pub record Pairing (k : ℕ) (best : RustOption (Value × Value)) : Type 0 where
     pub is : shown s b (json_of s b ent) best ≡ least after (pairs b ent (json_of s b ent) h k)
     pub holds : MemberHas s b (PairItem ent h n) best
 
-  pub pairing_start : Pairing 0 Nothing
+  pub pairing_start : Pairing 0 None
   pairing_start = record { is = refl; holds = tt }
 
-  pub pairing_on : (k : ℕ) (best : Member) → Pairing k best → k < n → KeysStand b ent h n → (p : ℕ) → p ≡ place ent (h + k) → (v : Value) → v ≡ by_value (hash_value ent (h + k))
-      → (r : Member) → r ≡ nearer_of s b after (Text p) v best → Pairing (k + 1) r
+  pub pairing_on : (k : ℕ) (best : RustOption (Value × Value)) → Pairing k best → k < n → KeysStand b ent h n → (p : ℕ) → p ≡ place ent (h + k) → (v : Value) → v ≡ by_value (hash_value ent (h + k))
+      → (r : RustOption (Value × Value)) → r ≡ nearer_of s b after (Text p) v best → Pairing (k + 1) r
   pairing_on k best w lt q p e v f r g = record {
     is =
         ap (shown s b (json_of s b ent)) g ∙ shown_nearer s b (json_of s b ent) after (Text p) v best
@@ -104,19 +101,19 @@ place_item s b c lt = record { held = record { plain = refl; stands = lt }; no_p
 module _ (s b : Bytes) (tab : List ℕ) (a : Accepted s tab) (i : ℕ) (lt : i < places s) (after : Option Bytes) where
   module _ (e : json_at s i ≡ jarr (items_of (json_at s i))) where
     -- n of them are passed
-    pub record Listing (n : ℕ) (best : Member) (at : PlaceFound) : Type 0 where
+    pub record Listing (n : ℕ) (best : RustOption (Value × Value)) (at : RustOption ℕ) : Type 0 where
       pub walks : found at ≡ get_elem? (children s i) n
       pub is : shown s b (plain_json s b) best ≡ first_of (above after (numbered 0 (first_items n (items_of (json_at s i))) mnil))
       pub holds : MemberHas s b (PlainItem s b) best
 
-    pub listing_start : (at : PlaceFound) → found at ≡ get_elem? (children s i) 0 → Listing 0 Nothing at
+    pub listing_start : (at : RustOption ℕ) → found at ≡ get_elem? (children s i) 0 → Listing 0 None at
     listing_start at f = record { walks = f; is = refl; holds = tt }
 
     item_is : (n : ℕ) (o : Option ℕ) → o ≡ get_elem? (children s i) n → get_item (items_of (json_at s i)) n ≡ value_at s o
     item_is n o f = list_item s a.answers i lt (items_of (json_at s i)) e n ∙ ap (value_at s) (sym f)
 
-    module _ (n : ℕ) (best : Member) (at : PlaceFound) (w : Listing n best at) where
-      pub listing_end : at ≡ Nowhere → PlainNext s b (json_at s i) after best
+    module _ (n : ℕ) (best : RustOption (Value × Value)) (at : RustOption ℕ) (w : Listing n best at) where
+      pub listing_end : at ≡ None → PlainNext s b (json_at s i) after best
       listing_end f = record {
         is =
             w.is ∙ ap (λ (l : Jsons). first_of (above after (numbered 0 l mnil))) (items_end n (items_of (json_at s i)) (item_is n none (sym (ap found f) ∙ w.walks)))
@@ -124,7 +121,7 @@ module _ (s b : Bytes) (tab : List ℕ) (a : Accepted s tab) (i : ℕ) (lt : i <
         holds = w.holds;
       }
 
-      module _ (c : ℕ) (f : at ≡ At c) where
+      module _ (c : ℕ) (f : at ≡ Some c) where
         pub listing_child : Child s i n c
         listing_child = is_child s i n c a.answers lt (sym w.walks ∙ ap found f)
 
@@ -134,7 +131,7 @@ module _ (s b : Bytes) (tab : List ℕ) (a : Accepted s tab) (i : ℕ) (lt : i <
         pub listing_key : KeyHeld s b (IndexText n)
         listing_key = index_key s b n (omega (arith, listing_few))
 
-        pub listing_on : (r : Member) → r ≡ nearer_of s b after (IndexText n) (Place c) best → (next : PlaceFound)
+        pub listing_on : (r : RustOption (Value × Value)) → r ≡ nearer_of s b after (IndexText n) (Place c) best → (next : RustOption ℕ)
             → ((j : ℕ) → get_elem? (children s i) j ≡ some c → found next ≡ get_elem? (children s i) (suc j)) → Listing (n + 1) r next
         listing_on r g next m = subst (λ (k : ℕ). Listing k r next) (sym (add-one n)) (record {
           walks = m n listing_child.is;
@@ -146,9 +143,9 @@ module _ (s b : Bytes) (tab : List ℕ) (a : Accepted s tab) (i : ℕ) (lt : i <
 
   -- The members of an object
 
-  abbrev placed_of : Option ℕ → Member
-  placed_of none = Nothing
-  placed_of (some c) = Is (Name (name_of (tree_at s c))) (Place c)
+  abbrev placed_of : Option ℕ → RustOption (Value × Value)
+  placed_of none = None
+  placed_of (some c) = Some ((Name (name_of (tree_at s c))), (Place c))
 
   first_rest : (m : Map) → first_of (above after m) ≡ first_of (rest_above after m)
   first_rest mnil = refl
@@ -189,17 +186,17 @@ module _ (s b : Bytes) (tab : List ℕ) (a : Accepted s tab) (i : ℕ) (lt : i <
         go (some c) = refl
 
     -- where the scan is
-    pub record Choosing (best : Member) (at : PlaceFound) : Type 0 where
+    pub record Choosing (best : RustOption (Value × Value)) (at : RustOption ℕ) : Type 0 where
       pub at_best : Option ℕ
       pub is : best ≡ placed_of at_best
       pub scans : Scans s i (least_onto s after) (λ o p. pick (better s after o p) (some p) o) (λ o. refl) (λ o p l. refl) at_best at
       pub holds : MemberHas s b (PlainItem s b) best
 
-    pub choosing_start : (at : PlaceFound) → found at ≡ get_elem? (children s i) 0 → Choosing Nothing at
+    pub choosing_start : (at : RustOption ℕ) → found at ≡ get_elem? (children s i) 0 → Choosing None at
     choosing_start at f = record { at_best = none; is = refl; scans = scan_start s i _ _ _ _ at f; holds = tt }
 
-    module _ (best : Member) (at : PlaceFound) (w : Choosing best at) where
-      pub choosing_end : at ≡ Nowhere → PlainNext s b (json_at s i) after best
+    module _ (best : RustOption (Value × Value)) (at : RustOption ℕ) (w : Choosing best at) where
+      pub choosing_end : at ≡ None → PlainNext s b (json_at s i) after best
       unfolding next_member
       choosing_end f = record {
         is =
@@ -208,7 +205,7 @@ module _ (s b : Bytes) (tab : List ℕ) (a : Accepted s tab) (i : ℕ) (lt : i <
         holds = w.holds;
       }
 
-      module _ (c : ℕ) (f : at ≡ At c) where
+      module _ (c : ℕ) (f : at ≡ Some c) where
         pub choosing_child : (k : ℕ) × Child s i k c
         choosing_child = (w.scans.walks.number, at_child s tab a i lt at w.scans.walks c f)
 
@@ -221,9 +218,9 @@ module _ (s b : Bytes) (tab : List ℕ) (a : Accepted s tab) (i : ℕ) (lt : i <
 
         choose_one : (o : Option ℕ) → nearer_of s b after (Name (name_of (tree_at s c))) (Place c) (placed_of o) ≡ placed_of (pick (better s after o c) (some c) o)
         unfolding name_at
-        choose_one none = ap (λ (t : Bool). pick t (placed_of (some c)) Nothing) (same_above after (saying s (name_of (tree_at s c)))) ∙ go (places.above after (saying s (name_of (tree_at s c))))
+        choose_one none = ap (λ (t : Bool). pick t (placed_of (some c)) None) (same_above after (saying s (name_of (tree_at s c)))) ∙ go (places.above after (saying s (name_of (tree_at s c))))
           where
-            go : (t : Bool) → pick t (placed_of (some c)) Nothing ≡ placed_of (pick t (some c) none)
+            go : (t : Bool) → pick t (placed_of (some c)) None ≡ placed_of (pick t (some c) none)
             go true = refl
             go false = refl
         choose_one (some d) =
@@ -235,11 +232,11 @@ module _ (s b : Bytes) (tab : List ℕ) (a : Accepted s tab) (i : ℕ) (lt : i <
             go true false = refl
             go false u = refl
 
-        pub choosing_on : (q : ℕ) → q ≡ name_of (tree_at s c) → q < length s → (r : Member) → r ≡ nearer_of s b after (Name q) (Place c) best → (next : PlaceFound)
+        pub choosing_on : (q : ℕ) → q ≡ name_of (tree_at s c) → q < length s → (r : RustOption (Value × Value)) → r ≡ nearer_of s b after (Name q) (Place c) best → (next : RustOption ℕ)
             → ((j : ℕ) → get_elem? (children s i) j ≡ some c → found next ≡ get_elem? (children s i) (suc j)) → Choosing r next
         choosing_on q g near r k next m = record {
           at_best = pick (better s after w.at_best c) (some c) w.at_best;
-          is = k ∙ ap₂ (λ (x : ℕ) (y : Member). nearer_of s b after (Name x) (Place c) y) g w.is ∙ choose_one w.at_best;
+          is = k ∙ ap₂ (λ (x : ℕ) (y : RustOption (Value × Value)). nearer_of s b after (Name x) (Place c) y) g w.is ∙ choose_one w.at_best;
           scans = scan_on s i _ _ _ _ tab a lt w.at_best at w.scans c f _ next refl m;
           holds = subst (MemberHas s b (PlainItem s b)) (sym k)
               (has_nearer s b (PlainItem s b) after (Name q) (Place c) best (choosing_key q g near) (place_item s b c choosing_child.1.within) w.holds);
@@ -249,7 +246,7 @@ module _ (s b : Bytes) (tab : List ℕ) (a : Accepted s tab) (i : ℕ) (lt : i <
 
 module _ (s b : Bytes) (t : Spelling) (after : Option Bytes) where
   -- n of them are passed
-  pub record SpellingOut (n : ℕ) (best : Member) (u : Spelling) : Type 0 where
+  pub record SpellingOut (n : ℕ) (best : RustOption (Value × Value)) (u : Spelling) : Type 0 where
     pub done : List Bytes
     pub spelled : Spelled s b u
     pub all : chars (rest s b t) ≡ done ++ chars (rest s b u)
@@ -257,13 +254,13 @@ module _ (s b : Bytes) (t : Spelling) (after : Option Bytes) where
     pub is : shown s b (plain_json s b) best ≡ first_of (above after (numbered_chars 0 done mnil))
     pub holds : MemberHas s b (PlainItem s b) best
 
-  pub spelling_start : Spelled s b t → SpellingOut 0 Nothing t
+  pub spelling_start : Spelled s b t → SpellingOut 0 None t
   spelling_start h = record { done = []; spelled = h; all = refl; number = refl; is = refl; holds = tt }
 
   value_item : (v : Value) → PlainHeld s b v → PlainItem s b (by_value v)
   value_item v h = record { held = by_value_held s b v h; no_path = by_value_no_path v; present = by_value_present v }
 
-  module _ (n : ℕ) (best : Member) (u : Spelling) (w : SpellingOut n best u) where
+  module _ (n : ℕ) (best : RustOption (Value × Value)) (u : Spelling) (w : SpellingOut n best u) where
     pub spelling_end : rest s b u ≡ [] → PlainNext s b (jstr (rest s b t)) after best
     spelling_end e = record {
       is =
@@ -280,7 +277,7 @@ module _ (s b : Bytes) (t : Spelling) (after : Option Bytes) where
           let r = count_few s b ls lb t h in
           omega (arith, w.number)
 
-      pub spelling_on : n < 65536 → (y : Value) → y ≡ by_value v → (r : Member) → r ≡ nearer_of s b after (IndexText n) y best → SpellingOut (n + 1) r x
+      pub spelling_on : n < 65536 → (y : Value) → y ≡ by_value v → (r : RustOption (Value × Value)) → r ≡ nearer_of s b after (IndexText n) y best → SpellingOut (n + 1) r x
       spelling_on lt y g r k = record {
         done = w.done ++ (f.letter ∷ []);
         spelled = f.spelled;
@@ -298,7 +295,7 @@ module _ (s b : Bytes) (t : Spelling) (after : Option Bytes) where
 -- By the form of a value that is not merged
 
 module _ (s b : Bytes) (v : Value) (after : Option Bytes) where
-  pub bare_next : PlainHeld s b v → (r f : Form) → Formed s b v r → r ≡ f → Bare f → PlainNext s b (plain_json s b v) after Nothing
+  pub bare_next : PlainHeld s b v → (r f : Form) → Formed s b v r → r ≡ f → Bare f → PlainNext s b (plain_json s b v) after None
   bare_next p r f h e n = record { is = sym (at f (subst (Formed s b v) e h) n); holds = tt }
     where
       at : (f : Form) → Formed s b v f → Bare f → first_of (above after (base_map (plain_json s b v))) ≡ none
@@ -311,7 +308,7 @@ module _ (s b : Bytes) (v : Value) (after : Option Bytes) where
       at (form.Object i) h n = absurd n
       at (form.Merged g m) h n = none_some (sym p.plain ∙ h)
 
-  pub next_eq : (j : Json) → plain_json s b v ≡ j → (r : Member) → PlainNext s b j after r → PlainNext s b (plain_json s b v) after r
+  pub next_eq : (j : Json) → plain_json s b v ≡ j → (r : RustOption (Value × Value)) → PlainNext s b j after r → PlainNext s b (plain_json s b v) after r
   next_eq j e r h = subst (λ (x : Json). PlainNext s b x after r) (sym e) h
 
 pub list_at : (s : Bytes) (j : Json) (i : ℕ) → ListForm s j i → json_at s i ≡ jarr (items_of (json_at s i))
@@ -324,23 +321,23 @@ object_at s j i f = sym f.at ∙ f.is ∙ ap (λ (x : Json). jobj (members_of x)
 
 module _ (s b : Bytes) (ent : List ℕ) (v : Value) (after : Option Bytes) where
   -- the best of what is passed, and u is still to come
-  pub record Inwards (best : Member) (u : Value) : Type 0 where
+  pub record Inwards (best : RustOption (Value × Value)) (u : Value) : Type 0 where
     pub is : combine (shown s b (json_of s b ent) best) (first_of (above after (base_map (json_of s b ent u)))) ≡ first_of (above after (base_map (json_of s b ent v)))
     pub held : Held s b ent u
     pub stands : (t : ℕ) → Stands s b ent t v → Stands s b ent t u
     pub holds : MemberHeld s b ent v best
 
-  pub inwards_start : Held s b ent v → Inwards Nothing v
+  pub inwards_start : Held s b ent v → Inwards None v
   inwards_start h = record { is = refl; held = h; stands = λ t x. x; holds = tt }
 
-  module _ (best : Member) (u : Value) (w : Inwards best u) where
+  module _ (best : RustOption (Value × Value)) (u : Value) (w : Inwards best u) where
     pub inwards_plain : merged_of u ≡ none → PlainHeld s b u
     inwards_plain e = record { plain = e; stands = stands_plain s b ent w.held.used u e w.held.stands }
 
     plain_held : (x : Value) → PlainItem s b x → ItemHeld s b ent v x
     plain_held x h = record { stands = λ t z. plain h.held.plain h.held.stands; no_path = h.no_path; present = h.present }
 
-    module _ (e : merged_of u ≡ none) (r : Member) (h : PlainNext s b (plain_json s b u) after r) (o : Member) (g : o ≡ combined s b best r) where
+    module _ (e : merged_of u ≡ none) (r : RustOption (Value × Value)) (h : PlainNext s b (plain_json s b u) after r) (o : RustOption (Value × Value)) (g : o ≡ combined s b best r) where
       pub inwards_end : (shown s b (json_of s b ent) o ≡ first_of (above after (base_map (json_of s b ent v)))) × MemberHeld s b ent v o
       inwards_end = (
         ap (shown s b (json_of s b ent)) g ∙ shown_combined s b (json_of s b ent) best r
@@ -369,8 +366,8 @@ module _ (s b : Bytes) (ent : List ℕ) (v : Value) (after : Option Bytes) where
         pub inwards_less : rank x < rank u
         inwards_less = rw (f, e) (omega (arith, stands_rank s b ent h (hash_base ent h) inwards_merged.base))
 
-        pub inwards_on : (r : Member) → shown s b (json_of s b ent) r ≡ least after (pairs b ent (json_of s b ent) h n) → MemberHas s b (PairItem ent h n) r
-            → (o : Member) → o ≡ combined s b best r → Inwards o x
+        pub inwards_on : (r : RustOption (Value × Value)) → shown s b (json_of s b ent) r ≡ least after (pairs b ent (json_of s b ent) h n) → MemberHas s b (PairItem ent h n) r
+            → (o : RustOption (Value × Value)) → o ≡ combined s b best r → Inwards o x
         inwards_on r g k o q = subst (Inwards o) (sym f) (record {
           is =
               ap (λ (p : Option (Bytes × Json)). combine p (first_of (above after (base_map (json_of s b ent (hash_base ent h))))))

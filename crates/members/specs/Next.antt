@@ -1,5 +1,5 @@
 -- Members one by one, by ascending name: s is the plan, b the bundle, ent the entries of open partials.
-use Rattle.std.specs.Prelude.{ℕ, ◌+◌, ◌<◌, false, List, [], ◌≡◌}
+use Rattle.std.specs.Prelude.{ℕ, ◌+◌, ◌<◌, false, List, [], ◌≡◌, Option as RustOption, Some, None}
 use Rattle.std.proofs.Math.Option.{Option, none, some}
 use Rattle.rules.specs.Bytes.{Bytes, pick, maybe, before}
 use Rattle.rules.specs.Json.{Json, jstr, as_str}
@@ -11,8 +11,6 @@ use Rattle.meaning.specs.Entries.{hash_value}
 use Rattle.meaning.specs.Meaning.{plain_json, context_place, is_missing}
 use Rattle.meaning.specs.Standing.{Stands}
 use Rattle.lookup.specs.Answers.{PlainHeld, pathless}
-use Rattle.members.specs.declared.Member.{Member}
-use Rattle.members.specs.declared.Member.TheVariants.{Is, Nothing}
 
 -- as the rules hold it by value: what is missing is null, and there is no path
 abbrev pub by_value : Value → Value
@@ -28,18 +26,18 @@ pub record KeyHeld (s b : Bytes) (k : Value) : Type 0 where
   pub says : plain_json s b k ≡ jstr (key_name s b k)
 
 -- the name behind which the next one stands, if there is one
-abbrev pub after_name : Bytes → Bytes → Member → Option Bytes
-after_name s b (Is k v) = some (key_name s b k)
-after_name s b Nothing = none
+abbrev pub after_name : Bytes → Bytes → RustOption (Value × Value) → Option Bytes
+after_name s b (Some (k, v)) = some (key_name s b k)
+after_name s b None = none
 
-abbrev pub Keyed : Bytes → Bytes → Member → Type 0
-Keyed s b (Is k v) = KeyHeld s b k
-Keyed s b Nothing = Unit {0}
+abbrev pub Keyed : Bytes → Bytes → RustOption (Value × Value) → Type 0
+Keyed s b (Some (k, v)) = KeyHeld s b k
+Keyed s b None = Unit {0}
 
 -- name and value, where f says what values mean
-abbrev pub shown : Bytes → Bytes → (Value → Json) → Member → Option (Bytes × Json)
-shown s b f (Is k v) = some (key_name s b k, f v)
-shown s b f Nothing = none
+abbrev pub shown : Bytes → Bytes → (Value → Json) → RustOption (Value × Value) → Option (Bytes × Json)
+shown s b f (Some (k, v)) = some (key_name s b k, f v)
+shown s b f None = none
 
 -- the item of a member, by value; it stands as long as v does
 pub record ItemHeld (s b : Bytes) (ent : List ℕ) (v item : Value) : Type 0 where
@@ -53,29 +51,29 @@ pub record PlainItem (s b : Bytes) (item : Value) : Type 0 where
   pub no_path : context_place item ≡ none
   pub present : is_missing item ≡ false
 
-abbrev pub MemberHas : Bytes → Bytes → (Value → Type 0) → Member → Type 0
-MemberHas s b P (Is k v) = KeyHeld s b k × P v
-MemberHas s b P Nothing = Unit {0}
+abbrev pub MemberHas : Bytes → Bytes → (Value → Type 0) → RustOption (Value × Value) → Type 0
+MemberHas s b P (Some (k, v)) = KeyHeld s b k × P v
+MemberHas s b P None = Unit {0}
 
-abbrev pub MemberHeld : Bytes → Bytes → List ℕ → Value → Member → Type 0
+abbrev pub MemberHeld : Bytes → Bytes → List ℕ → Value → RustOption (Value × Value) → Type 0
 MemberHeld s b ent v r = MemberHas s b (ItemHeld s b ent v) r
 
 -- Which of two is nearer
 
 -- of an outer and an inner one that whose name is before the other's; the outer one of the same name
-abbrev pub combined : Bytes → Bytes → Member → Member → Member
-combined s b Nothing m = m
-combined s b (Is k v) Nothing = Is k v
-combined s b (Is k v) (Is l w) = pick (before (key_name s b l) (key_name s b k)) (Is l w) (Is k v)
+abbrev pub combined : Bytes → Bytes → RustOption (Value × Value) → RustOption (Value × Value) → RustOption (Value × Value)
+combined s b None m = m
+combined s b (Some (k, v)) None = Some (k, v)
+combined s b (Some (k, v)) (Some (l, w)) = pick (before (key_name s b l) (key_name s b k)) (Some (l, w)) (Some (k, v))
 
 -- a member more
-abbrev pub nearer_of : Bytes → Bytes → Option Bytes → Value → Value → Member → Member
-nearer_of s b after k v best = pick (is_above after (key_name s b k)) (combined s b (Is k v) best) best
+abbrev pub nearer_of : Bytes → Bytes → Option Bytes → Value → Value → RustOption (Value × Value) → RustOption (Value × Value)
+nearer_of s b after k v best = pick (is_above after (key_name s b k)) (combined s b (Some (k, v)) best) best
 
 -- What the scans answer
 
 -- of a value that is not merged, whose meaning is j
-pub record PlainNext (s b : Bytes) (j : Json) (after : Option Bytes) (r : Member) : Type 0 where
+pub record PlainNext (s b : Bytes) (j : Json) (after : Option Bytes) (r : RustOption (Value × Value)) : Type 0 where
   pub is : shown s b (plain_json s b) r ≡ first_of (above after (base_map j))
   pub holds : MemberHas s b (PlainItem s b) r
 

@@ -24,20 +24,11 @@ ghost use Rattle.lookup.specs.Answers.{Held, PlainHeld};
 ghost use Rattle.members.specs.Parts.{Parts};
 ghost use Rattle.members.specs.Next.{by_value, key_name, KeyHeld, after_name, Keyed, shown, PlainNext, PairItem, MemberHas, MemberHeld, combined, nearer_of};
 
-use chars::Next;
-use lookup::Found;
 use meaning::Form;
-use saying::Ordering;
 use text::Text;
 use value::Value;
 
 // The name and the value of a member; the value has no path.
-#[derive(Clone, Copy)]
-pub enum Member {
-    Is(Value, Value),
-    Nothing,
-}
-
 // How many members a value has that is not merged.
 fn plain_count(s: &[u8], tab: &[u64], b: &[u8], v: Value) -> usize
     requires { Accepted s.now tab.now × (length b.now ≤ 65536) × PlainHeld s.now b.now v }
@@ -63,8 +54,8 @@ fn is_new(s: &[u8], tab: &[u64], b: &[u8], ent: &[u64], base: Value, e: usize) -
 {
     let key = lookup::text_of(s, b, entries::place(ent, e));
     match lookup::get_member(s, tab, b, ent, base, key) {
-        Found::Is(_) => 0,
-        Found::Nothing => 1,
+        Some(_) => 0,
+        None => 1,
     }
 }
 
@@ -73,11 +64,9 @@ fn lacking(s: &[u8], tab: &[u64], b: &[u8], ent: &[u64], base: Value, h: usize, 
     requires { Accepted s.now tab.now × (length b.now ≤ 65536) × Held s.now b.now ent.now base × (2 * (h + n) ≤ length ent.now) × KeysStand b.now ent.now h n }
     ensures { (result ≡ lacking (pairs b.now ent.now (json_of s.now b.now ent.now) h n) (base_map (json_of s.now b.now ent.now base))) × (result ≤ n) }
 {
-    let mut k: usize = 0;
-    let mut r: usize = 0;
-    while k < n {
+    let mut r = 0;
+    for k in 0..n {
         r += is_new(s, tab, b, ent, base, h + k);
-        k += 1;
     }
     r
 }
@@ -88,14 +77,12 @@ pub fn member_count(s: &[u8], tab: &[u64], b: &[u8], ent: &[u64], v: Value) -> u
     ensures { (result ≡ count (base_map (json_of s.now b.now ent.now v))) × (result ≤ 65536) }
 {
     let mut u = v;
-    let mut n: usize = 0;
-    loop {
-        let Value::Merged(h, m) = u else {
-            return n + plain_count(s, tab, b, u);
-        };
+    let mut n = 0;
+    while let Value::Merged(h, m) = u {
         u = value::decode(entries::high(ent, h));
         n += lacking(s, tab, b, ent, u, h, m);
     }
+    n + plain_count(s, tab, b, u)
 }
 
 // The same where the base is the object at i of the plan, as most are: by numbers, since values would go through memory.
@@ -124,11 +111,9 @@ fn object_lacking(
     requires { Accepted s.now tab.now × (length b.now ≤ 65536) × (i < places s.now) × (json_at s.now i ≡ jobj (members_of (json_at s.now i))) × (2 * (h + n) ≤ length ent.now) × KeysStand b.now ent.now h n }
     ensures { (result ≡ lacking (pairs b.now ent.now (json_of s.now b.now ent.now) h n) (base_map (json_at s.now i))) × (result ≤ n) }
 {
-    let mut k: usize = 0;
-    let mut r: usize = 0;
-    while k < n {
+    let mut r = 0;
+    for k in 0..n {
         r += new_in(s, tab, b, i, entries::place(ent, h + k));
-        k += 1;
     }
     r
 }
@@ -181,33 +166,35 @@ fn is_before(s: &[u8], tab: &[u64], b: &[u8], k: Value, l: Value) -> bool
 {
     let t = lookup::string_text(s, tab, b, k);
     let u = lookup::string_text(s, tab, b, l);
-    match text::compare(s, b, t, u) {
-        Ordering::Less => true,
-        Ordering::Equal => false,
-        Ordering::Greater => false,
-    }
+    text::compare(s, b, t, u).is_lt()
 }
 
 // Whether the name k stands behind the one of `after`, where there is one.
-fn is_above(s: &[u8], tab: &[u64], b: &[u8], after: Member, k: Value) -> bool
+fn is_above(s: &[u8], tab: &[u64], b: &[u8], after: Option<(Value, Value)>, k: Value) -> bool
     requires { Accepted s.now tab.now × (length b.now ≤ 65536) × Keyed s.now b.now after × KeyHeld s.now b.now k }
     ensures { result ≡ is_above (after_name s.now b.now after) (key_name s.now b.now k) }
 {
-    let Member::Is(l, _) = after else {
+    let Some((l, _)) = after else {
         return true;
     };
     is_before(s, tab, b, l, k)
 }
 
 // The one of the lesser name: of equal names the outer one.
-fn combine(s: &[u8], tab: &[u64], b: &[u8], outer: Member, inner: Member) -> Member
+fn combine(
+    s: &[u8],
+    tab: &[u64],
+    b: &[u8],
+    outer: Option<(Value, Value)>,
+    inner: Option<(Value, Value)>,
+) -> Option<(Value, Value)>
     requires { Accepted s.now tab.now × (length b.now ≤ 65536) × Keyed s.now b.now outer × Keyed s.now b.now inner }
     ensures { result ≡ combined s.now b.now outer inner }
 {
-    let Member::Is(k, _) = outer else {
+    let Some((k, _)) = outer else {
         return inner;
     };
-    let Member::Is(l, _) = inner else {
+    let Some((l, _)) = inner else {
         return outer;
     };
     if is_before(s, tab, b, l, k) {
@@ -221,16 +208,16 @@ fn nearer(
     s: &[u8],
     tab: &[u64],
     b: &[u8],
-    after: Member,
+    after: Option<(Value, Value)>,
     k: Value,
     v: Value,
-    best: Member,
-) -> Member
+    best: Option<(Value, Value)>,
+) -> Option<(Value, Value)>
     requires { Accepted s.now tab.now × (length b.now ≤ 65536) × Keyed s.now b.now after × KeyHeld s.now b.now k × Keyed s.now b.now best }
     ensures { result ≡ nearer_of s.now b.now (after_name s.now b.now after) k v best }
 {
     if is_above(s, tab, b, after, k) {
-        return combine(s, tab, b, Member::Is(k, v), best);
+        return combine(s, tab, b, Some((k, v)), best);
     }
     best
 }
@@ -243,114 +230,128 @@ fn least_pair(
     ent: &[u64],
     h: usize,
     n: usize,
-    after: Member,
-) -> Member
+    after: Option<(Value, Value)>,
+) -> Option<(Value, Value)>
     requires { Accepted s.now tab.now × (length b.now ≤ 65536) × (2 * (h + n) ≤ length ent.now) × KeysStand b.now ent.now h n × Keyed s.now b.now after }
     ensures { (shown s.now b.now (json_of s.now b.now ent.now) result ≡ least (after_name s.now b.now after) (pairs b.now ent.now (json_of s.now b.now ent.now) h n)) × MemberHas s.now b.now (PairItem ent.now h n) result }
 {
-    let mut k: usize = 0;
-    let mut best = Member::Nothing;
-    while k < n {
+    let mut best = None;
+    for k in 0..n {
         let key = Value::Text(entries::place(ent, h + k));
         let item = by_value(value::decode(entries::low(ent, h + k)));
         best = nearer(s, tab, b, after, key, item, best);
-        k += 1;
     }
     best
 }
 
 // The item of the list at i with the least decimal name behind `after`.
-fn least_item(s: &[u8], tab: &[u64], b: &[u8], i: usize, after: Member) -> Member
+fn least_item(
+    s: &[u8],
+    tab: &[u64],
+    b: &[u8],
+    i: usize,
+    after: Option<(Value, Value)>,
+) -> Option<(Value, Value)>
     requires { Accepted s.now tab.now × (length b.now ≤ 65536) × (i < places s.now) × (json_at s.now i ≡ jarr (items_of (json_at s.now i))) × Keyed s.now b.now after }
     ensures { PlainNext s.now b.now (json_at s.now i) (after_name s.now b.now after) result }
 {
-    let mut n: usize = 0;
-    let mut best = Member::Nothing;
+    let mut n = 0;
+    let mut best = None;
     let mut at = places::first(s, tab, i);
-    loop {
-        let places::Found::At(c) = at else {
-            return best;
-        };
+    while let Some(c) = at {
         best = nearer(s, tab, b, after, Value::IndexText(n), Value::Place(c), best);
         at = places::next(s, tab, i, c);
         n += 1;
     }
+    best
 }
 
 // The member of the object at i with the least name behind `after`: of equal names the last one.
-fn least_member(s: &[u8], tab: &[u64], b: &[u8], i: usize, after: Member) -> Member
+fn least_member(
+    s: &[u8],
+    tab: &[u64],
+    b: &[u8],
+    i: usize,
+    after: Option<(Value, Value)>,
+) -> Option<(Value, Value)>
     requires { Accepted s.now tab.now × (length b.now ≤ 65536) × (i < places s.now) × (json_at s.now i ≡ jobj (members_of (json_at s.now i))) × Keyed s.now b.now after }
     ensures { PlainNext s.now b.now (json_at s.now i) (after_name s.now b.now after) result }
 {
-    let mut best = Member::Nothing;
+    let mut best = None;
     let mut at = places::first(s, tab, i);
-    loop {
-        let places::Found::At(c) = at else {
-            return best;
-        };
-        best = nearer(
-            s,
-            tab,
-            b,
-            after,
-            Value::Name(places::name(s, tab, c)),
-            Value::Place(c),
-            best,
-        );
+    while let Some(c) = at {
+        let key = Value::Name(places::name(s, tab, c));
+        best = nearer(s, tab, b, after, key, Value::Place(c), best);
         at = places::next(s, tab, i, c);
     }
+    best
 }
 
 // The character of the text t with the least decimal name behind `after`.
-fn least_char(s: &[u8], tab: &[u64], b: &[u8], t: Text, after: Member) -> Member
+fn least_char(
+    s: &[u8],
+    tab: &[u64],
+    b: &[u8],
+    t: Text,
+    after: Option<(Value, Value)>,
+) -> Option<(Value, Value)>
     requires { Accepted s.now tab.now × (length b.now ≤ 65536) × Spelled s.now b.now t × Keyed s.now b.now after }
     ensures { PlainNext s.now b.now (jstr (rest s.now b.now t)) (after_name s.now b.now after) result }
 {
-    let mut n: usize = 0;
-    let mut best = Member::Nothing;
+    let mut n = 0;
+    let mut best = None;
     let mut u = t;
-    loop {
-        let Next::Char(v, w) = chars::next_char(s, b, u) else {
-            return best;
-        };
+    while let Some((v, w)) = chars::next_char(s, b, u) {
         best = nearer(s, tab, b, after, Value::IndexText(n), by_value(v), best);
         u = w;
         n += 1;
     }
+    best
 }
 
 // The next member behind `after` of a value that is not merged.
-fn plain_next(s: &[u8], tab: &[u64], b: &[u8], v: Value, after: Member) -> Member
+fn plain_next(
+    s: &[u8],
+    tab: &[u64],
+    b: &[u8],
+    v: Value,
+    after: Option<(Value, Value)>,
+) -> Option<(Value, Value)>
     requires { Accepted s.now tab.now × (length b.now ≤ 65536) × PlainHeld s.now b.now v × Keyed s.now b.now after }
     ensures { PlainNext s.now b.now (plain_json s.now b.now v) (after_name s.now b.now after) result }
 {
     let f = meaning::form_of(s, tab, b, v);
     match f {
-        Form::Null => Member::Nothing,
-        Form::Boolean(_) => Member::Nothing,
-        Form::Unsigned(_) => Member::Nothing,
-        Form::Negative(_) => Member::Nothing,
+        Form::Null => None,
+        Form::Boolean(_) => None,
+        Form::Unsigned(_) => None,
+        Form::Negative(_) => None,
         Form::String(_) => least_char(s, tab, b, lookup::string_text(s, tab, b, v), after),
         Form::List(i) => least_item(s, tab, b, i, after),
         Form::Object(i) => least_member(s, tab, b, i, after),
-        Form::Merged(_, _) => Member::Nothing,
+        Form::Merged(_, _) => None,
     }
 }
 
 // The member of a value taken as an object with the least name behind that of `after`; the least of all where there is none. In a merged
 // object a hash pair stands before a member of the same name of its base.
 // (A scan, so that walking n members takes n * n comparisons.)
-pub fn next_member(s: &[u8], tab: &[u64], b: &[u8], ent: &[u64], v: Value, after: Member) -> Member
+pub fn next_member(
+    s: &[u8],
+    tab: &[u64],
+    b: &[u8],
+    ent: &[u64],
+    v: Value,
+    after: Option<(Value, Value)>,
+) -> Option<(Value, Value)>
     requires { Accepted s.now tab.now × (length b.now ≤ 65536) × Held s.now b.now ent.now v × Keyed s.now b.now after }
     ensures { (shown s.now b.now (json_of s.now b.now ent.now) result ≡ first_of (above (after_name s.now b.now after) (base_map (json_of s.now b.now ent.now v)))) × MemberHeld s.now b.now ent.now v result }
 {
     let mut u = v;
-    let mut best = Member::Nothing;
-    loop {
-        let Value::Merged(h, n) = u else {
-            return combine(s, tab, b, best, plain_next(s, tab, b, u, after));
-        };
+    let mut best = None;
+    while let Value::Merged(h, n) = u {
         best = combine(s, tab, b, best, least_pair(s, tab, b, ent, h, n, after));
         u = value::decode(entries::high(ent, h));
     }
+    combine(s, tab, b, best, plain_next(s, tab, b, u, after))
 }

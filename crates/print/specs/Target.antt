@@ -1,5 +1,5 @@
 -- What a printed value is compared with: a text, or lent bytes w. s is the plan, b the bundle.
-use Rattle.std.specs.Prelude.{ℕ, ◌≤◌, Bool, true, false, List, [], ◌∷◌, ◌++◌, ◌≡◌, refl, length, drop}
+use Rattle.std.specs.Prelude.{ℕ, ◌≤◌, Bool, true, false, List, [], ◌∷◌, ◌++◌, ◌≡◌, refl, length, drop, Option as RustOption, Some, None}
 use Rattle.std.proofs.Math.Option.{Option, none, some}
 use Rattle.std.proofs.Common.{sym, ap, ◌∙◌}
 use Rattle.rules.specs.Bytes.{Bytes, maybe, same}
@@ -11,10 +11,6 @@ use Rattle.value.specs.declared.Value.{Value}
 use Rattle.meaning.specs.Means.{Means}
 use Rattle.print.specs.declared.Target.{Target}
 use Rattle.print.specs.declared.Target.TheVariants.{Text, Lent}
-use Rattle.print.specs.declared.Ahead.{Ahead}
-use Rattle.print.specs.declared.Ahead.TheVariants.{Byte, End}
-use Rattle.print.specs.declared.Left.{Left}
-use Rattle.print.specs.declared.Left.TheVariants.{Is, Other}
 
 -- the bytes that are still to be met
 abbrev pub rest : Bytes → Bytes → Bytes → Target → Bytes
@@ -25,25 +21,25 @@ abbrev pub Stands : Bytes → Bytes → Bytes → Target → Type 0
 Stands s b w (Text t) = text.Stands s b t
 Stands s b w (Lent k) = k ≤ length w
 
-abbrev pub Stepped : Bytes → Bytes → Bytes → Target → Ahead → Type 0
-Stepped s b w g (Byte c u) = (rest s b w g ≡ c ∷ rest s b w u) × Stands s b w u
-Stepped s b w g End = rest s b w g ≡ []
+abbrev pub Stepped : Bytes → Bytes → Bytes → Target → RustOption (ℕ × Target) → Type 0
+Stepped s b w g (Some (c, u)) = (rest s b w g ≡ c ∷ rest s b w u) × Stands s b w u
+Stepped s b w g None = rest s b w g ≡ []
 
 -- what is left, or nothing where another thing stands there
-abbrev pub left : Bytes → Bytes → Bytes → Left → Option Bytes
-left s b w (Is g) = some (rest s b w g)
-left s b w Other = none
+abbrev pub left : Bytes → Bytes → Bytes → RustOption Target → Option Bytes
+left s b w (Some g) = some (rest s b w g)
+left s b w None = none
 
-abbrev pub LeftStands : Bytes → Bytes → Bytes → Left → Type 0
-LeftStands s b w (Is g) = Stands s b w g
-LeftStands s b w Other = Unit {0}
+abbrev pub LeftStands : Bytes → Bytes → Bytes → RustOption Target → Type 0
+LeftStands s b w (Some g) = Stands s b w g
+LeftStands s b w None = Unit {0}
 
-pub record Stripped (s b w : Bytes) (o : Option Bytes) (r : Left) : Type 0 where
+pub record Stripped (s b w : Bytes) (o : Option Bytes) (r : RustOption Target) : Type 0 where
   pub is : left s b w r ≡ o
   pub stands : LeftStands s b w r
 
 -- where the text of a value was in front
-pub record ValueStripped (s b w : Bytes) (v : Value) (g : Target) (r : Left) : Type 0 where
+pub record ValueStripped (s b w : Bytes) (v : Value) (g : Target) (r : RustOption Target) : Type 0 where
   pub means : Means s b v (λ j. left s b w r ≡ stripped (render j) (rest s b w g))
   pub stands : LeftStands s b w r
 

@@ -26,8 +26,7 @@ ghost use Rattle.print.specs.Target.{met};
 
 use meaning::Form;
 use output::Writer;
-use places::Found;
-use text::{Step, Text};
+use text::Text;
 use value::Value;
 
 // A value's number: the kind in its last bits, the place in front of them.
@@ -59,13 +58,11 @@ fn write_steps(
 {
     let mut q = w;
     let mut u = t;
-    loop {
-        let Step::Byte(c, v) = text::next(s, b, u) else {
-            return q;
-        };
+    while let Some((c, v)) = text::next(s, b, u) {
         q = support::feed_escaped(out, indent, q, c, escape);
         u = v;
     }
+    q
 }
 
 // The bytes of the plan from i up to e.
@@ -109,7 +106,7 @@ fn write_said(
     loop {
         let e = saying::own_end(s, i);
         q = write_part(out, indent, q, s, i, e, escape);
-        let saying::Step::Byte(c, p) = saying::next_byte(s, e, j) else {
+        let Some((c, p)) = saying::next_byte(s, e, j) else {
             return q;
         };
         q = support::feed_escaped(out, indent, q, c, escape);
@@ -208,13 +205,13 @@ fn write_list(
         ≡ printed indent.now escape (render (json_at s.now i)) (output w out.old) }
 {
     let mut q = support::feed_bytes(out, indent, w, b"[", escape);
-    let Found::At(f) = places::first(s, tab, i) else {
+    let Some(f) = places::first(s, tab, i) else {
         return support::feed_bytes(out, indent, q, b"]", escape);
     };
     let mut c = f;
     loop {
         q = write_value(out, indent, q, s, tab, b, Value::Place(c), escape);
-        let Found::At(d) = places::next(s, tab, i, c) else {
+        let Some(d) = places::next(s, tab, i, c) else {
             return support::feed_bytes(out, indent, q, b"]", escape);
         };
         q = support::feed_bytes(out, indent, q, b", ", escape);
@@ -288,10 +285,7 @@ fn calm_end(s: &[u8], i: usize) -> usize
     ensures { result ≡ calm_end s.now i }
 {
     let mut j = i;
-    while j < s.len() {
-        if !is_calm(s[j]) {
-            return j;
-        }
+    while j < s.len() && is_calm(s[j]) {
         j += 1;
     }
     j
@@ -373,61 +367,43 @@ enum Target {
     Lent(usize),
 }
 
-#[derive(Clone, Copy)]
-enum Ahead {
-    Byte(u8, Target),
-    End,
-}
-
-#[derive(Clone, Copy)]
-enum Left {
-    Is(Target),
-    Other,
-}
-
-fn front(s: &[u8], b: &[u8], w: &[u8], g: Target) -> Ahead
+fn front(s: &[u8], b: &[u8], w: &[u8], g: Target) -> Option<(u8, Target)>
     requires { (length s.now ≤ 65536) × target.Stands s.now b.now w.now g }
     ensures { target.Stepped s.now b.now w.now g result }
 {
     match g {
         Target::Text(t) => {
-            let Step::Byte(c, u) = text::next(s, b, t) else {
-                return Ahead::End;
-            };
-            Ahead::Byte(c, Target::Text(u))
+            let (c, u) = text::next(s, b, t)?;
+            Some((c, Target::Text(u)))
         }
         Target::Lent(k) => {
             if k < w.len() {
-                return Ahead::Byte(w[k], Target::Lent(k + 1));
+                return Some((w[k], Target::Lent(k + 1)));
             }
-            Ahead::End
+            None
         }
     }
 }
 
 // What is left of the target where the bytes v stand in front.
-fn strip_bytes(s: &[u8], b: &[u8], w: &[u8], g: Target, v: &[u8]) -> Left
+fn strip_bytes(s: &[u8], b: &[u8], w: &[u8], g: Target, v: &[u8]) -> Option<Target>
     requires { (length s.now ≤ 65536) × target.Stands s.now b.now w.now g }
     ensures { target.Stripped s.now b.now w.now
         (stripped v.now (target.rest s.now b.now w.now g)) result }
 {
     let mut u = g;
-    let mut i: usize = 0;
-    while i < v.len() {
-        let Ahead::Byte(c, x) = front(s, b, w, u) else {
-            return Left::Other;
-        };
-        if v[i] != c {
-            return Left::Other;
+    for d in v {
+        let (c, x) = front(s, b, w, u)?;
+        if *d != c {
+            return None;
         }
         u = x;
-        i += 1;
     }
-    Left::Is(u)
+    Some(u)
 }
 
 // The same for a text.
-fn strip_text(s: &[u8], b: &[u8], w: &[u8], g: Target, t: Text) -> Left
+fn strip_text(s: &[u8], b: &[u8], w: &[u8], g: Target, t: Text) -> Option<Target>
     requires { (length s.now ≤ 65536) × target.Stands s.now b.now w.now g × Stands s.now b.now t }
     ensures { target.Stripped s.now b.now w.now
         (stripped (rest s.now b.now t)
@@ -435,22 +411,18 @@ fn strip_text(s: &[u8], b: &[u8], w: &[u8], g: Target, t: Text) -> Left
 {
     let mut u = g;
     let mut y = t;
-    loop {
-        let Step::Byte(d, z) = text::next(s, b, y) else {
-            return Left::Is(u);
-        };
-        let Ahead::Byte(c, x) = front(s, b, w, u) else {
-            return Left::Other;
-        };
+    while let Some((d, z)) = text::next(s, b, y) {
+        let (c, x) = front(s, b, w, u)?;
         if c != d {
-            return Left::Other;
+            return None;
         }
         u = x;
         y = z;
     }
+    Some(u)
 }
 
-fn strip_bool(s: &[u8], b: &[u8], w: &[u8], g: Target, x: bool) -> Left
+fn strip_bool(s: &[u8], b: &[u8], w: &[u8], g: Target, x: bool) -> Option<Target>
     requires { (length s.now ≤ 65536) × target.Stands s.now b.now w.now g }
     ensures { target.Stripped s.now b.now w.now
         (stripped (render (jbool x)) (target.rest s.now b.now w.now g)) result }
@@ -463,7 +435,7 @@ fn strip_bool(s: &[u8], b: &[u8], w: &[u8], g: Target, x: bool) -> Left
 
 // What is left where the list at the place i stands in front.
 #[cycle(stripping)]
-fn strip_list(s: &[u8], tab: &[u64], b: &[u8], w: &[u8], g: Target, i: usize) -> Left
+fn strip_list(s: &[u8], tab: &[u64], b: &[u8], w: &[u8], g: Target, i: usize) -> Option<Target>
     requires { Accepted s.now tab.now
         × (length b.now ≤ 65536)
         × target.Stands s.now b.now w.now g
@@ -473,24 +445,18 @@ fn strip_list(s: &[u8], tab: &[u64], b: &[u8], w: &[u8], g: Target, i: usize) ->
         (stripped (render (json_at s.now i))
         (target.rest s.now b.now w.now g)) result }
 {
-    let Left::Is(t) = strip_bytes(s, b, w, g, b"[") else {
-        return Left::Other;
-    };
-    let Found::At(f) = places::first(s, tab, i) else {
+    let t = strip_bytes(s, b, w, g, b"[")?;
+    let Some(f) = places::first(s, tab, i) else {
         return strip_bytes(s, b, w, t, b"]");
     };
     let mut u = t;
     let mut c = f;
     loop {
-        let Left::Is(x) = strip_value(s, tab, b, w, u, Value::Place(c)) else {
-            return Left::Other;
-        };
-        let Found::At(d) = places::next(s, tab, i, c) else {
+        let x = strip_value(s, tab, b, w, u, Value::Place(c))?;
+        let Some(d) = places::next(s, tab, i, c) else {
             return strip_bytes(s, b, w, x, b"]");
         };
-        let Left::Is(y) = strip_bytes(s, b, w, x, b", ") else {
-            return Left::Other;
-        };
+        let y = strip_bytes(s, b, w, x, b", ")?;
         u = y;
         c = d;
     }
@@ -498,7 +464,7 @@ fn strip_list(s: &[u8], tab: &[u64], b: &[u8], w: &[u8], g: Target, i: usize) ->
 
 // What is left where the text of a value stands in front.
 #[cycle(stripping)]
-fn strip_value(s: &[u8], tab: &[u64], b: &[u8], w: &[u8], g: Target, v: Value) -> Left
+fn strip_value(s: &[u8], tab: &[u64], b: &[u8], w: &[u8], g: Target, v: Value) -> Option<Target>
     requires { Accepted s.now tab.now
         × (length b.now ≤ 65536)
         × target.Stands s.now b.now w.now g
@@ -506,7 +472,7 @@ fn strip_value(s: &[u8], tab: &[u64], b: &[u8], w: &[u8], g: Target, v: Value) -
     ensures { target.ValueStripped s.now b.now w.now v g result }
 {
     match meaning::form_of(s, tab, b, v) {
-        Form::Null => Left::Is(g),
+        Form::Null => Some(g),
         Form::Boolean(t) => strip_bool(s, b, w, g, t),
         Form::Unsigned(n) => strip_text(s, b, w, g, Text::Digits(n, 0)),
         Form::Negative(n) => strip_text(s, b, w, g, Text::Minus(n)),
@@ -518,16 +484,16 @@ fn strip_value(s: &[u8], tab: &[u64], b: &[u8], w: &[u8], g: Target, v: Value) -
 }
 
 // Whether nothing is left.
-fn all_met(s: &[u8], b: &[u8], w: &[u8], l: Left) -> bool
+fn all_met(s: &[u8], b: &[u8], w: &[u8], l: Option<Target>) -> bool
     requires { (length s.now ≤ 65536) × target.LeftStands s.now b.now w.now l }
     ensures { result ≡ met (target.left s.now b.now w.now l) }
 {
-    let Left::Is(g) = l else {
+    let Some(g) = l else {
         return false;
     };
     match front(s, b, w, g) {
-        Ahead::Byte(c, u) => false,
-        Ahead::End => true,
+        Some((c, u)) => false,
+        None => true,
     }
 }
 

@@ -1,6 +1,6 @@
 -- What the code finds is what the rules find.
 use Prim.Native.Nat.{ℕ, zero, suc, ◌+◌, ◌-◌, ◌*◌, ◌≤◌, ◌<◌}
-use Rattle.std.specs.Prelude.{Bool, List, [], ◌∷◌, ◌++◌, ◌≡◌, refl, eqb, ltb, leb, length, get_or}
+use Rattle.std.specs.Prelude.{Bool, List, [], ◌∷◌, ◌++◌, ◌≡◌, refl, eqb, ltb, leb, length, get_or, Option as RustOption, Some, None}
 use Rattle.std.proofs.Math.Bool.{true, false}
 use Rattle.std.proofs.Math.Option.{Option, none, some}
 use Rattle.std.proofs.Common.{sym, ◌∙◌, subst, ltb-true, ltb-false}
@@ -29,8 +29,6 @@ use Rattle.meaning.specs.Meaning.{pairs, merged_of, context_place, is_missing, j
 use Rattle.meaning.specs.MeaningLaws.{plain_is}
 use Rattle.meaning.specs.Standing.{Stands, plain, stands_plain, stands_later, stands_merged}
 use Rattle.scope.specs.declared.Scope.{Scope}
-use Rattle.scope.specs.declared.Param.{Param}
-use Rattle.scope.specs.declared.Param.TheVariants.{Is, Nothing}
 use Rattle.scope.specs.Scopes.{base_of, key_of, is_first, is_last, over_object, holder, second, params_by, locals_of, turn_locals, context_of, block_of, blocks_of, blank}
 use Rattle.scope.specs.Standing.{ScopeStands, ScopesStand}
 use Rattle.scope.specs.Names.{Readable, AllReadable, without_path, hash_param, resolved, LeadsAs, ParamIs, own_param, ValueIs, LocalIs, local_at, second_value, one_param, two_params, param_by, param_of, or_param, first_param, level_place, flag, local_key, local_variable}
@@ -51,7 +49,7 @@ string_near b p le h = omega (arith, string_in (bits b) p h, bits_size b)
 -- The n hash pairs from h on, one by one
 
 module _ (b : Bytes) (ent : List ℕ) (k : Bytes) (h n i : ℕ) where
-  pub hash_here : i < n → same (text_at (bits b) (place ent (h + i))) k ≡ true → hash_param b ent k (h + i) (n - i) ≡ Is (without_path (hash_value ent (h + i)))
+  pub hash_here : i < n → same (text_at (bits b) (place ent (h + i))) k ≡ true → hash_param b ent k (h + i) (n - i) ≡ Some (without_path (hash_value ent (h + i)))
   hash_here lt e = let x : n - i ≡ suc (n - (i + 1)) = omega arith in rw (x, e)
 
   pub hash_on : i < n → same (text_at (bits b) (place ent (h + i))) k ≡ false → hash_param b ent k (h + i) (n - i) ≡ hash_param b ent k (h + (i + 1)) (n - (i + 1))
@@ -60,11 +58,11 @@ module _ (b : Bytes) (ent : List ℕ) (k : Bytes) (h n i : ℕ) where
       let y : h + (i + 1) ≡ suc (h + i) = omega arith in
       rw (x, e, y)
 
-  pub hash_none : n ≤ i → hash_param b ent k (h + i) (n - i) ≡ Nothing
+  pub hash_none : n ≤ i → hash_param b ent k (h + i) (n - i) ≡ None
   hash_none le = let x : n - i ≡ 0 = omega arith in rw x
 
 module _ (b : Bytes) (ent : List ℕ) (c : Scope) (k : Bytes) (i : ℕ) where
-  pub no_merged_param : merged_of (base_of c) ≡ none → Nothing ≡ param_by b ent c k (suc (suc (suc i)))
+  pub no_merged_param : merged_of (base_of c) ≡ none → None ≡ param_by b ent c k (suc (suc (suc i)))
   no_merged_param e = rw e
 
   pub merged_param : (h n : ℕ) → base_of c ≡ Merged h n → hash_param b ent k h n ≡ param_by b ent c k (suc (suc (suc i)))
@@ -146,7 +144,7 @@ module _ (s b : Bytes) (ent : List ℕ) where
         go : (y : Bool) → ParamIs s b ent t (maybe (get_block_param (hash_params (pairs b ent (json_of s b ent) (suc e) n)) k) none (λ h. some (h, base))) (hash_param b ent k (suc e) n)
             → ParamIs s b ent t
             (maybe (pick y (some (holds-value (json_of s b ent (hash_value ent e)))) (get_block_param (hash_params (pairs b ent (json_of s b ent) (suc e) n)) k)) none (λ h. some (h, base)))
-            (pick y (Is (without_path (hash_value ent e))) (hash_param b ent k (suc e) n))
+            (pick y (Some (without_path (hash_value ent e))) (hash_param b ent k (suc e) n))
         go true later = leads_value t (json_of s b ent (hash_value ent e)) (without_path (hash_value ent e)) base (value_is t (hash_value ent e) here)
         go false later = later
 
@@ -160,7 +158,7 @@ module _ (s b : Bytes) (ent : List ℕ) where
     one_is : ParamIs s b ent c.inline (own_by 1) (one_param b c k)
     one_is = go (same (text_at (bits b) c.names) k)
       where
-        go : (y : Bool) → ParamIs s b ent c.inline (maybe (pick y (some (holder s b ent (base_of c))) none) none (λ h. some (h, base_path))) (pick y (Is (base_of c)) Nothing)
+        go : (y : Bool) → ParamIs s b ent c.inline (maybe (pick y (some (holder s b ent (base_of c))) none) none (λ h. some (h, base_path))) (pick y (Some (base_of c)) None)
         go true = leads_base c.inline (base_of c) st.present st.base
         go false = tt
 
@@ -176,7 +174,7 @@ module _ (s b : Bytes) (ent : List ℕ) where
       where
         go : (y : Bool) → ParamIs s b ent c.inline
             (maybe (pick y (some (holds-value (second s b ent c))) (get_block_param (params_by s b ent c 1) k)) none (λ h. some (h, base_path)))
-            (pick y (Is (second_value c)) (one_param b c k))
+            (pick y (Some (second_value c)) (one_param b c k))
         go true = leads_value c.inline (second s b ent c) (second_value c) base_path (second_is lt)
         go false = one_is
 
@@ -185,15 +183,15 @@ module _ (s b : Bytes) (ent : List ℕ) where
       where
         go : (o : Option (ℕ × ℕ)) → merged_of (base_of c) ≡ o → ParamIs s b ent c.inline
             (maybe (get_block_param (maybe o [] (λ m. hash_params (pairs b ent (json_of s b ent) m.0 m.1))) k) none (λ h. some (h, base_path)))
-            (maybe o Nothing (λ m. hash_param b ent k m.0 m.1))
+            (maybe o None (λ m. hash_param b ent k m.0 m.1))
         go none e = tt
         go (some m) e =
             let x = stands_merged s b ent c.inline (base_of c) m.0 m.1 e st.base in
             hash_is k base_path c.inline m.0 m.1 (λ i lt. stands_later s b ent m.0 c.inline (hash_value ent (m.0 + i)) (omega (arith, x.within)) (x.values i lt))
 
-    pub own_is : (n : ℕ) → (n ≡ 2 → c.index < 65536) → c.kind ≡ n → (r : Param) → r ≡ param_by b ent c k n → ParamIs s b ent c.inline (own_param s b ent c k) r
+    pub own_is : (n : ℕ) → (n ≡ 2 → c.index < 65536) → c.kind ≡ n → (r : RustOption Value) → r ≡ param_by b ent c k n → ParamIs s b ent c.inline (own_param s b ent c k) r
     own_is n lt e r f =
-        subst (λ (x : Param). ParamIs s b ent c.inline (own_param s b ent c k) x) (sym f)
+        subst (λ (x : RustOption Value). ParamIs s b ent c.inline (own_param s b ent c k) x) (sym f)
         (subst (λ (x : ℕ). ParamIs s b ent c.inline (own_by x) (param_by b ent c k n)) (sym e) (at n lt))
       where
         at : (n : ℕ) → (n ≡ 2 → c.index < 65536) → ParamIs s b ent c.inline (own_by n) (param_by b ent c k n)
@@ -203,74 +201,74 @@ module _ (s b : Bytes) (ent : List ℕ) where
         at (suc (suc (suc n))) lt = hash_names_is n
 
     -- it has no such name
-    two_none : two_params b c k ≡ Nothing → ParamIs s b ent c.inline (own_by 2) Nothing
+    two_none : two_params b c k ≡ None → ParamIs s b ent c.inline (own_by 2) None
     two_none = go (same (text_at (bits b) (end string (bits b) c.names)) k)
       where
-        go : (y : Bool) → pick y (Is (second_value c)) (one_param b c k) ≡ Nothing → ParamIs s b ent c.inline
-            (maybe (pick y (some (holds-value (second s b ent c))) (get_block_param (params_by s b ent c 1) k)) none (λ h. some (h, base_path))) Nothing
+        go : (y : Bool) → pick y (Some (second_value c)) (one_param b c k) ≡ None → ParamIs s b ent c.inline
+            (maybe (pick y (some (holds-value (second s b ent c))) (get_block_param (params_by s b ent c 1) k)) none (λ h. some (h, base_path))) None
         go true e = let z : ◌≡◌ {A = ℕ} 0 1 = cc in absurd (omega arith)
-        go false e = subst (λ (x : Param). ParamIs s b ent c.inline (own_by 1) x) e one_is
+        go false e = subst (λ (x : RustOption Value). ParamIs s b ent c.inline (own_by 1) x) e one_is
 
-    pub own_none : param_of b ent c k ≡ Nothing → ParamIs s b ent c.inline (own_param s b ent c k) Nothing
+    pub own_none : param_of b ent c k ≡ None → ParamIs s b ent c.inline (own_param s b ent c k) None
     own_none e = at c.kind e
       where
-        at : (n : ℕ) → param_by b ent c k n ≡ Nothing → ParamIs s b ent c.inline (own_by n) Nothing
+        at : (n : ℕ) → param_by b ent c k n ≡ None → ParamIs s b ent c.inline (own_by n) None
         at zero e = tt
-        at (suc zero) e = subst (λ (x : Param). ParamIs s b ent c.inline (own_by 1) x) e one_is
+        at (suc zero) e = subst (λ (x : RustOption Value). ParamIs s b ent c.inline (own_by 1) x) e one_is
         at (suc (suc zero)) e = two_none e
-        at (suc (suc (suc n))) e = subst (λ (x : Param). ParamIs s b ent c.inline (own_by (suc (suc (suc n)))) x) e (hash_names_is n)
+        at (suc (suc (suc n))) e = subst (λ (x : RustOption Value). ParamIs s b ent c.inline (own_by (suc (suc (suc n)))) x) e (hash_names_is n)
 
   -- Scope by scope
 
-  param_later : (t u : ℕ) (o : Option (BlockParamHolder × List Bytes)) (r : Param) → t ≤ u → ParamIs s b ent t o r → ParamIs s b ent u o r
-  param_later t u none Nothing le x = tt
-  param_later t u none (Is w) le x = x
-  param_later t u (some h) Nothing le x = x
-  param_later t u (some h) (Is w) le x = record { leads = x.leads; present = x.present; stands = stands_later s b ent t u w le x.stands }
+  param_later : (t u : ℕ) (o : Option (BlockParamHolder × List Bytes)) (r : RustOption Value) → t ≤ u → ParamIs s b ent t o r → ParamIs s b ent u o r
+  param_later t u none None le x = tt
+  param_later t u none (Some w) le x = x
+  param_later t u (some h) None le x = x
+  param_later t u (some h) (Some w) le x = record { leads = x.leads; present = x.present; stands = stands_later s b ent t u w le x.stands }
 
   module _ (l : List Scope) (n : ℕ) (k : Bytes) where
     abbrev within : ℕ → Option (BlockParamHolder × List Bytes)
     within i = get_in_block_params (blocks_of s b ent l i) k
 
     -- the newest scope has the name
-    pub in_found : (t : ℕ) (w : Value) → (get_or l n blank).inline ≤ t → ParamIs s b ent (get_or l n blank).inline (own_param s b ent (get_or l n blank) k) (Is w) → ParamIs s b ent t (within (suc n)) (Is w)
-    in_found t w le x = go (get_block_param (context_of s b ent (get_or l n blank)).block_params k) (param_later (get_or l n blank).inline t (own_param s b ent (get_or l n blank) k) (Is w) le x)
+    pub in_found : (t : ℕ) (w : Value) → (get_or l n blank).inline ≤ t → ParamIs s b ent (get_or l n blank).inline (own_param s b ent (get_or l n blank) k) (Some w) → ParamIs s b ent t (within (suc n)) (Some w)
+    in_found t w le x = go (get_block_param (context_of s b ent (get_or l n blank)).block_params k) (param_later (get_or l n blank).inline t (own_param s b ent (get_or l n blank) k) (Some w) le x)
       where
-        go : (o : Option BlockParamHolder) → ParamIs s b ent t (maybe o none (λ h. some (h, (context_of s b ent (get_or l n blank)).base_path))) (Is w)
-            → ParamIs s b ent t (maybe o (within n) (λ h. some (h, (context_of s b ent (get_or l n blank)).base_path))) (Is w)
+        go : (o : Option BlockParamHolder) → ParamIs s b ent t (maybe o none (λ h. some (h, (context_of s b ent (get_or l n blank)).base_path))) (Some w)
+            → ParamIs s b ent t (maybe o (within n) (λ h. some (h, (context_of s b ent (get_or l n blank)).base_path))) (Some w)
         go none x = absurd x
         go (some h) x = x
 
     -- it has not
-    pub in_outer : (t : ℕ) → ParamIs s b ent t (own_param s b ent (get_or l n blank) k) Nothing → within (suc n) ≡ within n
+    pub in_outer : (t : ℕ) → ParamIs s b ent t (own_param s b ent (get_or l n blank) k) None → within (suc n) ≡ within n
     in_outer t x = go (get_block_param (context_of s b ent (get_or l n blank)).block_params k) x
       where
-        go : (o : Option BlockParamHolder) → ParamIs s b ent t (maybe o none (λ h. some (h, (context_of s b ent (get_or l n blank)).base_path))) Nothing
+        go : (o : Option BlockParamHolder) → ParamIs s b ent t (maybe o none (λ h. some (h, (context_of s b ent (get_or l n blank)).base_path))) None
             → maybe o (within n) (λ h. some (h, (context_of s b ent (get_or l n blank)).base_path)) ≡ within n
         go none x = refl
         go (some h) x = absurd x
 
   -- one turn of the loop over scopes, from i scopes to one less: found is what the scope has
-  module _ (l : List Scope) (i n t : ℕ) (k : Bytes) (found : Param) (lt : 0 < i) (le : i ≤ n) (st : ScopesStand s b ent l n t)
+  module _ (l : List Scope) (i n t : ℕ) (k : Bytes) (found : RustOption Value) (lt : 0 < i) (le : i ≤ n) (st : ScopesStand s b ent l n t)
       (d : Scope) (here : d ≡ get_or l (i - 1) blank) (x : ScopeStands s b ent d → ParamIs s b ent d.inline (own_param s b ent d k) found) where
     turned : ParamIs s b ent (get_or l (i - 1) blank).inline (own_param s b ent (get_or l (i - 1) blank) k) found
     turned =
         subst (λ (c : Scope). ScopeStands s b ent c → ParamIs s b ent c.inline (own_param s b ent c k) found) here x (st.each (i - 1) (omega arith))
 
-    pub turn_found : (w : Value) → found ≡ Is w → ParamIs s b ent t (get_in_block_params (blocks_of s b ent l i) k) (Is w)
+    pub turn_found : (w : Value) → found ≡ Some w → ParamIs s b ent t (get_in_block_params (blocks_of s b ent l i) k) (Some w)
     turn_found w e =
         let y : suc (i - 1) ≡ i = omega arith in
-        subst (λ (j : ℕ). ParamIs s b ent t (get_in_block_params (blocks_of s b ent l j) k) (Is w)) y
+        subst (λ (j : ℕ). ParamIs s b ent t (get_in_block_params (blocks_of s b ent l j) k) (Some w)) y
         (in_found l (i - 1) k t w (omega (arith, st.within (i - 1) (omega arith)))
-        (subst (λ (r : Param). ParamIs s b ent (get_or l (i - 1) blank).inline (own_param s b ent (get_or l (i - 1) blank) k) r) e turned))
+        (subst (λ (r : RustOption Value). ParamIs s b ent (get_or l (i - 1) blank).inline (own_param s b ent (get_or l (i - 1) blank) k) r) e turned))
 
-    pub turn_outer : found ≡ Nothing → get_in_block_params (blocks_of s b ent l (i - 1)) k ≡ get_in_block_params (blocks_of s b ent l i) k
+    pub turn_outer : found ≡ None → get_in_block_params (blocks_of s b ent l (i - 1)) k ≡ get_in_block_params (blocks_of s b ent l i) k
     turn_outer e =
         let y : suc (i - 1) ≡ i = omega arith in
         sym
         (subst (λ (j : ℕ). get_in_block_params (blocks_of s b ent l j) k ≡ get_in_block_params (blocks_of s b ent l (i - 1)) k) y
         (in_outer l (i - 1) k (get_or l (i - 1) blank).inline
-        (subst (λ (r : Param). ParamIs s b ent (get_or l (i - 1) blank).inline (own_param s b ent (get_or l (i - 1) blank) k) r) e turned)))
+        (subst (λ (r : RustOption Value). ParamIs s b ent (get_or l (i - 1) blank).inline (own_param s b ent (get_or l (i - 1) blank) k) r) e turned)))
 
   -- Levels
 
@@ -324,7 +322,7 @@ module _ (s b : Bytes) (ent : List ℕ) where
     key_is : LocalIs s b ent t (pick (over_object c) (some (json_of s b ent (key_of c))) none) (local_key c)
     key_is = go (leb 5 c.locals) refl
       where
-        go : (y : Bool) → leb 5 c.locals ≡ y → LocalIs s b ent t (pick y (some (json_of s b ent (key_of c))) none) (pick y (Is (without_path (key_of c))) Nothing)
+        go : (y : Bool) → leb 5 c.locals ≡ y → LocalIs s b ent t (pick y (some (json_of s b ent (key_of c))) none) (pick y (Some (without_path (key_of c))) None)
         go true e = value_is t (key_of c) (stands_later s b ent c.inline t (key_of c) le (st.key e))
         go false e = tt
 
@@ -337,7 +335,7 @@ module _ (s b : Bytes) (ent : List ℕ) where
 
     turn_is : (x y z w : Bool) → LocalIs s b ent t
         (pick x (turn_locals s b ent c).first (pick y (turn_locals s b ent c).last (pick z (turn_locals s b ent c).index (pick w (turn_locals s b ent c).key none))))
-        (pick x (Is (flag (is_first c))) (pick y (Is (flag (is_last c))) (pick z (Is (Index c.index)) (pick w (local_key c) Nothing))))
+        (pick x (Some (flag (is_first c))) (pick y (Some (flag (is_last c))) (pick z (Some (Index c.index)) (pick w (local_key c) None))))
     turn_is true y z w = flag_is t (is_first c)
     turn_is false true z w = flag_is t (is_last c)
     turn_is false false true w = index_is t c.index lt
@@ -349,18 +347,18 @@ module _ (s b : Bytes) (ent : List ℕ) where
     local_is = go (eqb c.locals 0)
       where
         go : (y : Bool) → LocalIs s b ent t (get (pick y default (turn_locals s b ent c)) k)
-            (pick y Nothing
-            (pick (same k (ascii "first")) (Is (flag (is_first c)))
-            (pick (same k (ascii "last")) (Is (flag (is_last c)))
-            (pick (same k (ascii "index")) (Is (Index c.index)) (pick (same k (ascii "key")) (local_key c) Nothing)))))
+            (pick y None
+            (pick (same k (ascii "first")) (Some (flag (is_first c)))
+            (pick (same k (ascii "last")) (Some (flag (is_last c)))
+            (pick (same k (ascii "index")) (Some (Index c.index)) (pick (same k (ascii "key")) (local_key c) None)))))
         go true = rw (none_of (same k (ascii "first")) (same k (ascii "last")) (same k (ascii "index")) (same k (ascii "key"))) tt
         go false = turn_is (same k (ascii "first")) (same k (ascii "last")) (same k (ascii "index")) (same k (ascii "key"))
 
   module _ (l : List Scope) (n level t : ℕ) (k : Bytes) where
-    pub no_local : n ≤ level → LocalIs s b ent t (local_at s b ent l n level k) Nothing
+    pub no_local : n ≤ level → LocalIs s b ent t (local_at s b ent l n level k) None
     no_local le = rw (no_block_at l n level le) tt
 
-    pub local_found : (d : Scope) (r : Param) → level < n → ScopesStand s b ent l n t → d ≡ get_or l (n - 1 - level) blank → d.index < 65536 → r ≡ local_variable d k
+    pub local_found : (d : Scope) (r : RustOption Value) → level < n → ScopesStand s b ent l n t → d ≡ get_or l (n - 1 - level) blank → d.index < 65536 → r ≡ local_variable d k
         → LocalIs s b ent t (local_at s b ent l n level k) r
     local_found d r lt st f small e =
         let i : ℕ = n - 1 - level in
@@ -368,32 +366,32 @@ module _ (s b : Bytes) (ent : List ℕ) where
         (local_is (get_or l i blank) t (omega (arith, st.within i (omega arith))) (st.each i (omega arith)) (subst (λ (c : Scope). c.index < 65536) f small) k)
 
   -- as the rules answer a local path
-  abbrev pub said : Param → ScopedJson
-  said (Is w) = scoped_of s b ent w
-  said Nothing = missing
+  abbrev pub said : RustOption Value → ScopedJson
+  said (Some w) = scoped_of s b ent w
+  said None = missing
 
-  pub local_said : (t : ℕ) (o : Option Json) (r : Param) → LocalIs s b ent t o r → or_missing o ≡ said r
-  local_said t none Nothing x = refl
-  local_said t none (Is w) x = absurd x
-  local_said t (some j) Nothing x = absurd x
-  local_said t (some j) (Is w) x = rw (x.present, x.pathless, x.means)
+  pub local_said : (t : ℕ) (o : Option Json) (r : RustOption Value) → LocalIs s b ent t o r → or_missing o ≡ said r
+  local_said t none None x = refl
+  local_said t none (Some w) x = absurd x
+  local_said t (some j) None x = absurd x
+  local_said t (some j) (Some w) x = rw (x.present, x.pathless, x.means)
 
 -- The code's own terms, whether or not the scopes stand
 
-pub own_settled : (b : Bytes) (ent : List ℕ) (c : Scope) (k : Bytes) (n : ℕ) → (n ≡ 2 → c.index < 65536) → c.kind ≡ n → (r : Param) → r ≡ param_by b ent c k n
+pub own_settled : (b : Bytes) (ent : List ℕ) (c : Scope) (k : Bytes) (n : ℕ) → (n ≡ 2 → c.index < 65536) → c.kind ≡ n → (r : RustOption Value) → r ≡ param_by b ent c k n
     → (r ≡ param_of b ent c k) × ((s : Bytes) → ScopeStands s b ent c → ParamIs s b ent c.inline (own_param s b ent c k) r)
 own_settled b ent c k n lt e r f = (f ∙ ap (param_by b ent c k) (sym e), λ s st. own_is s b ent c st k n lt e r f)
 
-module _ (b : Bytes) (ent : List ℕ) (l : List Scope) (k : Bytes) (i : ℕ) (d : Scope) (pos : 0 < i) (here : d ≡ get_or l (i - 1) blank) (r : Param) (own : r ≡ param_of b ent d k) where
+module _ (b : Bytes) (ent : List ℕ) (l : List Scope) (k : Bytes) (i : ℕ) (d : Scope) (pos : 0 < i) (here : d ≡ get_or l (i - 1) blank) (r : RustOption Value) (own : r ≡ param_of b ent d k) where
   pub first_own : first_param b ent l k i ≡ or_param r (first_param b ent l k (i - 1))
   unfolding first_param
   first_own =
       let x : i ≡ suc (i - 1) = omega arith in
       let f = own ∙ ap (λ (c : Scope). param_of b ent c k) here in
-      ap (first_param b ent l k) x ∙ ap (λ (z : Param). or_param z (first_param b ent l k (i - 1))) (sym f)
+      ap (first_param b ent l k) x ∙ ap (λ (z : RustOption Value). or_param z (first_param b ent l k (i - 1))) (sym f)
 
-  pub first_found : (w : Value) → r ≡ Is w → Is w ≡ first_param b ent l k i
-  first_found w e = sym (first_own ∙ ap (λ (z : Param). or_param z (first_param b ent l k (i - 1))) e)
+  pub first_found : (w : Value) → r ≡ Some w → Some w ≡ first_param b ent l k i
+  first_found w e = sym (first_own ∙ ap (λ (z : RustOption Value). or_param z (first_param b ent l k (i - 1))) e)
 
-  pub first_outer : r ≡ Nothing → first_param b ent l k (i - 1) ≡ first_param b ent l k i
-  first_outer e = sym (first_own ∙ ap (λ (z : Param). or_param z (first_param b ent l k (i - 1))) e)
+  pub first_outer : r ≡ None → first_param b ent l k (i - 1) ≡ first_param b ent l k i
+  first_outer e = sym (first_own ∙ ap (λ (z : RustOption Value). or_param z (first_param b ent l k (i - 1))) e)

@@ -1,6 +1,6 @@
 -- Sets of names by one bit a name: a name whose bit is clear is not among them.
 use Prim.Native.Nat.{ℕ, zero, suc, ◌+◌, ◌-◌, ◌*◌, ◌/◌, ◌%◌, ◌^◌, ◌≤◌, ◌<◌}
-use Rattle.std.specs.Prelude.{Bool, true, false, List, [], ◌∷◌, ◌≡◌, eqb, length, get_or, set}
+use Rattle.std.specs.Prelude.{Bool, true, false, List, [], ◌∷◌, ◌≡◌, eqb, length, get_or, set, Option as RustOption, Some, None}
 use Rattle.std.proofs.Math.Option.{Option, none, some}
 use Rattle.std.proofs.Math.Path.{refl, ap}
 use Rattle.std.proofs.Common.{sym, ap₂, ◌∙◌, subst, arith, pow-suc, pow_pos, eqb-true, get_or-set_same, get_or-set_other}
@@ -25,8 +25,6 @@ use Rattle.scope.specs.Standing.{ScopeStands, ScopesStand}
 use Rattle.value.specs.declared.Value.{Value}
 use Rattle.value.specs.declared.Value.TheVariants.{Merged}
 use Rattle.scope.specs.declared.Scope.{Scope}
-use Rattle.scope.specs.declared.Param.{Param}
-use Rattle.scope.specs.declared.Param.TheVariants.{Is, Nothing}
 use Rattle.scope.specs.Scopes.{base_of, blank}
 use Rattle.scope.specs.Names.{without_path, hash_param, second_value, one_param, two_params, param_by, param_of, first_param, or_param}
 
@@ -52,7 +50,7 @@ Lacks m k = Clear m (bit_of k)
 
 -- what is not in m is no block name of the scope
 pub record Covers (m : ℕ) (b : Bytes) (ent : List ℕ) (c : Scope) : Type 0 where
-  pub clear : (k : Bytes) → Lacks m k → param_of b ent c k ≡ Nothing
+  pub clear : (k : Bytes) → Lacks m k → param_of b ent c k ≡ None
 
 -- of the first n
 abbrev pub AllCovered : ℕ → Bytes → List ℕ → List Scope → ℕ → Type 0
@@ -117,7 +115,7 @@ full_lacks_none k l = all_bits (bit_of k) (bit_small k) l
 -- The block names of a scope
 
 module _ (b : Bytes) (ent : List ℕ) where
-  pub hash_missed : (k : Bytes) (h n : ℕ) → ((j : ℕ) → j < n → same (text_at (bits b) (place ent (h + j))) k ≡ false) → hash_param b ent k h n ≡ Nothing
+  pub hash_missed : (k : Bytes) (h n : ℕ) → ((j : ℕ) → j < n → same (text_at (bits b) (place ent (h + j))) k ≡ false) → hash_param b ent k h n ≡ None
   hash_missed k h zero f = refl
   hash_missed k h (suc n) f =
       let x : h + 0 ≡ h = omega arith in
@@ -142,23 +140,23 @@ module _ (b : Bytes) (ent : List ℕ) where
     covers_none e = record { clear = λ k l. ap (param_by b ent c k) e }
 
     pub covers_one : c.kind ≡ 1 → Has m (text_at (bits b) c.names) → Covers m b ent c
-    covers_one e h = record { clear = λ k l. ap (param_by b ent c k) e ∙ ap (λ (t : Bool). pick t (Is (base_of c)) Nothing) (h k l) }
+    covers_one e h = record { clear = λ k l. ap (param_by b ent c k) e ∙ ap (λ (t : Bool). pick t (Some (base_of c)) None) (h k l) }
 
     pub covers_two : c.kind ≡ 2 → Has m (text_at (bits b) c.names) → Has m (text_at (bits b) (end string (bits b) c.names)) → Covers m b ent c
     covers_two e h g = record {
       clear = λ k l.
-          ap (param_by b ent c k) e ∙ ap (λ (t : Bool). pick t (Is (second_value c)) (one_param b c k)) (g k l)
-          ∙ ap (λ (t : Bool). pick t (Is (base_of c)) Nothing) (h k l);
+          ap (param_by b ent c k) e ∙ ap (λ (t : Bool). pick t (Some (second_value c)) (one_param b c k)) (g k l)
+          ∙ ap (λ (t : Bool). pick t (Some (base_of c)) None) (h k l);
     }
 
     pub covers_hash : (i h n : ℕ) → c.kind ≡ suc (suc (suc i)) → base_of c ≡ Merged h n → HasKeys m h n → Covers m b ent c
     covers_hash i h n e f g = record {
-      clear = λ k l. ap (param_by b ent c k) e ∙ ap (λ (v : Value). maybe (merged_of v) Nothing (λ z. hash_param b ent k z.0 z.1)) f ∙ hash_missed k h n (g k l);
+      clear = λ k l. ap (param_by b ent c k) e ∙ ap (λ (v : Value). maybe (merged_of v) None (λ z. hash_param b ent k z.0 z.1)) f ∙ hash_missed k h n (g k l);
     }
 
     pub covers_unmerged : (i : ℕ) → c.kind ≡ suc (suc (suc i)) → merged_of (base_of c) ≡ none → Covers m b ent c
     covers_unmerged i e f = record {
-      clear = λ k l. ap (param_by b ent c k) e ∙ ap (λ (o : Option (ℕ × ℕ)). maybe o Nothing (λ z. hash_param b ent k z.0 z.1)) f;
+      clear = λ k l. ap (param_by b ent c k) e ∙ ap (λ (o : Option (ℕ × ℕ)). maybe o None (λ z. hash_param b ent k z.0 z.1)) f;
     }
 
   -- larger sets
@@ -184,10 +182,10 @@ module _ (b : Bytes) (ent : List ℕ) where
           subst (Covers (bit_or x y) b ent) (sym (get_or-set_other l n i c blank f)) (covers_left x y (get_or l i blank) (a i (omega arith)))
 
   -- a name that is not in the set is in no scope
-  pub none_first : (l : List Scope) (n m : ℕ) (k : Bytes) → AllCovered m b ent l n → Lacks m k → first_param b ent l k n ≡ Nothing
+  pub none_first : (l : List Scope) (n m : ℕ) (k : Bytes) → AllCovered m b ent l n → Lacks m k → first_param b ent l k n ≡ None
   unfolding first_param
   none_first l zero m k a x = refl
-  none_first l (suc n) m k a x = ap (λ (z : Param). or_param z (first_param b ent l k n)) ((a n (omega arith)).clear k x) ∙ none_first l n m k (λ i lt. a i (omega arith)) x
+  none_first l (suc n) m k a x = ap (λ (z : RustOption Value). or_param z (first_param b ent l k n)) ((a n (omega arith)).clear k x) ∙ none_first l n m k (λ i lt. a i (omega arith)) x
 
 -- Entries behind the scope come and go
 
@@ -197,8 +195,8 @@ module _ (s b : Bytes) (ent ent' : List ℕ) where
   hash_same u a k e (suc n) le =
       let p : place ent e ≡ place ent' e = a.same (2 * e + 1) (omega arith) in
       let v : hash_value ent e ≡ hash_value ent' e = ap (λ (x : ℕ). decoded (x % 4294967296)) (a.same (2 * e) (omega arith)) in
-      ap₂ (λ (q : ℕ) (w : Value). pick (same (text_at (bits b) q) k) (Is (without_path w)) (hash_param b ent k (suc e) n)) p v
-      ∙ ap (pick (same (text_at (bits b) (place ent' e)) k) (Is (without_path (hash_value ent' e)))) (hash_same u a k (suc e) n (omega arith))
+      ap₂ (λ (q : ℕ) (w : Value). pick (same (text_at (bits b) q) k) (Some (without_path w)) (hash_param b ent k (suc e) n)) p v
+      ∙ ap (pick (same (text_at (bits b) (place ent' e)) k) (Some (without_path (hash_value ent' e)))) (hash_same u a k (suc e) n (omega arith))
 
   param_same : (c : Scope) (u : ℕ) → Agree ent ent' u → c.inline ≤ u → ScopeStands s b ent c → (k : Bytes) (n : ℕ) → param_by b ent c k n ≡ param_by b ent' c k n
   param_same c u a le st k zero = refl
@@ -206,7 +204,7 @@ module _ (s b : Bytes) (ent ent' : List ℕ) where
   param_same c u a le st k (suc (suc zero)) = refl
   param_same c u a le st k (suc (suc (suc n))) = go (merged_of (base_of c)) refl
     where
-      go : (o : Option (ℕ × ℕ)) → merged_of (base_of c) ≡ o → maybe o Nothing (λ m. hash_param b ent k m.0 m.1) ≡ maybe o Nothing (λ m. hash_param b ent' k m.0 m.1)
+      go : (o : Option (ℕ × ℕ)) → merged_of (base_of c) ≡ o → maybe o None (λ m. hash_param b ent k m.0 m.1) ≡ maybe o None (λ m. hash_param b ent' k m.0 m.1)
       go none e = refl
       go (some m) e =
           let x = stands_merged s b ent c.inline (base_of c) m.0 m.1 e st.base in
@@ -235,24 +233,24 @@ covers_counted m b ent c n h = record { clear = λ k x. same_by k c.kind ∙ h.c
 pub covers_turn : (m : ℕ) (b : Bytes) (ent : List ℕ) (c d : Scope) → c.names ≡ d.names → c.kind ≡ d.kind → c.kind ≤ 2 → Covers m b ent c → Covers m b ent d
 covers_turn m b ent c d e f le h = record { clear = λ k x. at k c.kind le (h.clear k x) (ap (param_by b ent d k) (sym f)) }
   where
-    not_said : (y : Bool) (v : Value) (r : Param) → pick y (Is v) r ≡ Nothing → y ≡ false
+    not_said : (y : Bool) (v : Value) (r : RustOption Value) → pick y (Some v) r ≡ None → y ≡ false
     not_said true v r z = let o : ◌≡◌ {A = ℕ} 0 1 = cc in absurd (omega arith)
     not_said false v r z = refl
 
-    one : (k : Bytes) → one_param b c k ≡ Nothing → one_param b d k ≡ Nothing
+    one : (k : Bytes) → one_param b c k ≡ None → one_param b d k ≡ None
     one k z =
-        let n = not_said (same (text_at (bits b) c.names) k) (base_of c) Nothing z in
-        ap (λ (q : ℕ). pick (same (text_at (bits b) q) k) (Is (base_of d)) Nothing) (sym e) ∙ ap (λ (y : Bool). pick y (Is (base_of d)) Nothing) n
+        let n = not_said (same (text_at (bits b) c.names) k) (base_of c) None z in
+        ap (λ (q : ℕ). pick (same (text_at (bits b) q) k) (Some (base_of d)) None) (sym e) ∙ ap (λ (y : Bool). pick y (Some (base_of d)) None) n
 
-    two : (k : Bytes) → two_params b c k ≡ Nothing → two_params b d k ≡ Nothing
+    two : (k : Bytes) → two_params b c k ≡ None → two_params b d k ≡ None
     two k z =
         let q : ℕ = end string (bits b) c.names in
         let n = not_said (same (text_at (bits b) q) k) (second_value c) (one_param b c k) z in
-        let o : one_param b c k ≡ Nothing = sym (ap (λ (y : Bool). pick y (Is (second_value c)) (one_param b c k)) n) ∙ z in
-        ap (λ (a : ℕ). pick (same (text_at (bits b) (end string (bits b) a)) k) (Is (second_value d)) (one_param b d k)) (sym e)
-        ∙ ap (λ (y : Bool). pick y (Is (second_value d)) (one_param b d k)) n ∙ one k o
+        let o : one_param b c k ≡ None = sym (ap (λ (y : Bool). pick y (Some (second_value c)) (one_param b c k)) n) ∙ z in
+        ap (λ (a : ℕ). pick (same (text_at (bits b) (end string (bits b) a)) k) (Some (second_value d)) (one_param b d k)) (sym e)
+        ∙ ap (λ (y : Bool). pick y (Some (second_value d)) (one_param b d k)) n ∙ one k o
 
-    at : (k : Bytes) (i : ℕ) → i ≤ 2 → param_by b ent c k i ≡ Nothing → param_by b ent d k d.kind ≡ param_by b ent d k i → param_of b ent d k ≡ Nothing
+    at : (k : Bytes) (i : ℕ) → i ≤ 2 → param_by b ent c k i ≡ None → param_by b ent d k d.kind ≡ param_by b ent d k i → param_of b ent d k ≡ None
     at k zero le z y = y
     at k (suc zero) le z y = y ∙ one k z
     at k (suc (suc zero)) le z y = y ∙ two k z

@@ -43,12 +43,6 @@ pub struct Scope {
 }
 
 // What a name stands for.
-#[derive(Clone, Copy)]
-pub enum Param {
-    Is(Value),
-    Nothing,
-}
-
 // One place is changed: the stack is handed in and back.
 pub fn put_scope(scopes: [Scope; 32], i: usize, c: Scope) -> [Scope; 32]
     requires { i < 32 }
@@ -132,15 +126,13 @@ fn hash_number(b: &[u8], ent: &[u64], h: usize, n: usize, p: usize, x: u64, k: u
         n)
         × (result ≤ 4294967296) }
 {
-    let mut i: usize = 0;
-    while i < n {
+    for i in 0..n {
         let e = h + i;
         let q = entries::place(ent, e);
         if same_headed(b, q, bits::field(b, q, 56), p, x, k) {
             let low = entries::low(ent, e);
             return 1 + (bare(low) as u64);
         }
-        i += 1;
     }
     0
 }
@@ -202,20 +194,15 @@ pub fn own_number(b: &[u8], ent: &[u64], c: Scope, p: usize, x: u64, k: u64) -> 
         × (k ≡ spare x) }
     ensures { Settled b.now ent.now c (text_at (bits b.now) p) result }
 {
-    if c.kind == 0 {
-        return 0;
+    match c.kind {
+        0 => 0,
+        1 => one_number(b, c, p, x, k),
+        2 => two_number(b, c, p, x, k),
+        _ => match value::decode(c.base) {
+            Value::Merged(h, n) => hash_number(b, ent, h, n, p, x, k),
+            _ => 0,
+        },
     }
-    if c.kind == 1 {
-        return one_number(b, c, p, x, k);
-    }
-    if c.kind == 2 {
-        return two_number(b, c, p, x, k);
-    }
-    let base = value::decode(c.base);
-    let Value::Merged(h, n) = base else {
-        return 0;
-    };
-    hash_number(b, ent, h, n, p, x, k)
 }
 
 // From the newest scope on.
@@ -228,9 +215,7 @@ pub fn param_number(b: &[u8], ent: &[u64], scopes: [Scope; 32], used: usize, p: 
 {
     let x = bits::field(b, p, 56);
     let k = spare(x);
-    let mut i = used;
-    while 0 < i {
-        i -= 1;
+    for i in (0..used).rev() {
         let c = scopes[i];
         if c.kind != 0 {
             let n = own_number(b, ent, c, p, x, k);
@@ -258,12 +243,9 @@ fn hash_bits(b: &[u8], ent: &[u64], h: usize, n: usize) -> u64
     requires { HashReadable b.now ent.now h n }
     ensures { HasKeys b.now ent.now result h n }
 {
-    let mut r: u64 = 0;
-    let mut i: usize = 0;
-    while i < n {
-        let q = entries::place(ent, h + i);
-        r = r | name_bit(b, q);
-        i += 1;
+    let mut r = 0;
+    for i in 0..n {
+        r |= name_bit(b, entries::place(ent, h + i));
     }
     r
 }
@@ -273,43 +255,35 @@ pub fn names_of(b: &[u8], ent: &[u64], c: Scope) -> u64
     requires { (length b.now ≤ 65536) × Readable b.now ent.now c }
     ensures { Covers result b.now ent.now c }
 {
-    if c.kind == 0 {
-        return 0;
-    }
     let q = c.names as usize;
-    if c.kind == 1 {
-        return name_bit(b, q);
+    match c.kind {
+        0 => 0,
+        1 => name_bit(b, q),
+        2 => {
+            let next = parts::skip_string(b, q);
+            name_bit(b, q) | name_bit(b, next)
+        }
+        _ => match value::decode(c.base) {
+            Value::Merged(h, n) => hash_bits(b, ent, h, n),
+            _ => 0,
+        },
     }
-    if c.kind == 2 {
-        let next = parts::skip_string(b, q);
-        let first = name_bit(b, q);
-        let second = name_bit(b, next);
-        return first | second;
-    }
-    let base = value::decode(c.base);
-    let Value::Merged(h, n) = base else {
-        return 0;
-    };
-    hash_bits(b, ent, h, n)
 }
 
 fn flag(yes: bool) -> Value
     ensures { result ≡ flag yes }
 {
-    if yes {
-        return Value::True;
-    }
-    Value::False
+    if yes { Value::True } else { Value::False }
 }
 
 // `@key`, of a turn over an object.
-fn local_key(c: Scope) -> Param
+fn local_key(c: Scope) -> Option<Value>
     ensures { result ≡ local_key c }
 {
     if 5 <= c.locals {
-        return Param::Is(without_path(value::decode(c.key)));
+        return Some(without_path(value::decode(c.key)));
     }
-    Param::Nothing
+    None
 }
 
 // Whether the last bytes of a number are those of t. The compiler makes one comparison of it where t is known.
@@ -318,42 +292,40 @@ fn spells(z: u64, t: &[u8]) -> bool
     ensures { result ≡ same (number_bytes (length t.now) z) t.now }
 {
     let n = t.len();
-    let mut i: usize = 0;
-    while i < n {
-        if ((z >> (8 * (n - 1 - i))) % 256) as u8 != t[i] {
+    for (i, &c) in t.iter().enumerate() {
+        if ((z >> (8 * (n - 1 - i))) % 256) as u8 != c {
             return false;
         }
-        i += 1;
     }
     true
 }
 
 // The local variable of the scope that the string at p names. Its count and its first five bytes are read at once: count and first byte leave one name at most to
 // be compared.
-pub fn local_variable(b: &[u8], c: Scope, p: usize) -> Param
+pub fn local_variable(b: &[u8], c: Scope, p: usize) -> Option<Value>
     requires { p ≤ 524288 }
     ensures { (c.index < 65536) × (result ≡ local_variable c (text_at (bits b.now) p)) }
 {
     let index = c.index as usize;
     if c.locals == 0 {
-        return Param::Nothing;
+        return None;
     }
     let turn = c.locals - 1;
     let z = bits::field(b, p, 56);
     let x = z >> 32;
     if x == names::head(b"first") && spells(z, b"first") {
-        return Param::Is(flag(turn % 2 == 1));
+        return Some(flag(turn % 2 == 1));
     }
     if x == names::head(b"last") && spells(z >> 8, b"last") {
-        return Param::Is(flag(turn / 2 % 2 == 1));
+        return Some(flag(turn / 2 % 2 == 1));
     }
     if x == names::head(b"index") && spells(z, b"index") {
-        return Param::Is(Value::Index(index));
+        return Some(Value::Index(index));
     }
     if x == names::head(b"key") && spells(z >> 16, b"key") {
         return local_key(c);
     }
-    Param::Nothing
+    None
 }
 
 // A new scope with its base; its inline partials start at an entry.

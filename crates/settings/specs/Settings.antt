@@ -1,5 +1,5 @@
 -- There is a registry and a state that the code is handed as places and numbers; so what is worked out stands.
-use Rattle.std.specs.Prelude.{ℕ, zero, suc, ◌+◌, ◌≤◌, ◌<◌, false, List, [], ◌≡◌, refl, length, get_or, replicate}
+use Rattle.std.specs.Prelude.{ℕ, zero, suc, ◌+◌, ◌≤◌, ◌<◌, false, List, [], ◌≡◌, refl, length, get_or, replicate, None, Result, Ok, Err}
 use Rattle.std.proofs.Common.{arith, sym, ap, subst}
 use Rattle.std.proofs.Math.Option.{none}
 use Rattle.rules.specs.Bytes.{Bytes}
@@ -23,10 +23,10 @@ use Rattle.scope.specs.Made.{child}
 use Rattle.scope.proofs.MadeLaws.{child_stands}
 use Rattle.context.specs.Near.{NearScopes}
 use Rattle.expand.specs.declared.Options.{Options}
-use Rattle.expand.specs.declared.Got.{Got}
-use Rattle.expand.specs.declared.Got.TheVariants.{Is, Bad}
 use Rattle.expand.specs.declared.Expanded.{Expanded}
 use Rattle.expand.specs.Answers.{Setting, Expands, IsTemplate, ExpandedHeld, GotKnown}
+use Rattle.error.specs.declared.RenderErrorReason.{RenderErrorReason as Reason}
+use Rattle.value.specs.declared.Value.{Value}
 
 blocks_length : (s b : Bytes) (ent : List ℕ) (l : List Scope) (n : ℕ) → length (blocks_of s b ent l n) ≡ n
 blocks_length s b ent l zero = refl
@@ -96,11 +96,11 @@ pub begun_near : (s b : Bytes) (ent : List ℕ) (n : ℕ) → n ≤ 32 → NearS
 begun_near s b ent n le = record { top = 0; near = omega arith; stand = roots_stand s b ent (replicate 32 blank) n le (λ i lt. begun_root 32 i) }
 
 module _ (s b : Bytes) (ent : List ℕ) (t : ℕ) where
-  pub got_known : (x : rule.Got ScopedJson) (r : Got) → Expands s b ent t x r → GotKnown s b r
-  got_known x (Is v) h = stands_known s b ent t v h.1
-  got_known x (Bad n) h = tt
+  pub got_known : (x : rule.Got ScopedJson) (r : Result Value Reason) → Expands s b ent t x r → GotKnown s b r
+  got_known x (Ok v) h = stands_known s b ent t v h.1
+  got_known x (Err n) h = tt
 
-  pub expanded_held : (l : List Scope) (used : ℕ) (x : rule.Got block-util.Expanded) (w : Expanded) → ScopesStand s b ent l used t → IsTemplate s b ent t x w → w.bad ≡ 0 → ExpandedHeld s b ent w
+  pub expanded_held : (l : List Scope) (used : ℕ) (x : rule.Got block-util.Expanded) (w : Expanded) → ScopesStand s b ent l used t → IsTemplate s b ent t x w → w.bad ≡ None → ExpandedHeld s b ent w
   expanded_held l used x w st h e =
       let f = h.fine e in
       record { used = t; room = st.entries; name = f.2.name_stands; first = f.2.params.first; second = f.2.params.second }

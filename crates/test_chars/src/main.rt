@@ -10,10 +10,9 @@ ghost use Rattle.text.specs.Rest.{Stands};
 ghost use Rattle.meaning.specs.Standing.{PlainStands};
 ghost use Rattle.chars.specs.Spelled.{Spelled};
 
-use chars::{Next, Nth};
 use std::io;
 use std::io::Write;
-use text::{Step, Text};
+use text::Text;
 use value::Value;
 
 fn print(rt: &impl Print, s: &[u8]) -> io::Result<()> {
@@ -33,7 +32,7 @@ fn print_text(rt: &impl Print, s: &[u8], b: &[u8], t: Text) -> io::Result<()>
 {
     let mut u = t;
     loop {
-        let Step::Byte(c, v) = text::next(s, b, u) else {
+        let Some((c, v)) = text::next(s, b, u) else {
             return Ok(());
         };
         print_byte(rt, c)?;
@@ -78,7 +77,7 @@ fn show_alone(rt: &impl Print, s: &[u8], b: &[u8], v: Value) -> io::Result<()>
     let t = text_of(s, b, v);
     print_number(rt, chars::char_count(s, b, t))?;
     print(rt, b" ")?;
-    let Next::Char(w, _) = chars::next_char(s, b, t) else {
+    let Some((w, _)) = chars::next_char(s, b, t) else {
         return Ok(());
     };
     show(rt, s, b, w)
@@ -89,7 +88,7 @@ fn show_all(rt: &impl Print, s: &[u8], b: &[u8], t: Text) -> io::Result<()>
 {
     let mut u = t;
     loop {
-        let Next::Char(v, w) = chars::next_char(s, b, u) else {
+        let Some((v, w)) = chars::next_char(s, b, u) else {
             return Ok(());
         };
         show(rt, s, b, v)?;
@@ -103,7 +102,7 @@ fn show_all(rt: &impl Print, s: &[u8], b: &[u8], t: Text) -> io::Result<()>
 fn show_nth(rt: &impl Print, s: &[u8], b: &[u8], t: Text, k: usize) -> io::Result<()>
     requires { (length s.now ≤ 65536) × (length b.now ≤ 65536) × Spelled s.now b.now t }
 {
-    let Nth::Is(v) = chars::nth_char(s, b, t, k) else {
+    let Some(v) = chars::nth_char(s, b, t, k) else {
         print(rt, b"- ")?;
         return Ok(());
     };

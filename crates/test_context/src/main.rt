@@ -5,7 +5,6 @@ ghost use Rattle.std.specs.Prelude.{◌≡◌, ◌≤◌, ◌<◌, length};
 ghost use Rattle.rules.specs.Bits.{bits};
 ghost use Rattle.rules.specs.Bundle.{path, param, body};
 ghost use Rattle.layout.specs.Verdict.{verdict};
-ghost use Rattle.layout.specs.declared.Verdict.TheVariants.{Accepted as Passed};
 ghost use Rattle.parts.specs.Holds.{Holds};
 ghost use Rattle.template.specs.Views.{ElementHolds};
 ghost use Rattle.places.specs.Accepted.{Accepted};
@@ -14,8 +13,6 @@ ghost use Rattle.context.specs.Near.{NearScopes};
 
 use calls::Parameter;
 use context::Evaluated;
-use layout::Verdict;
-use registry::Found;
 use scope::Scope;
 use std::io;
 use std::io::Write;
@@ -156,10 +153,10 @@ fn show_main(
     used: usize,
     recursive: bool,
 ) -> io::Result<()>
-    requires { Accepted s.now tab.now × (verdict b.now ≡ Passed) × (0 < used) × (used ≤ 32) }
+    requires { Accepted s.now tab.now × (verdict b.now ≡ Ok tt) × (0 < used) × (used ≤ 32) }
 {
     let f = registry::get_template(b, 16, b"main");
-    let Found::Template(_, _, p) = f else {
+    let Some((_, _, p)) = f else {
         return Ok(());
     };
     let ent: [u64; 2] = [0, 0];
@@ -170,8 +167,7 @@ fn show_main(
 fn show_all(rt: &impl Print, s: &[u8], tab: &[u64], b: &[u8]) -> io::Result<()>
     requires { Accepted s.now tab.now }
 {
-    let v = layout::check_bundle(b);
-    let Verdict::Accepted = v else {
+    let Ok(()) = layout::check_bundle(b) else {
         return Ok(());
     };
     show_main(rt, s, tab, b, 1, false)?;

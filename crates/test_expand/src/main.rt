@@ -6,7 +6,6 @@ ghost use Rattle.std.specs.Prelude.{◌≡◌, ◌≤◌, ◌<◌, length};
 ghost use Rattle.rules.specs.Bits.{bits};
 ghost use Rattle.rules.specs.Bundle.{call_of, param, body};
 ghost use Rattle.layout.specs.Verdict.{verdict};
-ghost use Rattle.layout.specs.declared.Verdict.TheVariants.{Accepted as Passed};
 ghost use Rattle.parts.specs.Holds.{Holds};
 ghost use Rattle.template.specs.Views.{ElementHolds};
 ghost use Rattle.places.specs.Accepted.{Accepted};
@@ -14,9 +13,8 @@ ghost use Rattle.meaning.specs.Forms.{Known};
 ghost use Rattle.context.specs.Near.{NearScopes};
 ghost use Rattle.expand.specs.Answers.{GotKnown};
 
-use expand::{Got, Options};
-use layout::Verdict;
-use registry::Found;
+use error::RenderErrorReason;
+use expand::Options;
 use scope::Scope;
 use std::io;
 use std::io::Write;
@@ -48,12 +46,18 @@ fn print_value(rt: &impl Print, s: &[u8], tab: &[u64], b: &[u8], v: Value) -> io
     io::writer(rt).write_all(&out)
 }
 
-fn print_got(rt: &impl Print, s: &[u8], tab: &[u64], b: &[u8], r: Got) -> io::Result<()>
+fn print_got(
+    rt: &impl Print,
+    s: &[u8],
+    tab: &[u64],
+    b: &[u8],
+    r: Result<Value, RenderErrorReason>,
+) -> io::Result<()>
     requires { Accepted s.now tab.now × (length b.now ≤ 65536) × GotKnown s.now b.now r }
 {
     match r {
-        Got::Is(v) => print_value(rt, s, tab, b, v)?,
-        Got::Bad(n) => print_number(rt, n as u64)?,
+        Ok(v) => print_value(rt, s, tab, b, v)?,
+        Err(e) => print_number(rt, u64::from(e.number()))?,
     }
     print(rt, b" ")
 }
@@ -69,16 +73,16 @@ fn call_value(
     options: Options,
     p: usize,
     d: usize,
-) -> Got
+) -> Result<Value, RenderErrorReason>
     requires { Accepted s.now tab.now × (length b.now ≤ 65536) × (0 < used) × (used ≤ 32)
         × NearScopes s.now b.now ent.now scopes used × Holds (call_of (param d)) (bits b.now) p }
     ensures { GotKnown s.now b.now result }
 {
     let w = expand::try_from_template(s, tab, b, ent, scopes, used, options, p, d);
-    if w.bad == 0 {
-        return expand::called(s, tab, b, ent, used, options, w);
+    match w.bad {
+        None => expand::called(s, tab, b, ent, used, options, w),
+        Some(e) => Err(e),
     }
-    Got::Bad(w.bad)
 }
 
 // The parameter at p as a name.
@@ -92,7 +96,7 @@ fn name_value(
     options: Options,
     p: usize,
     d: usize,
-) -> Got
+) -> Result<Value, RenderErrorReason>
     requires { Accepted s.now tab.now × (length b.now ≤ 65536) × (0 < used) × (used ≤ 32)
         × NearScopes s.now b.now ent.now scopes used × Holds (param d) (bits b.now) p }
     ensures { GotKnown s.now b.now result }
@@ -111,7 +115,7 @@ fn param_value(
     options: Options,
     p: usize,
     d: usize,
-) -> Got
+) -> Result<Value, RenderErrorReason>
     requires { Accepted s.now tab.now × (length b.now ≤ 65536) × (0 < used) × (used ≤ 32)
         × NearScopes s.now b.now ent.now scopes used × Holds (param d) (bits b.now) p }
     ensures { GotKnown s.now b.now result }
@@ -136,9 +140,9 @@ fn show_call(
         × NearScopes s.now b.now ent.now scopes used × Holds (call_of (param d)) (bits b.now) p }
 {
     let w = expand::try_from_template(s, tab, b, ent, scopes, used, options, p, d);
-    if w.bad != 0 {
+    if let Some(e) = w.bad {
         print(rt, b"refused ")?;
-        print_number(rt, w.bad as u64)?;
+        print_number(rt, u64::from(e.number()))?;
         return Ok(());
     }
     print_number(rt, w.count as u64)?;
@@ -244,10 +248,10 @@ fn show_main(
     used: usize,
     strict: bool,
 ) -> io::Result<()>
-    requires { Accepted s.now tab.now × (verdict b.now ≡ Passed) × (0 < used) × (used ≤ 32) }
+    requires { Accepted s.now tab.now × (verdict b.now ≡ Ok tt) × (0 < used) × (used ≤ 32) }
 {
     let f = registry::get_template(b, 16, b"main");
-    let Found::Template(_, _, p) = f else {
+    let Some((_, _, p)) = f else {
         return Ok(());
     };
     let ent: [u64; 2] = [0, 0];
@@ -263,8 +267,7 @@ fn show_main(
 fn show_all(rt: &impl Print, s: &[u8], tab: &[u64], b: &[u8]) -> io::Result<()>
     requires { Accepted s.now tab.now }
 {
-    let v = layout::check_bundle(b);
-    let Verdict::Accepted = v else {
+    let Ok(()) = layout::check_bundle(b) else {
         return Ok(());
     };
     show_main(rt, s, tab, b, 1, false)?;

@@ -10,7 +10,7 @@ ghost use Rattle.places.specs.Accepted.{Accepted};
 ghost use Rattle.meaning.specs.Forms.{Known};
 ghost use Rattle.lookup.specs.Answers.{Held};
 
-use lookup::{Found, Got};
+use lookup::Got;
 use std::io;
 use std::io::Write;
 use value::Value;
@@ -62,8 +62,8 @@ fn show_looked(
 {
     let found = lookup::looked_up(s, tab, b, ent, v, i);
     match found {
-        Found::Is(w) => print_value(rt, s, tab, b, w)?,
-        Found::Nothing => print(rt, b"-")?,
+        Some(w) => print_value(rt, s, tab, b, w)?,
+        None => print(rt, b"-")?,
     }
     print(rt, b" ")
 }
@@ -110,7 +110,7 @@ fn show_plan(rt: &impl Print, s: &[u8], tab: &[u64], b: &[u8], ent: &[u64]) -> i
     requires { Accepted s.now tab.now × (length b.now ≤ 65536) × (Holds string (bits b.now) 0 × Holds string (bits b.now) 24 × Holds string (bits b.now) 48 × Holds string (bits b.now) 72 × Holds string (bits b.now) 104 × Holds string (bits b.now) 136) }
 {
     for k in 0..16 {
-        let places::Found::At(c) = places::nth(s, tab, 0, k) else {
+        let Some(c) = places::nth(s, tab, 0, k) else {
             return Ok(());
         };
         show_names(rt, s, tab, b, ent, Value::Place(c))?;

@@ -9,7 +9,6 @@ ghost use Rattle.parts.specs.Holds.{Holds};
 ghost use Rattle.places.specs.Accepted.{Accepted};
 ghost use Rattle.meaning.specs.Forms.{Known};
 
-use places::Found;
 use std::io;
 use std::io::Write;
 use text::Text;
@@ -66,7 +65,7 @@ fn show_plan(rt: &impl Print, s: &[u8], tab: &[u64], b: &[u8]) -> io::Result<()>
     requires { Accepted s.now tab.now × (length b.now ≤ 65536) }
 {
     for k in 0..16 {
-        let Found::At(c) = places::nth(s, tab, 0, k) else {
+        let Some(c) = places::nth(s, tab, 0, k) else {
             return Ok(());
         };
         show(rt, s, tab, b, Value::Place(c))?;

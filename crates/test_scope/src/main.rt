@@ -7,7 +7,7 @@ ghost use Rattle.rules.specs.Bundle.{string};
 ghost use Rattle.parts.specs.Holds.{Holds};
 ghost use Rattle.scope.specs.Names.{AllReadable};
 
-use scope::{Param, Scope};
+use scope::Scope;
 use std::io;
 use std::io::Write;
 use value::Value;
@@ -35,10 +35,10 @@ fn print_value(rt: &impl Print, v: Value) -> io::Result<()> {
     }
 }
 
-fn print_param(rt: &impl Print, r: Param) -> io::Result<()> {
+fn print_param(rt: &impl Print, r: Option<Value>) -> io::Result<()> {
     match r {
-        Param::Is(v) => print_value(rt, v),
-        Param::Nothing => print(rt, b"-, "),
+        Some(v) => print_value(rt, v),
+        None => print(rt, b"-, "),
     }
 }
 
@@ -47,7 +47,7 @@ fn print_number(rt: &impl Print, n: u64) -> io::Result<()>
     requires { n ≤ 4294967296 }
 {
     if n == 0 {
-        print_param(rt, Param::Nothing)
+        print_param(rt, None)
     } else {
         print_value(rt, value::decode((n - 1) as u32))
     }

@@ -1,13 +1,9 @@
 use Prim.Native.Nat.{◌+◌}
-use Rattle.chars.proofs.Counts.{count_few}
-use Rattle.chars.specs.Spelled.{Spelled, Parted}
-use Rattle.rules.specs.Bytes.{Bytes}
+use Rattle.chars.specs.Spelled.{Spelled}
 use Rattle.rules.specs.Context.{chars}
 use Rattle.text.specs.Rest.{rest}
-use borrow.Author.Rules.{rules}
 use lib.ListN.{length}
-use mathlib.Core.Path.{◌≡◌, ap, subst}
-use native.Mathlib.Omega.{arith}
+use mathlib.Core.Path.{◌≡◌}
 use Rattle.chars.proofs.char_count.Given as goal
 
 abbrev pub invariant-loop-w : goal.invariant-loop-w

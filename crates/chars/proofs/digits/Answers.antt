@@ -1,7 +1,6 @@
 use Prim.Native.Nat.{◌≤◌, ◌<◌}
 use Rattle.chars.proofs.Numbers.{digit_plain, digit_first}
 use Rattle.rules.specs.Bytes.{digits}
-use borrow.Author.Rules.{rules}
 use lib.ListN.{length, drop_of_length-le}
 use native.Mathlib.Omega.{arith}
 use Rattle.chars.proofs.digits.Goals as goal

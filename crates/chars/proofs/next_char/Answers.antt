@@ -1,6 +1,5 @@
 use Rattle.chars.proofs.Strings.{said_any, part_first}
 use Rattle.chars.specs.Spelled.{Spelled, Parted}
-use borrow.Author.Rules.{rules}
 use mathlib.Core.Path.{refl, subst, sym}
 use Rattle.chars.proofs.next_char.Goals as goal
 

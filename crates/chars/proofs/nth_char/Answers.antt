@@ -1,34 +1,40 @@
+use Prim.Native.Nat.{ℕ, ◌+◌, ◌-◌}
 use Rattle.chars.proofs.Chars.{get_first, get_on}
-use Rattle.chars.specs.Spelled.{Spelled, Parted}
 use Rattle.rules.specs.Bytes.{Bytes}
 use Rattle.rules.specs.Context.{chars}
 use Rattle.text.specs.Rest.{rest}
-use borrow.Author.Rules.{rules}
 use lib.ListN.{get_elem?}
-use mathlib.Core.Path.{◌≡◌, ◌∙◌, ap, refl, subst}
+use mathlib.Core.List.{[]}
+use mathlib.Core.Path.{◌≡◌, ◌∙◌, ap}
 use native.Mathlib.Omega.{arith}
 use Rattle.chars.proofs.nth_char.Goals as goal
 
-pub loop-v-init : goal.loop-v-init
-loop-v-init c = (c.requires.2, refl)
+pub loop-init : goal.loop-init
+loop-init c = (c.requires.2, ap (get_elem? (chars (rest c.args.s.now c.args.b.now c.args.t))) (omega arith))
 
-pub next_char-requires : goal.next_char-requires
-next_char-requires c = (c.requires.0, c.requires.1, c.loop-v.invariant.0)
+pub returns-in_err-w : goal.returns-in_err-w
+returns-in_err-w c = let a = c.args in
+    let l = c.loop in
+    let e : rest a.s.now a.b.now l.u ≡ [] = c.in_err-w.ensures in
+    rw c.from_residual.ensures (l.invariant.1 ∙ ap (λ (x : Bytes). get_elem? (chars x) (a.k - l.counter)) e)
 
-pub returns-in_default : goal.returns-in_default
-returns-in_default c = let a = c.args in
-    let l = c.loop-v in
-    let e = subst (λ z. Parted a.s.now a.b.now l.u z) c.in_default.is c.next_char.ensures in
-    l.invariant.1 ∙ ap (λ (x : Bytes). get_elem? (chars x) l.left) e
+pub loop-preserved : goal.loop-preserved
+loop-preserved c = let a = c.args in
+    let l = c.loop in
+    let f = c.in_ok-w.ensures in
+    let d : a.k - l.counter - 1 ≡ a.k - (l.counter + 1) = omega arith in
+    let m = chars (rest a.s.now a.b.now c.in_ok-w.w) in
+    (f.spelled, l.invariant.1 ∙ get_on (chars (rest a.s.now a.b.now l.u)) f.letter m (a.k - l.counter) f.first (λ z. omega arith) ∙ ap (get_elem? m) d)
 
-pub returns-then-left-eq0 : goal.returns-then-left-eq0
-returns-then-left-eq0 c = let a = c.args in
-    let l = c.loop-v in
-    let f = subst (λ z. Parted a.s.now a.b.now l.u z) c.in-Char.is c.next_char.ensures in
-    record { letter = f.letter; value = f.value; is = l.invariant.1 ∙ get_first (chars (rest a.s.now a.b.now l.u)) f.letter (chars (rest a.s.now a.b.now c.in-Char.w)) l.left f.first (omega (arith, c.if-left-eq0.true)) }
+pub returns-in_err-v : goal.returns-in_err-v
+returns-in_err-v c = let a = c.args in
+    let l = c.loop in
+    let e : rest a.s.now a.b.now l.u ≡ [] = c.in_err-v.ensures in
+    rw c.from_residual-in_err-v.ensures (l.invariant.1 ∙ ap (λ (x : Bytes). get_elem? (chars x) (a.k - l.counter)) e)
 
-pub loop-v-preserved : goal.loop-v-preserved
-loop-v-preserved c = let a = c.args in
-    let l = c.loop-v in
-    let f = subst (λ z. Parted a.s.now a.b.now l.u z) c.in-Char.is c.next_char.ensures in
-    (f.spelled, l.invariant.1 ∙ get_on (chars (rest a.s.now a.b.now l.u)) f.letter (chars (rest a.s.now a.b.now c.in-Char.w)) l.left f.first (λ z. omega (arith, c.if-left-eq0.false)))
+pub returns : goal.returns
+returns c = let a = c.args in
+    let l = c.loop in
+    let o = c.in_ok-v in
+    let f = o.ensures in
+    record { letter = f.letter; value = f.value; is = l.invariant.1 ∙ get_first (chars (rest a.s.now a.b.now l.u)) f.letter _ (a.k - l.counter) f.first (omega arith) }

@@ -1,16 +1,10 @@
-use Rattle.chars.proofs.Chars.{get_first, get_on}
-use Rattle.chars.specs.Spelled.{Spelled, Parted}
-use Rattle.rules.specs.Bytes.{Bytes}
+use Prim.Native.Nat.{◌-◌}
+use Rattle.chars.specs.Spelled.{Spelled}
 use Rattle.rules.specs.Context.{chars}
 use Rattle.text.specs.Rest.{rest}
-use borrow.Author.Rules.{rules}
 use lib.ListN.{get_elem?}
-use mathlib.Core.Path.{◌≡◌, ◌∙◌, ap, refl, subst}
-use native.Mathlib.Omega.{arith}
+use mathlib.Core.Path.{◌≡◌}
 use Rattle.chars.proofs.nth_char.Given as goal
 
-abbrev pub invariant-loop-v : goal.invariant-loop-v
-invariant-loop-v l = Spelled l.s l.b l.u × (get_elem? (chars (rest l.s l.b l.initial.u)) l.initial.left ≡ get_elem? (chars (rest l.s l.b l.u)) l.left)
-
-abbrev pub decreases-loop-v : goal.decreases-loop-v
-decreases-loop-v l = l.left
+abbrev pub invariant-loop : goal.invariant-loop
+invariant-loop l = Spelled l.s l.b l.u × (get_elem? (chars (rest l.s l.b l.initial.u)) l.k ≡ get_elem? (chars (rest l.s l.b l.u)) (l.k - l.counter))

@@ -1,6 +1,5 @@
 use Rattle.chars.proofs.Bundled.{packed_none, packed_least, packed_most, packed_first}
 use Rattle.rules.specs.BundleLaws.{bits_size}
-use borrow.Author.Rules.{rules}
 use Prim.Native.Nat.{◌≤◌}
 use native.Mathlib.Omega.{arith}
 use Rattle.chars.proofs.packed.Goals as goal

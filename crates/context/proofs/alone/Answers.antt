@@ -10,7 +10,6 @@ use Rattle.places.specs.Children.{inner}
 use Rattle.rules.specs.Error.{got}
 use Rattle.context.proofs.Walking.{first_holds}
 use Rattle.context.proofs.Climbing.{alone_named, alone_other, alone_root, alone_place}
-use borrow.Author.Rules.{rules}
 use borrow.Enum.Refused.{opened}
 use Rattle.context.proofs.alone.Goals as goal
 

@@ -3,7 +3,6 @@ use mathlib.Core.Path.{sym, subst}
 use Rattle.context.specs.Evaluated.{Evaluates, found_evaluates}
 use Rattle.context.specs.Near.{stands_fits}
 use Rattle.context.proofs.Numbers.{number_told}
-use borrow.Author.Rules.{rules}
 use Rattle.context.proofs.alone_number.Goals as goal
 
 pub overflow_cast-v : goal.overflow_cast-v

@@ -2,7 +2,6 @@ use mathlib.Core.Path.{sym, ◌∙◌, subst}
 use Rattle.rules.specs.Bits.{bits}
 use Rattle.parts.specs.Says.{SegmentStands, segment_stands}
 use Rattle.context.proofs.Walking.{stepped_named, stepped_root, stepped_up}
-use borrow.Author.Rules.{rules}
 use Rattle.context.proofs.along.Goals as goal
 
 pub segment_at-segment-requires : goal.segment_at-segment-requires

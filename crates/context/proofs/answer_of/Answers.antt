@@ -1,6 +1,5 @@
 use mathlib.Core.Path.{sym, ap, ◌∙◌}
 use Rattle.context.specs.Evaluated.{found_of, some_evaluated}
-use borrow.Author.Rules.{rules}
 use Rattle.context.proofs.answer_of.Goals as goal
 
 pub returns : goal.returns

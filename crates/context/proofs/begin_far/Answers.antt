@@ -1,5 +1,5 @@
 use mathlib.Core.Bool.{true, false}
-use mathlib.Core.Path.{sym, ap, subst}
+use mathlib.Core.Path.{◌≡◌, sym, ap, subst}
 use native.Mathlib.Omega.{arith}
 use Prim.Native.Nat.{ℕ}
 use Rattle.rules.specs.Bundle.{seg}
@@ -8,15 +8,9 @@ use Rattle.parts.specs.Says.{segment_read, SegmentStands}
 use Rattle.value.specs.Numbers.{decoded}
 use Rattle.context.specs.declared.Start.{Start}
 use Rattle.context.specs.Start.{Based}
-use Rattle.context.proofs.Starting.{peek_start, peek_again, first_name, starts_end, starts_root, starts_named}
-use Prim.Native.Nat.{◌-◌}
+use Rattle.context.proofs.Starting.{peek_again, first_name, starts_end, starts_root, starts_named}
 use Rattle.rules.specs.Bits.{bits}
-use Rattle.context.proofs.Starting.{Peeks}
-use borrow.Author.Rules.{rules}
 use Rattle.context.proofs.begin_far.Goals as goal
-
-pub loop-ups-init : goal.loop-ups-init
-loop-ups-init c = peek_start (bits c.args.b.now) c.args.p c.args.n c.requires.4
 
 pub segment_at-segment-requires : goal.segment_at-segment-requires
 segment_at-segment-requires c = (c.requires.0, passed_first seg (bits c.args.b.now) _ _ _ _ c.loop-ups.invariant.passed (omega arith))
@@ -37,9 +31,6 @@ returns-in-Named c =
     let x = subst (SegmentStands (bits a.b.now) h.at) c.in-Named.is (read) in
     starts_named a.b.now a.ent.now a.scopes a.used a.p a.n h.ups h.at h.invariant c.from_name.result (omega arith) c.in-Named.q c.in-Named.next x c.from_name.ensures
 
-pub without_block_param-requires : goal.without_block_param-requires
-without_block_param-requires c = (c.requires.1, c.requires.2)
-
 pub returns-in-Root : goal.returns-in-Root
 returns-in-Root c =
     let read : SegmentStands (bits c.args.b.now) c.loop-ups.at c.segment_at-segment.result = segment_read (bits c.args.b.now) c.loop-ups.at (passed_first seg (bits c.args.b.now) _ _ _ _ c.loop-ups.invariant.passed (omega arith)) c.segment_at-segment.result c.segment_at-segment.ensures in
@@ -59,13 +50,12 @@ loop-ups-preserved c =
     let x = subst (SegmentStands (bits a.b.now) h.at) c.in-Up.is (read) in
     peek_again (bits a.b.now) a.p a.n h.ups h.at h.invariant c.in-Up.next (omega arith) x.is x.next
 
-pub without_block_param-requires-2 : goal.without_block_param-requires-2
-without_block_param-requires-2 c = (c.requires.1, c.requires.2)
-
 pub returns : goal.returns
 returns c = let a = c.args in
     let h = c.loop-ups in
     let e = c.start_at-2.ensures in
+    let all : a.n ≡ h.ups = omega arith in
     starts_end a.b.now a.ent.now a.scopes a.used a.p a.n h.ups h.at h.invariant c.start_at-2.result (omega arith)
     (ap (λ (y : Start). y.place) e) (ap (λ (y : Start). y.left) e)
-    (subst (λ (v : ℕ). Based a.scopes a.used h.ups false (decoded v)) (sym (ap (λ (y : Start). y.value) e)) c.without_block_param-2.ensures)
+    (subst (λ (v : ℕ). Based a.scopes a.used h.ups false (decoded v)) (sym (ap (λ (y : Start). y.value) e))
+    (subst (λ (k : ℕ). Based a.scopes a.used k false (decoded c.without_block_param-2.result)) all c.without_block_param-2.ensures))

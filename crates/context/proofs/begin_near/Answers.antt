@@ -13,7 +13,6 @@ use Rattle.context.specs.declared.Start.{Start}
 use Rattle.context.specs.Start.{NameStarts}
 use Rattle.context.proofs.Starting.{peek_start, starts_end, starts_root, starts_named, based_first, whole_plan}
 use Rattle.context.proofs.Nearing.{based_front, no_segments, first_needs}
-use borrow.Author.Rules.{rules}
 use Rattle.context.proofs.begin_near.Goals as goal
 
 pub returns-then-n-eq0 : goal.returns-then-n-eq0

@@ -6,13 +6,9 @@ use Rattle.layout.specs.Text.{text_at}
 use Rattle.value.specs.declared.Value.TheVariants.{Context}
 use Rattle.meaning.specs.Standing.{plain}
 use Rattle.lookup.specs.Answers.{DataGot}
-use Rattle.context.proofs.Climbing.{Climbs, place_held, climb_found, climb_root, climb_up}
-use borrow.Author.Rules.{rules}
+use Rattle.context.proofs.Climbing.{place_held, climb_found, climb_root, climb_up}
 use borrow.Enum.Refused.{opened}
 use Rattle.context.proofs.climb.Goals as goal
-
-pub loop-w-init : goal.loop-w-init
-loop-w-init c = record { within = c.requires.2; live = c.requires.3; same = refl }
 
 pub get_data-found-requires : goal.get_data-found-requires
 get_data-found-requires c = let s = c.args.s.now in
@@ -36,9 +32,6 @@ returns-then-at-eq0 c = let s = c.args.s.now in
     let ent = c.args.ent.now in
     let k = text_at (bits b) c.args.q in
     (climb_root s b ent tab c.requires.0 c.args.i k c.loop-w.at c.loop-w.invariant c.get_data-found.result (opened c.in_default.in_default-own.keys2) c.get_data-found.ensures (omega arith), λ t. plain refl tt)
-
-pub parent-at-requires : goal.parent-at-requires
-parent-at-requires c = (c.requires.0, omega arith, c.loop-w.invariant.within)
 
 pub loop-w-smaller : goal.loop-w-smaller
 loop-w-smaller c = let a = around_is c.args.s.now c.loop-w.at c.requires.0.answers (omega arith) c.loop-w.invariant.within in

@@ -3,7 +3,6 @@ use lib.ListN.{get_or}
 use Rattle.scope.specs.Scopes.{blank}
 use Rattle.scope.specs.NameBits.{covers_full}
 use Rattle.context.specs.Evaluated.{Evaluates}
-use borrow.Author.Rules.{rules}
 use Rattle.context.proofs.evaluate2.Goals as goal
 
 pub evaluate_far-requires : goal.evaluate_far-requires

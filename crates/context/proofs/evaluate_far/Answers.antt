@@ -1,3 +1,4 @@
+use Rattle.std.specs.Prelude.{None}
 use Prim.Native.Nat.{◌-◌}
 use mathlib.Core.Path.{sym, ap, ◌∙◌, subst}
 use native.Mathlib.Omega.{arith}
@@ -14,10 +15,8 @@ use Rattle.context.specs.Evaluated.{Evaluates, evaluated_of}
 use Rattle.context.proofs.Evaluating.{relative_is, local_is}
 use Rattle.context.proofs.Nearing.{param_fits, local_answers}
 use Rattle.scope.proofs.NamesLaws.{local_found, no_local}
-use Rattle.scope.specs.declared.Param.TheVariants.{Nothing}
 use Rattle.context.proofs.Numbers.{nothing_told}
 use Rattle.context.proofs.Nearing.{started_is}
-use borrow.Author.Rules.{rules}
 use Rattle.context.proofs.evaluate_far.Goals as goal
 
 pub begin_far-from-requires : goal.begin_far-from-requires
@@ -57,7 +56,7 @@ returns-then-used-k c = let z = c in
       λ g st t hp hr hb S.
           subst (λ (y : Got ScopedJson). Evaluates s b ent t y (evaluated_of 1))
           (sym (ap (rule.evaluate2 g st) x.is ∙ local_is s b ent l u g st hb (text_at (bits b) a.p) v k))
-          (subst (Evaluates s b ent t _) (sym nothing_told) (local_answers s b ent t (local_at s b ent l u v k) Nothing (no_local s b ent l u v t k (omega (arith, c.if-used-k.true))))),
+          (subst (Evaluates s b ent t _) (sym nothing_told) (local_answers s b ent t (local_at s b ent l u v k) None (no_local s b ent l u v t k (omega (arith, c.if-used-k.true))))),
     )
 
 pub local_variable-requires : goal.local_variable-requires

@@ -17,7 +17,6 @@ use Rattle.context.proofs.Nearing.{not_far, near_local, param_fits, local_answer
 use borrow.Author.Tests.{eq-eqb, ne_eqb}
 use Rattle.rules.specs.Picks.{yes, no}
 use Rattle.context.specs.Start.{needs_all}
-use borrow.Author.Rules.{rules}
 use Rattle.context.proofs.evaluate_near.Goals as goal
 
 pub begin_near-from-requires : goal.begin_near-from-requires

@@ -3,7 +3,6 @@ use Rattle.meaning.specs.Meaning.{is_missing}
 use Rattle.context.specs.Evaluated.{found_of, found_is}
 use Rattle.context.specs.Numbers.{present_is}
 use Rattle.context.proofs.Walking.{present_same}
-use borrow.Author.Rules.{rules}
 use borrow.Enum.Refused.{opened}
 use Rattle.context.proofs.found_of.Goals as goal
 

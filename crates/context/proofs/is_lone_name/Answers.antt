@@ -9,7 +9,6 @@ use Rattle.parts.specs.HoldsLaws.{row_length}
 use Rattle.parts.specs.Says.{segments_at}
 use Rattle.context.proofs.Walking.{first_holds}
 use Rattle.context.proofs.Starting.{not_lone, lone_is}
-use borrow.Author.Rules.{rules}
 use Rattle.context.proofs.is_lone_name.Goals as goal
 
 pub returns-then-n-ne1 : goal.returns-then-n-ne1

@@ -1,4 +1,3 @@
-use Prim.Native.Nat.{◌-◌}
 use mathlib.Core.Path.{sym, ap, ◌∙◌, subst}
 use Rattle.rules.specs.Bits.{bits}
 use Rattle.layout.specs.Text.{text_at}
@@ -9,7 +8,6 @@ use Rattle.context.proofs.Starting.{name_based, name_found}
 use Rattle.context.proofs.Nearing.{lacks_here, none_is, lacked, needs_none, needs_more}
 use Rattle.context.proofs.Nearing.{based_front, front_found}
 use Rattle.rules.specs.Order.{differ}
-use borrow.Author.Rules.{rules}
 use Rattle.context.proofs.name_near.Goals as goal
 
 pub returns-then-names-name_bit-eq0 : goal.returns-then-names-name_bit-eq0

@@ -5,7 +5,6 @@ use Rattle.value.specs.declared.Value.{Value}
 use Rattle.meaning.specs.Meaning.{is_missing}
 use Rattle.lookup.specs.Answers.{Led, DataGot}
 use Rattle.context.proofs.Walking.{present_led}
-use borrow.Author.Rules.{rules}
 use Rattle.context.proofs.named.Goals as goal
 
 pub returns-in-Is : goal.returns-in-Is

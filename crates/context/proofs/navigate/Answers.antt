@@ -28,7 +28,6 @@ use Rattle.context.proofs.Starting.{each_true}
 use mathlib.Core.List.{List}
 use Rattle.scope.specs.declared.Scope.{Scope}
 use Rattle.context.specs.Start.{started, Starts}
-use borrow.Author.Rules.{rules}
 use Rattle.context.proofs.navigate.Goals.{then-recursive+then-is_lone_name+else-value-eq5, then-recursive+else-is_lone_name, else-recursive}
 use Rattle.context.proofs.navigate.Goals as goal
 

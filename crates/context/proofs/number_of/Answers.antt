@@ -2,7 +2,6 @@ use native.Mathlib.Omega.{arith}
 use mathlib.Core.Path.{sym, ◌∙◌, subst}
 use Rattle.context.specs.Evaluated.{EvaluatedFits, found_is}
 use Rattle.context.proofs.Numbers.{number_told, nothing_told}
-use borrow.Author.Rules.{rules}
 use Rattle.context.proofs.number_of.Goals as goal
 
 pub encode-requires : goal.encode-requires

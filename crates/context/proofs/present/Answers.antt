@@ -1,7 +1,6 @@
 use mathlib.Core.Path.{sym, ap}
 use Rattle.context.specs.Evaluated.{present}
 use Rattle.context.proofs.Walking.{present_same}
-use borrow.Author.Rules.{rules}
 use borrow.Enum.Refused.{opened}
 use Rattle.context.proofs.present.Goals as goal
 

@@ -2,7 +2,6 @@ use mathlib.Core.Path.{sym, subst}
 use Rattle.value.specs.declared.Value.{Value}
 use Rattle.lookup.specs.Answers.{Held}
 use Rattle.context.specs.Evaluated.{Walked}
-use borrow.Author.Rules.{rules}
 use Rattle.context.proofs.slowly.Goals as goal
 
 pub walk-requires : goal.walk-requires

@@ -1,6 +1,5 @@
 use mathlib.Core.Path.{sym, ap}
 use Rattle.context.specs.Evaluated.{stopped}
-use borrow.Author.Rules.{rules}
 use Rattle.context.proofs.stopped.Goals as goal
 
 pub returns-in-On : goal.returns-in-On

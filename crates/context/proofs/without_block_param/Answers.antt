@@ -10,7 +10,6 @@ use Rattle.context.specs.Start.{Based}
 use borrow.Author.Tests.{lt-ltb, le-ltb}
 use Rattle.rules.specs.Picks.{yes, no}
 use Rattle.context.proofs.Starting.{based_first, based_scope, whole_plan}
-use borrow.Author.Rules.{rules}
 use Rattle.context.proofs.without_block_param.Goals as goal
 
 pub returns-then-ups-root : goal.returns-then-ups-root

@@ -1,3 +1,4 @@
+use Rattle.std.specs.Prelude.{Ok}
 use mathlib.Core.Path.{sym, ◌∙◌, ap, subst}
 use Rattle.rules.specs.Bits.{bits}
 use Rattle.rules.specs.BundleLaws.{bits_binary}
@@ -6,7 +7,6 @@ use Rattle.rules.specs.Expand as rules
 use Rattle.calls.specs.Calls.{call_read}
 use Rattle.calls.specs.Shorts.{short_read}
 use Rattle.value.specs.declared.Value.TheVariants.{Text}
-use Rattle.expand.specs.declared.Got.TheVariants.{Is}
 use Rattle.expand.specs.declared.Expanded.{Expanded}
 use Rattle.expand.specs.Answers.{IsTemplate, bare, with_one}
 use Rattle.expand.specs.WithoutHash.{without_hash}
@@ -60,7 +60,7 @@ returns-in-One c = let z = c in
 pub returns-else-c-eq0 : goal.returns-else-c-eq0
 returns-else-c-eq0 c = let z = c in
     let y = short_read z.args.d (bits z.args.b.now) (bits_binary z.args.b.now) z.args.p z.requires.5 _ (sym c.in-Named.is ∙ c.short_at-x.ensures) in
-    let n = Is (Text c.in-Named.q) in (record {
+    let n = Ok (Text c.in-Named.q) in (record {
       template = λ g st t h. subst (IsTemplate z.args.s.now z.args.b.now z.args.ent.now t _) (sym c.gathered.ensures)
           (head_given z.args.s.now z.args.b.now z.args.ent.now t z.args.d z.args.p z.requires.5 _ y.0 g st n c.expand_all-ps.result (string_given z.args.s.now z.args.b.now z.args.ent.now t _ y.2 g st _ y.1) (c.expand_all-ps.ensures g st t h));
       zero_value = ap (λ (w : Expanded). w.zero) c.gathered.ensures;

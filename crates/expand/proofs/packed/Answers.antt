@@ -28,23 +28,23 @@ more-packed t i x lt =
     let e : drop i t ≡ get_or t i 0 ∷ drop (i + 1) t = drop-cons t i 0 lt ∙ rw add-one in
     sym (ap (packed_onto x) e)
 
-pub loop-i-init : goal.loop-i-init
-loop-i-init c = (omega arith, omega arith, refl)
+pub loop-c-init : goal.loop-c-init
+loop-c-init c = (omega arith, refl)
 
 pub overflow_mul-x : goal.overflow_mul-x
-overflow_mul-x c = let l = c.loop-i in omega (arith, few_bits l.i l.x (omega (arith, c.requires, c.loop-i-test.true)) l.invariant.1)
+overflow_mul-x c = let l = c.loop-c in omega (arith, few_bits l.c-index l.x (omega (arith, c.requires, c.loop-c-test.true)) l.invariant.0)
 
 pub overflow_cast-x : goal.overflow_cast-x
-overflow_cast-x c = omega (arith, c.type_inv.t c.loop-i.i)
+overflow_cast-x c = omega (arith, c.type_inv.t c.loop-c.c-index)
 
 pub overflow_add-x : goal.overflow_add-x
-overflow_add-x c = let l = c.loop-i in omega (arith, few_bits l.i l.x (omega (arith, c.requires, c.loop-i-test.true)) l.invariant.1, c.type_inv.t l.i)
+overflow_add-x c = let l = c.loop-c in omega (arith, few_bits l.c-index l.x (omega (arith, c.requires, c.loop-c-test.true)) l.invariant.0, c.type_inv.t l.c-index)
 
-pub loop-i-preserved : goal.loop-i-preserved
-loop-i-preserved c = let l = c.loop-i in
-    let k = c.type_inv.t l.i in
-    (omega arith, more-bits l.i l.x _ (omega (arith, k)) l.invariant.1, more-packed c.args.t.now l.i l.x c.loop-i-test.true ∙ l.invariant.2)
+pub loop-c-preserved : goal.loop-c-preserved
+loop-c-preserved c = let l = c.loop-c in
+    let k = c.type_inv.t l.c-index in
+    (more-bits l.c-index l.x _ (omega (arith, k)) l.invariant.0, more-packed c.args.t.now l.c-index l.x c.loop-c-test.true ∙ l.invariant.1)
 
 pub returns : goal.returns
-returns c = let l = c.loop-i in
-    sym (ap (packed_onto l.x) (drop_of_length-le c.args.t.now c.loop-i-test.false)) ∙ l.invariant.2
+returns c = let l = c.loop-c in
+    sym (ap (packed_onto l.x) (drop_of_length-le c.args.t.now c.loop-c-test.false)) ∙ l.invariant.1

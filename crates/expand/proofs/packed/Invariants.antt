@@ -11,8 +11,5 @@ use Rattle.expand.specs.Answers.{packed_onto, packed}
 use borrow.Author.Rules.{rules}
 use Rattle.expand.proofs.packed.Given as goal
 
-abbrev pub invariant-loop-i : goal.invariant-loop-i
-invariant-loop-i l = (l.i ≤ length l.t) × (l.x < 2 ^ (8 * l.i)) × (packed_onto l.x (drop l.i l.t) ≡ packed l.t)
-
-abbrev pub decreases-loop-i : goal.decreases-loop-i
-decreases-loop-i l = length l.t - l.i
+abbrev pub invariant-loop-c : goal.invariant-loop-c
+invariant-loop-c l = (l.x < 2 ^ (8 * l.c-index)) × (packed_onto l.x (drop l.c-index l.t) ≡ packed l.t)

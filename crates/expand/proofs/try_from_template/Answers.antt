@@ -1,3 +1,4 @@
+use Rattle.std.specs.Prelude.{Ok}
 use mathlib.Core.Path.{sym, ◌∙◌, subst}
 use Rattle.rules.specs.Bits.{bits}
 use Rattle.rules.specs.BundleLaws.{bits_binary}
@@ -6,7 +7,6 @@ use Rattle.rules.specs.Expand as rules
 use Rattle.calls.specs.Calls.{call_read}
 use Rattle.calls.specs.Shorts.{short_read}
 use Rattle.value.specs.declared.Value.TheVariants.{Text}
-use Rattle.expand.specs.declared.Got.TheVariants.{Is}
 use Rattle.expand.specs.Answers.{IsTemplate, gathered, bare, with_one}
 use Rattle.expand.proofs.Parts.{gathered_given, string_given, bare_given, one_given, few_params, few_pairs}
 use borrow.Author.Rules.{rules}
@@ -46,5 +46,5 @@ returns-in-Named c = let z = c in
     let y = short_read z.args.d (bits z.args.b.now) (bits_binary z.args.b.now) z.args.p z.requires.5 _ (sym c.in-Named.is ∙ c.short_at-x.ensures) in
     let x = call_read z.args.d (bits z.args.b.now) z.args.p z.requires.5 _ y.0 in
     λ g st t h. subst (IsTemplate z.args.s.now z.args.b.now z.args.ent.now t _) (sym c.gathered.ensures)
-    (subst (λ (w : template.Call). IsTemplate z.args.s.now z.args.b.now z.args.ent.now t (rules.try_from_template g st w) (gathered (Is (Text c.in-Named.q)) c.in-Named.c.params c.expand_all-ps.result c.expand_hash-hs.result)) (sym x.is)
-    (gathered_given z.args.s.now z.args.b.now z.args.ent.now t _ _ _ (Is (Text c.in-Named.q)) c.in-Named.c.params c.expand_all-ps.result c.expand_hash-hs.result (string_given z.args.s.now z.args.b.now z.args.ent.now t _ y.2 g st _ y.1) (c.expand_all-ps.ensures g st t h) (c.expand_hash-hs.ensures g st t h)))
+    (subst (λ (w : template.Call). IsTemplate z.args.s.now z.args.b.now z.args.ent.now t (rules.try_from_template g st w) (gathered (Ok (Text c.in-Named.q)) c.in-Named.c.params c.expand_all-ps.result c.expand_hash-hs.result)) (sym x.is)
+    (gathered_given z.args.s.now z.args.b.now z.args.ent.now t _ _ _ (Ok (Text c.in-Named.q)) c.in-Named.c.params c.expand_all-ps.result c.expand_hash-hs.result (string_given z.args.s.now z.args.b.now z.args.ent.now t _ y.2 g st _ y.1) (c.expand_all-ps.ensures g st t h) (c.expand_hash-hs.ensures g st t h)))

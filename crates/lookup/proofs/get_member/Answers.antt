@@ -13,36 +13,18 @@ use mathlib.Core.Path.{◌∙◌, ap, subst}
 use borrow.Author.Rules.{rules}
 use Rattle.lookup.proofs.get_member.Goals as goal
 
-pub loop-u-init : goal.loop-u-init
-loop-u-init c = inward_start c.args.s.now c.args.b.now c.args.ent.now c.args.v (rest c.args.s.now c.args.b.now c.args.t) c.requires.2
-
-pub plain_member-requires : goal.plain_member-requires
-plain_member-requires c = (c.requires.0, c.requires.1, inward_plain c.args.s.now c.args.b.now c.args.ent.now c.args.v (rest c.args.s.now c.args.b.now c.args.t) c.loop-u.u c.loop-u.invariant (no_merged c.loop-u.u (opened c.in_default.in_default-own.keys2)), c.requires.3)
-
-pub returns-in_default : goal.returns-in_default
-returns-in_default c = inward_end c.args.s.now c.args.b.now c.args.ent.now c.args.v (rest c.args.s.now c.args.b.now c.args.t) c.loop-u.u c.loop-u.invariant (no_merged c.loop-u.u (opened c.in_default.in_default-own.keys2)) c.plain_member.result c.plain_member.ensures
+pub returns : goal.returns
+returns c = inward_end c.args.s.now c.args.b.now c.args.ent.now c.args.v (rest c.args.s.now c.args.b.now c.args.t) c.loop-u.u c.loop-u.invariant (no_merged c.loop-u.u (opened c.in_default.in_default-own.keys2)) c.plain_member.result c.plain_member.ensures
 
 pub last_key-requires : goal.last_key-requires
 last_key-requires c = let k = rest c.args.s.now c.args.b.now c.args.t in
     (short c.args.s.now c.requires.0.answers, c.requires.1, inward_room c.args.s.now c.args.b.now c.args.ent.now c.args.v k c.loop-u.u c.loop-u.invariant c.in-Merged.h c.in-Merged.n c.in-Merged.is, (inward_merged c.args.s.now c.args.b.now c.args.ent.now c.args.v k c.loop-u.u c.loop-u.invariant c.in-Merged.h c.in-Merged.n c.in-Merged.is).keys, c.requires.3)
 
-pub low-requires : goal.low-requires
-low-requires c = let k = rest c.args.s.now c.args.b.now c.args.t in
-    let r = inward_room c.args.s.now c.args.b.now c.args.ent.now c.args.v k c.loop-u.u c.loop-u.invariant c.in-Merged.h c.in-Merged.n c.in-Merged.is in
-    let f = subst (KeyFound c.args.s.now c.args.b.now c.args.ent.now c.in-Merged.h c.in-Merged.n (find_last (pairs c.args.b.now c.args.ent.now (json_of c.args.s.now c.args.b.now c.args.ent.now) c.in-Merged.h c.in-Merged.n) k)) c.in-At.is c.last_key.ensures in
-    omega (arith, f.high)
-
-pub returns-in-At : goal.returns-in-At
-returns-in-At c = let k = rest c.args.s.now c.args.b.now c.args.t in
-    let f = subst (KeyFound c.args.s.now c.args.b.now c.args.ent.now c.in-Merged.h c.in-Merged.n (find_last (pairs c.args.b.now c.args.ent.now (json_of c.args.s.now c.args.b.now c.args.ent.now) c.in-Merged.h c.in-Merged.n) k)) c.in-At.is c.last_key.ensures in
-    inward_found c.args.s.now c.args.b.now c.args.ent.now c.args.v k c.loop-u.u c.loop-u.invariant c.in-Merged.h c.in-Merged.n c.in-Merged.is c.in-At.e f c.pathless.result
+pub returns-in-Some : goal.returns-in-Some
+returns-in-Some c = let k = rest c.args.s.now c.args.b.now c.args.t in
+    let f = subst (KeyFound c.args.s.now c.args.b.now c.args.ent.now c.in-Merged.h c.in-Merged.n (find_last (pairs c.args.b.now c.args.ent.now (json_of c.args.s.now c.args.b.now c.args.ent.now) c.in-Merged.h c.in-Merged.n) k)) c.in-Some.is c.last_key.ensures in
+    inward_found c.args.s.now c.args.b.now c.args.ent.now c.args.v k c.loop-u.u c.loop-u.invariant c.in-Merged.h c.in-Merged.n c.in-Merged.is c.in-Some.e f c.pathless.result
     (c.pathless.ensures ∙ ap answers.pathless (c.decode.ensures ∙ ap decoded c.low.ensures))
-
-pub high-requires : goal.high-requires
-high-requires c = let k = rest c.args.s.now c.args.b.now c.args.t in
-    let r = inward_room c.args.s.now c.args.b.now c.args.ent.now c.args.v k c.loop-u.u c.loop-u.invariant c.in-Merged.h c.in-Merged.n c.in-Merged.is in
-    let m = inward_merged c.args.s.now c.args.b.now c.args.ent.now c.args.v k c.loop-u.u c.loop-u.invariant c.in-Merged.h c.in-Merged.n c.in-Merged.is in
-    omega (arith, m.keys.some)
 
 pub loop-u-smaller : goal.loop-u-smaller
 loop-u-smaller c = inward_less c.args.s.now c.args.b.now c.args.ent.now c.args.v (rest c.args.s.now c.args.b.now c.args.t) c.loop-u.u c.loop-u.invariant c.in-Merged.h c.in-Merged.n c.in-Merged.is c.decode-u.result (c.decode-u.ensures ∙ ap decoded c.high.ensures)

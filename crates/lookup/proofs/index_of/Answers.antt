@@ -9,20 +9,10 @@ use mathlib.Core.Path.{◌≡◌, ◌∙◌, ap, sym, subst}
 use borrow.Author.Rules.{rules}
 use Rattle.lookup.proofs.index_of.Goals as goal
 
-pub loop-c-init : goal.loop-c-init
-loop-c-init c = (c.requires.1, ap (λ p. coming p (rest c.args.s.now c.args.b.now c.args.t)) c.start-p.ensures)
-
-pub next-requires : goal.next-requires
-next-requires c = (c.requires.0, c.loop-c.invariant.0)
-
-pub returns-in_default : goal.returns-in_default
-returns-in_default c = let x = subst (Stepped c.args.s.now c.args.b.now c.loop-c.u) c.in_default.is c.next.ensures in
+pub returns : goal.returns
+returns c = let x = subst (Stepped c.args.s.now c.args.b.now c.loop-c.u) c.in_default.is c.next.ensures in
     c.finish.ensures ∙ ap parsed (sym (coming_none c.loop-c.p) ∙ ap (coming c.loop-c.p) (sym x) ∙ c.loop-c.invariant.1)
 
-pub loop-c-smaller : goal.loop-c-smaller
-loop-c-smaller c = let x = subst (Stepped c.args.s.now c.args.b.now c.loop-c.u) c.in-Byte.is c.next.ensures in
-    omega (arith, ap length x.0)
-
 pub loop-c-preserved : goal.loop-c-preserved
-loop-c-preserved c = let x = subst (Stepped c.args.s.now c.args.b.now c.loop-c.u) c.in-Byte.is c.next.ensures in
-    (x.1, rw c.feed-p.ensures (coming_step c.loop-c.p c.in-Byte.c _ _ _ c.loop-c.invariant.1 x.0))
+loop-c-preserved c = let x = subst (Stepped c.args.s.now c.args.b.now c.loop-c.u) c.in-Some.is c.next.ensures in
+    (x.1, rw c.feed-p.ensures (coming_step c.loop-c.p c.in-Some.c _ _ _ c.loop-c.invariant.1 x.0))

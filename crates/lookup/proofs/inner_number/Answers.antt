@@ -17,18 +17,15 @@ use Rattle.lookup.proofs.Told.{no_merged}
 use borrow.Author.Rules.{rules}
 use Rattle.lookup.proofs.inner_number.Goals as goal
 
-pub loop-h-init : goal.loop-h-init
-loop-h-init c = let z = c in let a = z.args in inward_start a.s.now a.b.now a.ent.now (decoded a.v) (text_at (bits a.b.now) a.q) z.requires.1
-
-pub returns-in_default : goal.returns-in_default
-returns-in_default c = let z = c in
+pub returns : goal.returns
+returns c = let z = c in
     let a = z.args in
     let s = a.s.now in
     let b = a.b.now in
     let ent = a.ent.now in
     let key = text_at (bits b) a.q in
     let l = c.loop-h in
-    inner_base s b ent (decoded a.v) key l.u l.invariant (ap merged_of (sym c.decode-w.ensures) ∙ no_merged c.decode-w.result (opened c.in_default.in_default-own.keys2)) c.pathless_number.result _ c.pathless_number.ensures (omega arith) refl
+    inner_base s b ent (decoded a.v) key l.u l.invariant (ap merged_of (sym c.decode.ensures) ∙ no_merged c.decode.result (opened c.in_default.in_default-own.keys2)) c.pathless_number-2.result _ c.pathless_number-2.ensures (omega arith) refl
 
 pub last_pair-k-requires : goal.last_pair-k-requires
 last_pair-k-requires c = let z = c in
@@ -38,19 +35,8 @@ last_pair-k-requires c = let z = c in
     let ent = a.ent.now in
     let key = text_at (bits b) a.q in
     let l = c.loop-h in
-    let e = sym c.decode-w.ensures ∙ c.in-Merged.is in
+    let e = sym c.decode.ensures ∙ c.in-Merged.is in
     (z.requires.0, inward_room s b ent (decoded a.v) key (decoded l.u) l.invariant c.in-Merged.h c.in-Merged.n e, (inward_merged s b ent (decoded a.v) key (decoded l.u) l.invariant c.in-Merged.h c.in-Merged.n e).keys, string_near b a.q z.requires.0 z.requires.2, z.requires.3)
-
-pub overflow_sub-k : goal.overflow_sub-k
-overflow_sub-k c = let z = c in
-    let a = z.args in
-    let s = a.s.now in
-    let b = a.b.now in
-    let ent = a.ent.now in
-    let key = text_at (bits b) a.q in
-    let l = c.loop-h in
-    let e = sym c.decode-w.ensures ∙ c.in-Merged.is in
-    omega (arith, c.if-k-ne0.true)
 
 pub overflow_add-h : goal.overflow_add-h
 overflow_add-h c = let z = c in
@@ -60,7 +46,7 @@ overflow_add-h c = let z = c in
     let ent = a.ent.now in
     let key = text_at (bits b) a.q in
     let l = c.loop-h in
-    let e = sym c.decode-w.ensures ∙ c.in-Merged.is in
+    let e = sym c.decode.ensures ∙ c.in-Merged.is in
     let f = pair_key s b ent c.in-Merged.h c.in-Merged.n _ c.last_pair-k.result c.if-k-ne0.true (c.last_pair-k.ensures s) in
     omega (arith, c.if-k-ne0.true, f.high, inward_room s b ent (decoded a.v) key (decoded l.u) l.invariant c.in-Merged.h c.in-Merged.n e)
 
@@ -72,12 +58,9 @@ low-low-requires c = let z = c in
     let ent = a.ent.now in
     let key = text_at (bits b) a.q in
     let l = c.loop-h in
-    let e = sym c.decode-w.ensures ∙ c.in-Merged.is in
+    let e = sym c.decode.ensures ∙ c.in-Merged.is in
     let f = pair_key s b ent c.in-Merged.h c.in-Merged.n _ c.last_pair-k.result c.if-k-ne0.true (c.last_pair-k.ensures s) in
     omega (arith, f.high, inward_room s b ent (decoded a.v) key (decoded l.u) l.invariant c.in-Merged.h c.in-Merged.n e)
-
-pub overflow_add-result : goal.overflow_add-result
-overflow_add-result c = omega arith
 
 pub returns-then-k-ne0 : goal.returns-then-k-ne0
 returns-then-k-ne0 c = let z = c in
@@ -87,21 +70,10 @@ returns-then-k-ne0 c = let z = c in
     let ent = a.ent.now in
     let key = text_at (bits b) a.q in
     let l = c.loop-h in
-    let e = sym c.decode-w.ensures ∙ c.in-Merged.is in
+    let e = sym c.decode.ensures ∙ c.in-Merged.is in
     let f = pair_key s b ent c.in-Merged.h c.in-Merged.n _ c.last_pair-k.result c.if-k-ne0.true (c.last_pair-k.ensures s) in
-    inner_pair s b ent (decoded a.v) key l.u l.invariant c.in-Merged.h c.in-Merged.n e _ f c.pathless_number-then-k-ne0.result _
-    (c.pathless_number-then-k-ne0.ensures ∙ ap (λ (n : ℕ). answers.pathless (decoded n)) c.low-low.ensures) (omega arith) refl
-
-pub high-u-requires : goal.high-u-requires
-high-u-requires c = let z = c in
-    let a = z.args in
-    let s = a.s.now in
-    let b = a.b.now in
-    let ent = a.ent.now in
-    let key = text_at (bits b) a.q in
-    let l = c.loop-h in
-    let e = sym c.decode-w.ensures ∙ c.in-Merged.is in
-    omega (arith, inward_room s b ent (decoded a.v) key (decoded l.u) l.invariant c.in-Merged.h c.in-Merged.n e, (inward_merged s b ent (decoded a.v) key (decoded l.u) l.invariant c.in-Merged.h c.in-Merged.n e).keys.some)
+    inner_pair s b ent (decoded a.v) key l.u l.invariant c.in-Merged.h c.in-Merged.n e _ f c.pathless_number.result _
+    (c.pathless_number.ensures ∙ ap (λ (n : ℕ). answers.pathless (decoded n)) c.low-low.ensures) (omega arith) refl
 
 pub loop-h-smaller : goal.loop-h-smaller
 loop-h-smaller c = let z = c in
@@ -111,7 +83,7 @@ loop-h-smaller c = let z = c in
     let ent = a.ent.now in
     let key = text_at (bits b) a.q in
     let l = c.loop-h in
-    let e = sym c.decode-w.ensures ∙ c.in-Merged.is in
+    let e = sym c.decode.ensures ∙ c.in-Merged.is in
     inward_less s b ent (decoded a.v) key (decoded l.u) l.invariant c.in-Merged.h c.in-Merged.n e (decoded c.high-u.result) (ap decoded c.high-u.ensures)
 
 pub loop-h-preserved : goal.loop-h-preserved
@@ -122,6 +94,6 @@ loop-h-preserved c = let z = c in
     let ent = a.ent.now in
     let key = text_at (bits b) a.q in
     let l = c.loop-h in
-    let e = sym c.decode-w.ensures ∙ c.in-Merged.is in
+    let e = sym c.decode.ensures ∙ c.in-Merged.is in
     inward_on s b ent (decoded a.v) key (decoded l.u) l.invariant c.in-Merged.h c.in-Merged.n e (decoded c.high-u.result) (ap decoded c.high-u.ensures)
     (subst (λ (k : ℕ). KeyFound s b ent c.in-Merged.h c.in-Merged.n (find_last (pairs b ent (json_of s b ent) c.in-Merged.h c.in-Merged.n) key) (pair_at c.in-Merged.h k)) c.if-k-ne0.false (c.last_pair-k.ensures s))

@@ -10,7 +10,4 @@ use borrow.Author.Rules.{rules}
 use Rattle.lookup.proofs.last_key.Given as goal
 
 abbrev pub invariant-loop-k : goal.invariant-loop-k
-invariant-loop-k l = (l.k ≤ l.n) × (find_last (pairs l.b l.ent (json_of l.s l.b l.ent) l.h l.n) (rest l.s l.b l.t) ≡ find_last (pairs l.b l.ent (json_of l.s l.b l.ent) l.h l.k) (rest l.s l.b l.t))
-
-abbrev pub decreases-loop-k : goal.decreases-loop-k
-decreases-loop-k l = l.k
+invariant-loop-k l = (find_last (pairs l.b l.ent (json_of l.s l.b l.ent) l.h l.n) (rest l.s l.b l.t) ≡ find_last (pairs l.b l.ent (json_of l.s l.b l.ent) l.h l.k) (rest l.s l.b l.t))

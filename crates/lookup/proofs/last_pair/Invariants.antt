@@ -13,8 +13,5 @@ use Rattle.lookup.proofs.Ordered.{string_near}
 use borrow.Author.Rules.{rules}
 use Rattle.lookup.proofs.last_pair.Given as goal
 
-abbrev pub invariant-loop-left : goal.invariant-loop-left
-invariant-loop-left l = (l.left ≤ l.n) × ((s : Bytes) → find_last (pairs l.b l.ent (json_of s l.b l.ent) l.h l.n) (text_at (bits l.b) l.q) ≡ find_last (pairs l.b l.ent (json_of s l.b l.ent) l.h l.left) (text_at (bits l.b) l.q))
-
-abbrev pub decreases-loop-left : goal.decreases-loop-left
-decreases-loop-left l = l.left
+abbrev pub invariant-loop-i : goal.invariant-loop-i
+invariant-loop-i l = (s : Bytes) → find_last (pairs l.b l.ent (json_of s l.b l.ent) l.h l.n) (text_at (bits l.b) l.q) ≡ find_last (pairs l.b l.ent (json_of s l.b l.ent) l.h l.i) (text_at (bits l.b) l.q)

@@ -16,5 +16,5 @@ returns-in_default c = let e = parsed_none (parse_usize (rest c.args.s.now c.arg
     ap (spec.list_reached (children c.args.s.now c.args.i)) (sym e)
 
 pub returns : goal.returns
-returns c = let e = parsed_some (parse_usize (rest c.args.s.now c.args.b.now c.args.t)) c.in-Is.n (sym c.in-Is.is ∙ c.index_of.ensures) in
+returns c = let e = parsed_some (parse_usize (rest c.args.s.now c.args.b.now c.args.t)) c.in-Some.n (sym c.in-Some.is ∙ c.index_of.ensures) in
     c.from_place.ensures ∙ ap spec.reached_at c.nth.ensures ∙ ap (spec.list_reached (children c.args.s.now c.args.i)) (sym e)

@@ -1,3 +1,4 @@
+use Rattle.std.specs.Prelude.{Some}
 use Prim.Native.Nat.{◌+◌, ◌-◌}
 use native.Mathlib.Omega.{arith}
 use mathlib.Core.Path.{◌≡◌, ap, sym, ◌∙◌, subst}
@@ -6,7 +7,6 @@ use Rattle.value.specs.declared.Value.{Value}
 use Rattle.meaning.specs.Meaning.{json_of}
 use Rattle.lookup.specs.Answers.{Held, Finds}
 use Rattle.lookup.specs.Numbers.{numbered_found}
-use Rattle.lookup.specs.declared.Found.TheVariants.{Is}
 use Rattle.lookup.proofs.Keyed.{literal_held, looked_literal}
 use Rattle.lookup.proofs.Numbers.{number_found}
 use borrow.Author.Rules.{rules}
@@ -43,4 +43,4 @@ pub returns : goal.returns
 returns c = let a = c.args in
     let r = c.keyed_number-r.result in
     let e : r ≡ 2 + (r - 2) = omega (arith, c.if-r-eq-NOT_TOLD.false, c.if-r-eq-NOTHING.false) in
-    looked_literal a.s.now a.b.now a.ent.now a.v a.i c.in-Literal.l c.in-Literal.is r c.keyed_number-r.ensures c.if-r-eq-NOT_TOLD.false _ (ap Is c.decode.ensures ∙ number_found r (r - 2) e)
+    looked_literal a.s.now a.b.now a.ent.now a.v a.i c.in-Literal.l c.in-Literal.is r c.keyed_number-r.ensures c.if-r-eq-NOT_TOLD.false _ (ap Some c.decode.ensures ∙ number_found r (r - 2) e)

@@ -4,12 +4,12 @@ use borrow.Author.Rules.{rules}
 use mathlib.Core.Path.{ap, subst, sym}
 use Rattle.meaning.proofs.has_bytes.Goals as goal
 
-pub returns-in-Byte : goal.returns-in-Byte
-returns-in-Byte c = let s = c in
-    let e = subst (Stepped s.args.s.now s.args.b.now s.args.t) c.in-Byte.is c.next.ensures in
+pub returns-in-Some : goal.returns-in-Some
+returns-in-Some c = let s = c in
+    let e = subst (Stepped s.args.s.now s.args.b.now s.args.t) c.in-Some.is c.next.ensures in
     sym (ap has_bytes e.0)
 
-pub returns-in-End : goal.returns-in-End
-returns-in-End c = let s = c in
-    let e = subst (Stepped s.args.s.now s.args.b.now s.args.t) c.in-End.is c.next.ensures in
+pub returns-in-None : goal.returns-in-None
+returns-in-None c = let s = c in
+    let e = subst (Stepped s.args.s.now s.args.b.now s.args.t) c.in-None.is c.next.ensures in
     sym (ap has_bytes e)

@@ -8,15 +8,15 @@ pub returns-in_default : goal.returns-in_default
 returns-in_default c = sym (ap (λ m. combined c.args.s.now c.args.b.now m c.args.inner) c.in_default.is)
 
 pub returns-in_default-inner : goal.returns-in_default-inner
-returns-in_default-inner c = combined_only c.args.s.now c.args.b.now c.args.outer c.args.inner _ _ c.in-Is.is c.in_default-inner.is
+returns-in_default-inner c = c.in-Some.is ∙ combined_only c.args.s.now c.args.b.now c.args.outer c.args.inner _ _ c.in-Some.is c.in_default-inner.is
 
 pub is_before-requires : goal.is_before-requires
 is_before-requires c = let a = c.args in
     let p = c.requires in
-    (p.0, p.1, subst (Keyed a.s.now a.b.now) c.in-Is-inner.is p.3, subst (Keyed a.s.now a.b.now) c.in-Is.is p.2)
+    (p.0, p.1, subst (Keyed a.s.now a.b.now) c.in-Some-inner.is p.3, subst (Keyed a.s.now a.b.now) c.in-Some.is p.2)
 
 pub returns-then-is_before : goal.returns-then-is_before
-returns-then-is_before c = combined_inner c.args.s.now c.args.b.now c.args.outer c.args.inner _ _ _ _ c.in-Is.is c.in-Is-inner.is (sym c.is_before.ensures ∙ c.if-is_before.true)
+returns-then-is_before c = c.in-Some-inner.is ∙ combined_inner c.args.s.now c.args.b.now c.args.outer c.args.inner _ _ _ _ c.in-Some.is c.in-Some-inner.is (sym c.is_before.ensures ∙ c.if-is_before.true)
 
 pub returns : goal.returns
-returns c = combined_outer c.args.s.now c.args.b.now c.args.outer c.args.inner _ _ _ _ c.in-Is.is c.in-Is-inner.is (sym c.is_before.ensures ∙ c.if-is_before.false)
+returns c = c.in-Some.is ∙ combined_outer c.args.s.now c.args.b.now c.args.outer c.args.inner _ _ _ _ c.in-Some.is c.in-Some-inner.is (sym c.is_before.ensures ∙ c.if-is_before.false)

@@ -9,7 +9,7 @@ pub returns-in_default : goal.returns-in_default
 returns-in_default c = sym (ap (λ m. order.is_above (after_name c.args.s.now c.args.b.now m) (key_name c.args.s.now c.args.b.now c.args.k)) c.in_default.is)
 
 pub is_before-requires : goal.is_before-requires
-is_before-requires c = (c.requires.0, c.requires.1, subst (Keyed c.args.s.now c.args.b.now) c.in-Is.is c.requires.2, c.requires.3)
+is_before-requires c = (c.requires.0, c.requires.1, subst (Keyed c.args.s.now c.args.b.now) c.in-Some.is c.requires.2, c.requires.3)
 
 pub returns : goal.returns
-returns c = above_name c.args.s.now c.args.b.now c.args.after _ _ c.args.k c.is_before.result c.in-Is.is c.is_before.ensures
+returns c = above_name c.args.s.now c.args.b.now c.args.after _ _ c.args.k c.is_before.result c.in-Some.is c.is_before.ensures

@@ -1,10 +1,9 @@
 use Rattle.members.proofs.Nearing.{spelled_stands}
 use Rattle.members.specs.Next.{key_name}
 use Rattle.places.specs.Nodes.{short}
-use Rattle.places.proofs.Ordered.{less_before, equal_before, greater_before}
-use Rattle.saying.specs.Compared.{ordering}
+use Rattle.places.proofs.Ordered.{less_before}
 use Rattle.rules.specs.Order.{cmp}
-use mathlib.Core.Path.{◌∙◌, ap, ap₂, sym}
+use mathlib.Core.Path.{◌∙◌, ap₂}
 use borrow.Author.Rules.{rules}
 use Rattle.members.proofs.is_before.Goals as goal
 
@@ -19,17 +18,8 @@ compare-requires c = let a = c.args in
     let p = c.requires in
     (short a.s.now p.0.answers, spelled_stands a.s.now a.b.now p.1 c.string_text-t.result (c.string_text-t.ensures _ p.2.says).spelled, spelled_stands a.s.now a.b.now p.1 c.string_text-u.result (c.string_text-u.ensures _ p.3.says).spelled)
 
-pub returns-in-Less : goal.returns-in-Less
-returns-in-Less c = let a = c.args in
+pub returns : goal.returns
+returns c = let a = c.args in
     let p = c.requires in
-    less_before (key_name a.s.now a.b.now a.k) (key_name a.s.now a.b.now a.l) (ap ordering (sym c.in-Less.is) ∙ c.compare.ensures ∙ ap₂ cmp (c.string_text-t.ensures _ p.2.says).is (c.string_text-u.ensures _ p.3.says).is)
-
-pub returns-in-Equal : goal.returns-in-Equal
-returns-in-Equal c = let a = c.args in
-    let p = c.requires in
-    equal_before (key_name a.s.now a.b.now a.k) (key_name a.s.now a.b.now a.l) (ap ordering (sym c.in-Equal.is) ∙ c.compare.ensures ∙ ap₂ cmp (c.string_text-t.ensures _ p.2.says).is (c.string_text-u.ensures _ p.3.says).is)
-
-pub returns-in-Greater : goal.returns-in-Greater
-returns-in-Greater c = let a = c.args in
-    let p = c.requires in
-    greater_before (key_name a.s.now a.b.now a.k) (key_name a.s.now a.b.now a.l) (ap ordering (sym c.in-Greater.is) ∙ c.compare.ensures ∙ ap₂ cmp (c.string_text-t.ensures _ p.2.says).is (c.string_text-u.ensures _ p.3.says).is)
+    c.is_lt.ensures ∙ less_before (key_name a.s.now a.b.now a.k) (key_name a.s.now a.b.now a.l) c.compare.result
+    (c.compare.ensures ∙ ap₂ cmp (c.string_text-t.ensures _ p.2.says).is (c.string_text-u.ensures _ p.3.says).is)

@@ -8,7 +8,7 @@ use mathlib.Core.Path.{◌≡◌, ◌∙◌, ap, refl}
 use Rattle.members.proofs.lacking.Goals as goal
 
 pub loop-k-init : goal.loop-k-init
-loop-k-init c = (omega arith, omega arith, refl)
+loop-k-init c = (omega arith, refl)
 
 pub overflow_add-h : goal.overflow_add-h
 overflow_add-h c = omega (arith, c.requires.3, c.loop-k.invariant.0)
@@ -17,18 +17,12 @@ pub is_new-r-requires : goal.is_new-r-requires
 is_new-r-requires c = (c.requires.0, c.requires.1, c.requires.2, omega (arith, c.requires.3, c.loop-k-test.true), c.requires.4.keys c.loop-k.k c.loop-k-test.true)
 
 pub overflow_add-r : goal.overflow_add-r
-overflow_add-r c = omega (arith, c.requires.3, c.loop-k.invariant.1, c.is_new-r.ensures.1, c.loop-k-test.true)
-
-pub overflow_add-k : goal.overflow_add-k
-overflow_add-k c = omega (arith, c.requires.3, c.loop-k-test.true)
-
-pub loop-k-smaller : goal.loop-k-smaller
-loop-k-smaller c = omega (arith, c.loop-k-test.true)
+overflow_add-r c = omega (arith, c.requires.3, c.loop-k.invariant.0, c.is_new-r.ensures.1, c.loop-k-test.true)
 
 pub loop-k-preserved : goal.loop-k-preserved
 loop-k-preserved c = let x = lacking_step c.args.b.now c.args.ent.now (json_of c.args.s.now c.args.b.now c.args.ent.now) c.args.h c.loop-k.k (base_map (json_of c.args.s.now c.args.b.now c.args.ent.now c.args.base)) in
-    (omega (arith, c.loop-k-test.true), omega (arith, c.loop-k.invariant.1, c.is_new-r.ensures.1), omega (arith, c.loop-k.invariant.2, c.is_new-r.ensures.0))
+    (omega (arith, c.loop-k.invariant.0, c.is_new-r.ensures.1), omega (arith, c.loop-k.invariant.1, c.is_new-r.ensures.0))
 
 pub returns : goal.returns
-returns c = let e : c.loop-k.k ≡ c.args.n = omega (arith, c.loop-k.invariant.0, c.loop-k-test.false) in
-    (c.loop-k.invariant.2 ∙ ap (λ (k : ℕ). spec.lacking (pairs c.args.b.now c.args.ent.now (json_of c.args.s.now c.args.b.now c.args.ent.now) c.args.h k) (base_map (json_of c.args.s.now c.args.b.now c.args.ent.now c.args.base))) e, omega (arith, c.loop-k.invariant.1))
+returns c = let e : c.loop-k.k ≡ c.args.n = omega (arith, c.loop-k-test.false) in
+    (c.loop-k.invariant.1 ∙ ap (λ (k : ℕ). spec.lacking (pairs c.args.b.now c.args.ent.now (json_of c.args.s.now c.args.b.now c.args.ent.now) c.args.h k) (base_map (json_of c.args.s.now c.args.b.now c.args.ent.now c.args.base))) e, omega (arith, c.loop-k.invariant.0))

@@ -8,7 +8,4 @@ use mathlib.Core.Path.{◌≡◌, ◌∙◌, ap, refl}
 use Rattle.members.proofs.lacking.Given as goal
 
 abbrev pub invariant-loop-k : goal.invariant-loop-k
-invariant-loop-k l = (l.k ≤ l.n) × (l.r ≤ l.k) × (l.r ≡ spec.lacking (pairs l.b l.ent (json_of l.s l.b l.ent) l.h l.k) (base_map (json_of l.s l.b l.ent l.base)))
-
-abbrev pub decreases-loop-k : goal.decreases-loop-k
-decreases-loop-k l = l.n - l.k
+invariant-loop-k l = (l.r ≤ l.k) × (l.r ≡ spec.lacking (pairs l.b l.ent (json_of l.s l.b l.ent) l.h l.k) (base_map (json_of l.s l.b l.ent l.base)))

@@ -15,7 +15,4 @@ use borrow.Author.Rules.{rules}
 use Rattle.members.proofs.least_pair.Given as goal
 
 abbrev pub invariant-loop-k : goal.invariant-loop-k
-invariant-loop-k l = (l.k ≤ l.n) × Pairing l.s l.b l.ent l.h l.n (after_name l.s l.b l.after) l.k l.best
-
-abbrev pub decreases-loop-k : goal.decreases-loop-k
-decreases-loop-k l = l.n - l.k
+invariant-loop-k l = Pairing l.s l.b l.ent l.h l.n (after_name l.s l.b l.after) l.k l.best

@@ -18,8 +18,8 @@ plain_count-requires c = (c.requires.0, c.requires.1, counted_plain c.args.s.now
 pub overflow_add-result : goal.overflow_add-result
 overflow_add-result c = let w = c.loop-u.invariant c.requires.0 in omega (arith, w.few, c.plain_count.ensures.1)
 
-pub returns-in_default : goal.returns-in_default
-returns-in_default c = counted_end c.args.s.now c.args.b.now c.args.tab.now c.requires.0 c.args.ent.now c.args.v c.loop-u.n c.loop-u.u (c.loop-u.invariant c.requires.0) (no_merged c.loop-u.u (opened c.in_default.in_default-own.keys2)) c.plain_count.result c.plain_count.ensures.0 c.plain_count.ensures.1
+pub returns : goal.returns
+returns c = counted_end c.args.s.now c.args.b.now c.args.tab.now c.requires.0 c.args.ent.now c.args.v c.loop-u.n c.loop-u.u (c.loop-u.invariant c.requires.0) (no_merged c.loop-u.u (opened c.in_default.in_default-own.keys2)) c.plain_count.result c.plain_count.ensures.0 c.plain_count.ensures.1
 
 pub high-requires : goal.high-requires
 high-requires c = let r = counted_room c.args.s.now c.args.b.now c.args.tab.now c.requires.0 c.args.ent.now c.args.v c.loop-u.n c.loop-u.u (c.loop-u.invariant c.requires.0) c.in-Merged.h c.in-Merged.m c.in-Merged.is in

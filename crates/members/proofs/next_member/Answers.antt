@@ -27,8 +27,8 @@ combine-requires c = let a = c.args in
     let l = c.loop-u in
     (p.0, p.1, has_keyed a.s.now a.b.now (ItemHeld a.s.now a.b.now a.ent.now a.v) l.best l.invariant.holds, has_keyed a.s.now a.b.now (PlainItem a.s.now a.b.now) c.plain_next.result c.plain_next.ensures.holds)
 
-pub returns-in_default : goal.returns-in_default
-returns-in_default c = let a = c.args in
+pub returns : goal.returns
+returns c = let a = c.args in
     let l = c.loop-u in
     let o = after_name a.s.now a.b.now a.after in
     inwards_end a.s.now a.b.now a.ent.now a.v o l.best l.u l.invariant (no_merged l.u (opened c.in_default.in_default-own.keys2)) c.plain_next.result c.plain_next.ensures c.combine.result c.combine.ensures

@@ -34,7 +34,7 @@ write_list-returns-in_default t c = let z = c in
 
 pub write_list-loop-d-init : goal.write_list-loop-d-init
 write_list-loop-d-init t c = let a = c.args in
-    (refl, λ h lt e. left_start a.s.now h a.i lt e Output (printed a.indent.now a.escape) (printed_append a.indent.now a.escape) c.in-At.f _ (ap found (sym c.in-At.is) ∙ c.first.ensures))
+    (refl, λ h lt e. left_start a.s.now h a.i lt e Output (printed a.indent.now a.escape) (printed_append a.indent.now a.escape) c.in-Some.f _ (ap found (sym c.in-Some.is) ∙ c.first.ensures))
 
 pub write_list-write_value-q-requires : goal.write_list-write_value-q-requires
 write_list-write_value-q-requires t c = let z = c in
@@ -83,8 +83,8 @@ write_list-loop-d-smaller t c = let z = c in
     let e = z.requires.3 in
     let y = c.loop-d in
     let l = y.invariant.1 h lt e in
-    let n = ap found (sym c.in-At-next.is) ∙ c.next.ensures.0 l.number l.at in
-    omega (arith, left_within a.s.now h a.i lt e Output (printed a.indent.now a.escape) (printed_append a.indent.now a.escape) _ _ _ l, next_behind a.s.now h a.i lt l.number y.c c.in-At-next.d l.at (sym n))
+    let n = ap found (sym c.in-Some-next.is) ∙ c.next.ensures.0 l.number l.at in
+    omega (arith, left_within a.s.now h a.i lt e Output (printed a.indent.now a.escape) (printed_append a.indent.now a.escape) _ _ _ l, next_behind a.s.now h a.i lt l.number y.c c.in-Some-next.d l.at (sym n))
 
 pub write_list-loop-d-preserved : goal.write_list-loop-d-preserved
 write_list-loop-d-preserved t c = let a = c.args in
@@ -99,7 +99,7 @@ write_list-loop-d-preserved t c = let a = c.args in
           let l = y.invariant.1 h lt e in
           left_on a.s.now h a.i lt e Output (printed a.indent.now a.escape) (printed_append a.indent.now a.escape) y.c o o₀ (output v.result v.new.out) (output g.result g.new.out) l
           (means_place a.s.now a.b.now _ y.c (left_within a.s.now h a.i lt e Output (printed a.indent.now a.escape) (printed_append a.indent.now a.escape) y.c o o₀ l) v.ensures)
-          c.in-At-next.d (ap found (sym c.in-At-next.is) ∙ c.next.ensures.0 l.number l.at) g.ensures,
+          c.in-Some-next.d (ap found (sym c.in-Some-next.is) ∙ c.next.ensures.0 l.number l.at) g.ensures,
     )
 
 pub write_value-write_text-requires : goal.write_value-write_text-requires

@@ -24,42 +24,42 @@ use Rattle.print.proofs.+stripping.Goals as goal
 pub strip_list-strip_bytes-requires : goal.strip_list-strip_bytes-requires
 strip_list-strip_bytes-requires t c = (short c.args.s.now c.requires.0.answers, c.requires.2)
 
+pub strip_list-returns-in_err-t : goal.strip_list-returns-in_err-t
+strip_list-returns-in_err-t t c = let z = c in
+    let a = z.args in
+    let h = z.requires.0.answers in
+    let lt = z.requires.3 in
+    let e = z.requires.4 in
+    let p = c.in_err-t.ensures in
+    rw c.from_residual.ensures (record { is = list_broken a.s.now h a.i lt e (Option Bytes) target.taken target.taken_append (some (target.rest a.s.now a.b.now a.w.now a.g)) none p.is (λ _. refl); stands = tt })
+
+pub strip_list-first-requires : goal.strip_list-first-requires
+strip_list-first-requires t c = (c.requires.0, c.requires.3)
+
+pub strip_list-strip_bytes-requires-in_default : goal.strip_list-strip_bytes-requires-in_default
+strip_list-strip_bytes-requires-in_default t c = let z = c in
+    let a = z.args in
+    let p = c.in_ok-t.ensures in
+    (short a.s.now z.requires.0.answers, p.stands)
+
 pub strip_list-returns-in_default : goal.strip_list-returns-in_default
 strip_list-returns-in_default t c = let z = c in
     let a = z.args in
     let h = z.requires.0.answers in
     let lt = z.requires.3 in
     let e = z.requires.4 in
-    let p = subst (target.Stripped a.s.now a.b.now a.w.now _) c.in_default.is c.strip_bytes.ensures in
-    record { is = list_broken a.s.now h a.i lt e (Option Bytes) target.taken target.taken_append (some (target.rest a.s.now a.b.now a.w.now a.g)) none p.is (λ _. refl); stands = tt }
-
-pub strip_list-first-requires : goal.strip_list-first-requires
-strip_list-first-requires t c = (c.requires.0, c.requires.3)
-
-pub strip_list-strip_bytes-requires-in_default-first : goal.strip_list-strip_bytes-requires-in_default-first
-strip_list-strip_bytes-requires-in_default-first t c = let z = c in
-    let a = z.args in
-    let p = subst (target.Stripped a.s.now a.b.now a.w.now _) c.in-Is.is c.strip_bytes.ensures in
-    (short a.s.now z.requires.0.answers, p.stands)
-
-pub strip_list-returns-in_default-first : goal.strip_list-returns-in_default-first
-strip_list-returns-in_default-first t c = let z = c in
-    let a = z.args in
-    let h = z.requires.0.answers in
-    let lt = z.requires.3 in
-    let e = z.requires.4 in
-    let p = subst (target.Stripped a.s.now a.b.now a.w.now _) c.in-Is.is c.strip_bytes.ensures in
-    let r = c.strip_bytes-in_default-first in
+    let p = c.in_ok-t.ensures in
+    let r = c.strip_bytes-in_default in
     record {
-      is = list_none a.s.now h a.i lt e (Option Bytes) target.taken target.taken_append (some (target.rest a.s.now a.b.now a.w.now a.g)) (some (target.rest a.s.now a.b.now a.w.now c.in-Is.t)) (target.left a.s.now a.b.now a.w.now r.result)
-          (ap found (sym c.in_default-first.is) ∙ c.first.ensures) p.is r.ensures.is;
+      is = list_none a.s.now h a.i lt e (Option Bytes) target.taken target.taken_append (some (target.rest a.s.now a.b.now a.w.now a.g)) (some (target.rest a.s.now a.b.now a.w.now c.in_ok-t.t)) (target.left a.s.now a.b.now a.w.now r.result)
+          (ap found (sym c.in_default.is) ∙ c.first.ensures) p.is r.ensures.is;
       stands = r.ensures.stands;
     }
 
 pub strip_list-loop-x-init : goal.strip_list-loop-x-init
 strip_list-loop-x-init t c = let a = c.args in
-    let p = subst (target.Stripped a.s.now a.b.now a.w.now _) c.in-Is.is c.strip_bytes.ensures in
-    (p.stands, λ h lt e. left_start a.s.now h a.i lt e (Option Bytes) target.taken target.taken_append c.in-At.f _ (ap found (sym c.in-At.is) ∙ c.first.ensures))
+    let p = c.in_ok-t.ensures in
+    (p.stands, λ h lt e. left_start a.s.now h a.i lt e (Option Bytes) target.taken target.taken_append c.in-Some.f _ (ap found (sym c.in-Some.is) ∙ c.first.ensures))
 
 pub strip_list-strip_value-requires : goal.strip_list-strip_value-requires
 strip_list-strip_value-requires t c = let z = c in
@@ -70,19 +70,19 @@ strip_list-strip_value-requires t c = let z = c in
     let l = c.loop-x.invariant.1 h lt e in
     (omega (arith, left_weight a.s.now h a.i lt e (Option Bytes) target.taken target.taken_append _ _ _ l, z.decreases), (z.requires.0, z.requires.1, c.loop-x.invariant.0, λ _. left_within a.s.now h a.i lt e (Option Bytes) target.taken target.taken_append _ _ _ l))
 
-pub strip_list-returns-in_default-strip_value : goal.strip_list-returns-in_default-strip_value
-strip_list-returns-in_default-strip_value t c = let z = c in
+pub strip_list-returns-in_err-x : goal.strip_list-returns-in_err-x
+strip_list-returns-in_err-x t c = let z = c in
     let a = z.args in
     let h = z.requires.0.answers in
     let lt = z.requires.3 in
     let e = z.requires.4 in
-    let p = subst (target.Stripped a.s.now a.b.now a.w.now _) c.in-Is.is c.strip_bytes.ensures in
+    let p = c.in_ok-t.ensures in
     let y = c.loop-x in
     let o = some (target.rest a.s.now a.b.now a.w.now y.u) in
-    let o₀ = some (target.rest a.s.now a.b.now a.w.now c.in-Is.t) in
+    let o₀ = some (target.rest a.s.now a.b.now a.w.now c.in_ok-t.t) in
     let l = y.invariant.1 h lt e in
-    let q = ap (target.left a.s.now a.b.now a.w.now) (sym c.in_default-strip_value.is) ∙ means_place a.s.now a.b.now _ y.c (left_within a.s.now h a.i lt e (Option Bytes) target.taken target.taken_append y.c o o₀ l) c.strip_value.ensures.means in
-    record { is = list_is a.s.now h a.i lt e (Option Bytes) target.taken target.taken_append (some (target.rest a.s.now a.b.now a.w.now a.g)) o₀ none p.is (left_broken a.s.now h a.i lt e (Option Bytes) target.taken target.taken_append y.c o o₀ none l q (λ _. refl)); stands = tt }
+    let q = ap (target.left a.s.now a.b.now a.w.now) (sym c.in_err-x.was) ∙ means_place a.s.now a.b.now _ y.c (left_within a.s.now h a.i lt e (Option Bytes) target.taken target.taken_append y.c o o₀ l) c.strip_value.ensures.means in
+    rw c.from_residual-in_err-x.ensures (record { is = list_is a.s.now h a.i lt e (Option Bytes) target.taken target.taken_append (some (target.rest a.s.now a.b.now a.w.now a.g)) o₀ none p.is (left_broken a.s.now h a.i lt e (Option Bytes) target.taken target.taken_append y.c o o₀ none l q (λ _. refl)); stands = tt })
 
 pub strip_list-next-requires : goal.strip_list-next-requires
 strip_list-next-requires t c = let z = c in
@@ -96,7 +96,7 @@ strip_list-next-requires t c = let z = c in
 pub strip_list-strip_bytes-requires-in_default-next : goal.strip_list-strip_bytes-requires-in_default-next
 strip_list-strip_bytes-requires-in_default-next t c = let z = c in
     let a = z.args in
-    (short a.s.now z.requires.0.answers, subst (target.LeftStands a.s.now a.b.now a.w.now) c.in-Is-strip_value.is c.strip_value.ensures.stands)
+    (short a.s.now z.requires.0.answers, subst (target.LeftStands a.s.now a.b.now a.w.now) c.in_ok-x.was c.strip_value.ensures.stands)
 
 pub strip_list-returns-in_default-next : goal.strip_list-returns-in_default-next
 strip_list-returns-in_default-next t c = let z = c in
@@ -104,45 +104,45 @@ strip_list-returns-in_default-next t c = let z = c in
     let h = z.requires.0.answers in
     let lt = z.requires.3 in
     let e = z.requires.4 in
-    let p = subst (target.Stripped a.s.now a.b.now a.w.now _) c.in-Is.is c.strip_bytes.ensures in
+    let p = c.in_ok-t.ensures in
     let y = c.loop-x in
     let o = some (target.rest a.s.now a.b.now a.w.now y.u) in
-    let o₀ = some (target.rest a.s.now a.b.now a.w.now c.in-Is.t) in
+    let o₀ = some (target.rest a.s.now a.b.now a.w.now c.in_ok-t.t) in
     let l = y.invariant.1 h lt e in
-    let q = ap (target.left a.s.now a.b.now a.w.now) (sym c.in-Is-strip_value.is) ∙ means_place a.s.now a.b.now _ y.c (left_within a.s.now h a.i lt e (Option Bytes) target.taken target.taken_append y.c o o₀ l) c.strip_value.ensures.means in
+    let q = ap (target.left a.s.now a.b.now a.w.now) (sym c.in_ok-x.was) ∙ means_place a.s.now a.b.now _ y.c (left_within a.s.now h a.i lt e (Option Bytes) target.taken target.taken_append y.c o o₀ l) c.strip_value.ensures.means in
     let r = c.strip_bytes-in_default-next in
     let n = ap found (sym c.in_default-next.is) ∙ c.next.ensures.0 l.number l.at in
     record {
       is = list_is a.s.now h a.i lt e (Option Bytes) target.taken target.taken_append (some (target.rest a.s.now a.b.now a.w.now a.g)) o₀ (target.left a.s.now a.b.now a.w.now r.result) p.is
-          (left_end a.s.now h a.i lt e (Option Bytes) target.taken target.taken_append y.c o o₀ (some (target.rest a.s.now a.b.now a.w.now c.in-Is-strip_value.x)) (target.left a.s.now a.b.now a.w.now r.result) l q n r.ensures.is);
+          (left_end a.s.now h a.i lt e (Option Bytes) target.taken target.taken_append y.c o o₀ (some (target.rest a.s.now a.b.now a.w.now c.in_ok-x.x)) (target.left a.s.now a.b.now a.w.now r.result) l q n r.ensures.is);
       stands = r.ensures.stands;
     }
 
 pub strip_list-strip_bytes-requires-in-loop-x : goal.strip_list-strip_bytes-requires-in-loop-x
 strip_list-strip_bytes-requires-in-loop-x t c = let z = c in
     let a = z.args in
-    (short a.s.now z.requires.0.answers, subst (target.LeftStands a.s.now a.b.now a.w.now) c.in-Is-strip_value.is c.strip_value.ensures.stands)
+    (short a.s.now z.requires.0.answers, subst (target.LeftStands a.s.now a.b.now a.w.now) c.in_ok-x.was c.strip_value.ensures.stands)
 
-pub strip_list-returns-in_default-strip_bytes : goal.strip_list-returns-in_default-strip_bytes
-strip_list-returns-in_default-strip_bytes t c = let z = c in
+pub strip_list-returns-in_err-y : goal.strip_list-returns-in_err-y
+strip_list-returns-in_err-y t c = let z = c in
     let a = z.args in
     let h = z.requires.0.answers in
     let lt = z.requires.3 in
     let e = z.requires.4 in
-    let p = subst (target.Stripped a.s.now a.b.now a.w.now _) c.in-Is.is c.strip_bytes.ensures in
+    let p = c.in_ok-t.ensures in
     let y = c.loop-x in
     let o = some (target.rest a.s.now a.b.now a.w.now y.u) in
-    let o₀ = some (target.rest a.s.now a.b.now a.w.now c.in-Is.t) in
+    let o₀ = some (target.rest a.s.now a.b.now a.w.now c.in_ok-t.t) in
     let l = y.invariant.1 h lt e in
-    let q = ap (target.left a.s.now a.b.now a.w.now) (sym c.in-Is-strip_value.is) ∙ means_place a.s.now a.b.now _ y.c (left_within a.s.now h a.i lt e (Option Bytes) target.taken target.taken_append y.c o o₀ l) c.strip_value.ensures.means in
-    let r = subst (target.Stripped a.s.now a.b.now a.w.now _) c.in_default-strip_bytes.is c.strip_bytes-in-loop-x.ensures in
-    let n = ap found (sym c.in-At-next.is) ∙ c.next.ensures.0 l.number l.at in
-    let d = c.in-At-next.d in
-    record {
+    let q = ap (target.left a.s.now a.b.now a.w.now) (sym c.in_ok-x.was) ∙ means_place a.s.now a.b.now _ y.c (left_within a.s.now h a.i lt e (Option Bytes) target.taken target.taken_append y.c o o₀ l) c.strip_value.ensures.means in
+    let r = c.in_err-y.ensures in
+    let n = ap found (sym c.in-Some-next.is) ∙ c.next.ensures.0 l.number l.at in
+    let d = c.in-Some-next.d in
+    rw c.from_residual-in_err-y.ensures (record {
       is = list_is a.s.now h a.i lt e (Option Bytes) target.taken target.taken_append (some (target.rest a.s.now a.b.now a.w.now a.g)) o₀ none p.is
-          (left_stuck a.s.now h a.i lt e (Option Bytes) target.taken target.taken_append d none o₀ (left_on a.s.now h a.i lt e (Option Bytes) target.taken target.taken_append y.c o o₀ (some (target.rest a.s.now a.b.now a.w.now c.in-Is-strip_value.x)) none l q d n r.is) (λ _. refl));
+          (left_stuck a.s.now h a.i lt e (Option Bytes) target.taken target.taken_append d none o₀ (left_on a.s.now h a.i lt e (Option Bytes) target.taken target.taken_append y.c o o₀ (some (target.rest a.s.now a.b.now a.w.now c.in_ok-x.x)) none l q d n r.is) (λ _. refl));
       stands = tt;
-    }
+    })
 
 pub strip_list-loop-x-smaller : goal.strip_list-loop-x-smaller
 strip_list-loop-x-smaller t c = let z = c in
@@ -152,21 +152,21 @@ strip_list-loop-x-smaller t c = let z = c in
     let e = z.requires.4 in
     let y = c.loop-x in
     let l = y.invariant.1 h lt e in
-    let n = ap found (sym c.in-At-next.is) ∙ c.next.ensures.0 l.number l.at in
-    omega (arith, left_within a.s.now h a.i lt e (Option Bytes) target.taken target.taken_append _ _ _ l, next_behind a.s.now h a.i lt l.number y.c c.in-At-next.d l.at (sym n))
+    let n = ap found (sym c.in-Some-next.is) ∙ c.next.ensures.0 l.number l.at in
+    omega (arith, left_within a.s.now h a.i lt e (Option Bytes) target.taken target.taken_append _ _ _ l, next_behind a.s.now h a.i lt l.number y.c c.in-Some-next.d l.at (sym n))
 
 pub strip_list-loop-x-preserved : goal.strip_list-loop-x-preserved
 strip_list-loop-x-preserved t c = let a = c.args in
     let y = c.loop-x in
     let o = some (target.rest a.s.now a.b.now a.w.now y.u) in
-    let o₀ = some (target.rest a.s.now a.b.now a.w.now c.in-Is.t) in
-    let r = subst (target.Stripped a.s.now a.b.now a.w.now _) c.in-Is-strip_bytes.is c.strip_bytes-in-loop-x.ensures in (
+    let o₀ = some (target.rest a.s.now a.b.now a.w.now c.in_ok-t.t) in
+    let r = c.in_ok-y.ensures in (
       r.stands,
       λ h lt e.
           let l = y.invariant.1 h lt e in
-          let q = ap (target.left a.s.now a.b.now a.w.now) (sym c.in-Is-strip_value.is) ∙ means_place a.s.now a.b.now _ y.c (left_within a.s.now h a.i lt e (Option Bytes) target.taken target.taken_append y.c o o₀ l) c.strip_value.ensures.means in
-          let n = ap found (sym c.in-At-next.is) ∙ c.next.ensures.0 l.number l.at in
-          left_on a.s.now h a.i lt e (Option Bytes) target.taken target.taken_append y.c o o₀ (some (target.rest a.s.now a.b.now a.w.now c.in-Is-strip_value.x)) (some (target.rest a.s.now a.b.now a.w.now c.in-Is-strip_bytes.y)) l q c.in-At-next.d n r.is,
+          let q = ap (target.left a.s.now a.b.now a.w.now) (sym c.in_ok-x.was) ∙ means_place a.s.now a.b.now _ y.c (left_within a.s.now h a.i lt e (Option Bytes) target.taken target.taken_append y.c o o₀ l) c.strip_value.ensures.means in
+          let n = ap found (sym c.in-Some-next.is) ∙ c.next.ensures.0 l.number l.at in
+          left_on a.s.now h a.i lt e (Option Bytes) target.taken target.taken_append y.c o o₀ (some (target.rest a.s.now a.b.now a.w.now c.in_ok-x.x)) (some (target.rest a.s.now a.b.now a.w.now c.in_ok-y.y)) l q c.in-Some-next.d n r.is,
     )
 
 pub strip_value-strip_bool-requires : goal.strip_value-strip_bool-requires

@@ -7,16 +7,13 @@ use lib.ListN.{length}
 use mathlib.Core.Path.{◌∙◌, ◌≡◌, refl, sym}
 use Rattle.print.proofs.calm_end.Goals as goal
 
-pub loop-j-init : goal.loop-j-init
-loop-j-init c = refl
-
-pub returns-then-not-is_calm : goal.returns-then-not-is_calm
-returns-then-not-is_calm c = let l = c.loop-j in
-    sym (l.invariant ∙ run_off is_calm c.args.s.now l.j c.loop-j-test.true (sym c.is_calm.ensures ∙ c.if-not-is_calm.true))
-
 pub loop-j-preserved : goal.loop-j-preserved
 loop-j-preserved c = let l = c.loop-j in
-    l.invariant ∙ run_on is_calm c.args.s.now l.j c.loop-j-test.true (sym c.is_calm.ensures ∙ c.if-not-is_calm.false)
+    l.invariant ∙ run_on is_calm c.args.s.now l.j c.loop-j-test.true (sym c.is_calm.ensures ∙ c.if-is_calm.true)
 
-pub returns : goal.returns
-returns c = sym (c.loop-j.invariant ∙ run_end is_calm c.args.s.now c.loop-j.j c.loop-j-test.false)
+pub returns-else-is_calm : goal.returns-else-is_calm
+returns-else-is_calm c = let l = c.loop-j in
+    sym (l.invariant ∙ run_off is_calm c.args.s.now l.j c.loop-j-test.true (sym c.is_calm.ensures ∙ c.if-is_calm.false))
+
+pub returns-after-loop-j : goal.returns-after-loop-j
+returns-after-loop-j c = sym (c.loop-j.invariant ∙ run_end is_calm c.args.s.now c.loop-j.j c.loop-j-test.false)

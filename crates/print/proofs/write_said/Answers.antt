@@ -46,7 +46,7 @@ pub loop-c-smaller : goal.loop-c-smaller
 loop-c-smaller c = let a = c.args in
     let l = c.loop-c in
     let e = c.own_end-e in
-    let z = subst (Stepped a.s.now (remaining a.s.now e.result l.j)) c.in-Byte.is c.next_byte.ensures in
+    let z = subst (Stepped a.s.now (remaining a.s.now e.result l.j)) c.in-Some.is c.next_byte.ensures in
     part_less a.s.now l.i e.result e.ensures l.j c.requires.0 l.invariant.0 _ _ z.0
 
 pub loop-c-preserved : goal.loop-c-preserved
@@ -54,13 +54,13 @@ loop-c-preserved c = let a = c.args in
     let l = c.loop-c in
     let e = c.own_end-e in
     let w = c.write_part-q in
-    let z = subst (Stepped a.s.now (remaining a.s.now e.result l.j)) c.in-Byte.is c.next_byte.ensures in
+    let z = subst (Stepped a.s.now (remaining a.s.now e.result l.j)) c.in-Some.is c.next_byte.ensures in
     let f = c.feed_escaped-q in
     let o = output w.result w.new.out in
-    let r = remaining a.s.now c.in-Byte.p.at c.in-Byte.p.k in (
+    let r = remaining a.s.now c.in-Some.p.at c.in-Some.p.k in (
       z.1,
       f.auto.out ∙ w.auto.out ∙ l.invariant.1,
-      ap (printed a.indent.now a.escape r) f.ensures ∙ sym (printed_cons a.indent.now a.escape c.in-Byte.c r o)
+      ap (printed a.indent.now a.escape r) f.ensures ∙ sym (printed_cons a.indent.now a.escape c.in-Some.c r o)
           ∙ ap (λ (x : Bytes). printed a.indent.now a.escape x o) (sym z.0)
           ∙ part_printed a.s.now l.i e.result e.ensures l.j c.requires.0 l.invariant.0 a.indent.now a.escape (output l.q l.out) o w.ensures
           ∙ l.invariant.2,

@@ -1,6 +1,5 @@
 use native.Mathlib.Omega.{arith}
 use Rattle.scope.proofs.Numbers.{bare_missing, bare_context, bare_other}
-use borrow.Author.Rules.{rules}
 use Rattle.scope.proofs.bare.Goals as goal
 
 pub returns-then-n-eq0 : goal.returns-then-n-eq0

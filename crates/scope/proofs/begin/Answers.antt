@@ -1,8 +1,6 @@
-use mathlib.Core.List.{List}
 use mathlib.Core.Path.{ap}
 use lib.ListN.{replicate}
 use Rattle.scope.specs.declared.Scope.{Scope}
-use borrow.Author.Rules.{rules}
 use Rattle.scope.proofs.begin.Goals as goal
 
 pub returns : goal.returns

@@ -1,3 +1,4 @@
+use Rattle.std.specs.Prelude.{Some}
 use Prim.Native.Nat.{ℕ, ◌+◌, ◌*◌, ◌/◌, ◌^◌}
 use mathlib.Core.Bool.{false}
 use Rattle.scope.proofs.local_variable.Goals.{else-x-head-2-via-else-x-head-2, else-x-head-2-via-then-x-head-2+else-spells-2, else-x-head-3-via-else-x-head-3, else-x-head-3-via-then-x-head-3+else-spells-3, else-x-head-4-via-else-x-head-4, else-x-head-4-via-then-x-head-4+else-spells-4, else-x-head-via-else-x-head, else-x-head-via-then-x-head+else-spells}
@@ -5,7 +6,6 @@ use mathlib.Core.Path.{◌≡◌, refl, sym, ap, ◌∙◌}
 use native.Mathlib.Omega.{arith}
 use lib.Dec.{eqb, lit<}
 use borrow.Author.Tests.{eq-eqb, ne_eqb}
-use borrow.Author.Rules.{rules}
 use Rattle.rules.specs.Bytes.{Bytes, same, ascii}
 use Rattle.rules.specs.BundleLaws.{bits_binary}
 use Rattle.rules.specs.Layout.{field}
@@ -15,7 +15,6 @@ use Rattle.rules.specs.Bits.{bits}
 use Rattle.rules.specs.Picks.{yes, no}
 use Rattle.layout.specs.Text.{text_at}
 use Rattle.names.specs.Head.{head_of, other_head, head_count}
-use Rattle.scope.specs.declared.Param.TheVariants.{Is}
 use Rattle.scope.specs.Names.{local_variable}
 use Rattle.scope.proofs.Letters.{letters}
 use Rattle.scope.proofs.local_variable.Goals as goal
@@ -33,7 +32,7 @@ returns-then-spells c =
     let p = c.args.p in
     letters (bits b) (bits_binary b) p c.field-z.result y n k c.field-z.ensures d g (sym (head_count (bits b) p (bits_binary b)) ∙ ap (λ (x : ℕ). x / 256) (sym (top) ∙ e) ∙ f) t in
     let some-locals : eqb c.args.c.locals 0 ≡ false = ne_eqb c.args.c.locals 0 c.if-c-eq0.false in
-    (omega (arith, c.struct_known-1.given), no _ _ _ _ (some-locals) (yes _ _ _ _ (sym (c.spells.ensures ∙ name_is (ascii "first") 5 0 c.field-z.result (c.if-x-head.true ∙ c.head.ensures) refl refl (omega arith)) ∙ c.if-spells.true) (ap Is c.flag.ensures)))
+    (omega (arith, c.struct_known-1.given), no _ _ _ _ (some-locals) (yes _ _ _ _ (sym (c.spells.ensures ∙ name_is (ascii "first") 5 0 c.field-z.result (c.if-x-head.true ∙ c.head.ensures) refl refl (omega arith)) ∙ c.if-spells.true) (ap Some c.flag.ensures)))
 
 pub returns-then-spells-2 : goal.returns-then-spells-2
 unfolding local_variable
@@ -48,7 +47,7 @@ returns-then-spells-2 c =
       | else-x-head-via-then-x-head+else-spells w ↦ sym (w.spells.ensures ∙ name_is (ascii "first") 5 0 c.field-z.result (w.if-x-head.true ∙ c.head.ensures) refl refl (omega arith)) ∙ w.if-spells.false
       | else-x-head-via-else-x-head w ↦ other_head (bits c.args.b.now) c.args.p (ascii "first") (lit< tt) (λ e. w.if-x-head.false (top ∙ e ∙ sym c.head.ensures))
     ] in
-    (omega (arith, c.struct_known-1.given), no _ _ _ _ (some-locals) (no _ _ _ _ (not_first) (yes _ _ _ _ (sym (c.spells-then-x-head-2.ensures ∙ name_is (ascii "last") 4 8 (c.field-z.result / 2 ^ 8) (c.if-x-head-2.true ∙ c.head-2.ensures) refl refl (omega arith)) ∙ c.if-spells-2.true) (ap Is c.flag-then-spells-2.ensures))))
+    (omega (arith, c.struct_known-1.given), no _ _ _ _ (some-locals) (no _ _ _ _ (not_first) (yes _ _ _ _ (sym (c.spells-then-x-head-2.ensures ∙ name_is (ascii "last") 4 8 (c.field-z.result / 2 ^ 8) (c.if-x-head-2.true ∙ c.head-2.ensures) refl refl (omega arith)) ∙ c.if-spells-2.true) (ap Some c.flag-then-spells-2.ensures))))
 
 pub returns-then-spells-3 : goal.returns-then-spells-3
 unfolding local_variable

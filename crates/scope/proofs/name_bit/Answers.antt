@@ -3,13 +3,12 @@ use native.Mathlib.Nat.{mod-eq_of_lt}
 use lib.Pow.{pow-lt}
 use Rattle.layout.specs.Text.{text_at}
 use Rattle.scope.specs.NameBits.{bit_at, bit_of}
-use mathlib.Core.Path.{◌≡◌, refl, sym, ap, ◌∙◌}
+use mathlib.Core.Path.{◌≡◌, sym, ap, ◌∙◌}
 use native.Mathlib.Omega.{arith}
 use Rattle.rules.specs.Bits.{bits}
 use Rattle.rules.specs.BundleLaws.{bits_binary}
 use Rattle.rules.specs.LayoutLaws.{field_lt}
 use Rattle.scope.proofs.Heads.{no_head, some_head}
-use borrow.Author.Rules.{rules}
 use Rattle.scope.proofs.name_bit.Goals as goal
 
 pub returns-then-x-lt256 : goal.returns-then-x-lt256

@@ -2,7 +2,6 @@ use native.Mathlib.Omega.{arith}
 use mathlib.Core.Path.{refl, sym, ◌∙◌}
 use Rattle.rules.specs.Picks.{yes, no}
 use Rattle.scope.proofs.Numbers.{number_one}
-use borrow.Author.Rules.{rules}
 use Rattle.scope.proofs.one_number.Goals as goal
 
 pub same_headed-requires : goal.same_headed-requires

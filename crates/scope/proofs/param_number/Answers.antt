@@ -6,21 +6,8 @@ use Rattle.layout.specs.Text.{text_at}
 use Rattle.scope.specs.declared.Scope.{Scope}
 use Rattle.scope.specs.Names.{Readable}
 use Rattle.scope.proofs.NamesLaws.{string_near, in_stack}
-use Rattle.scope.proofs.Searching.{Searches, search_start, search_past, number_found, number_on, number_end}
-use borrow.Author.Rules.{rules}
+use Rattle.scope.proofs.Searching.{search_past, number_found, number_on, number_end}
 use Rattle.scope.proofs.param_number.Goals as goal
-
-pub loop-i-init : goal.loop-i-init
-loop-i-init c = let a = c.args in search_start a.b.now a.ent.now a.scopes (text_at (bits a.b.now) a.p) a.used
-
-pub overflow_sub-i : goal.overflow_sub-i
-overflow_sub-i c = omega arith
-
-pub offset_bounds-scopes-i : goal.offset_bounds-scopes-i
-offset_bounds-scopes-i c = omega (arith, c.requires.2, c.loop-i.invariant.within)
-
-pub bounds-scopes-i : goal.bounds-scopes-i
-bounds-scopes-i c = omega (arith, c.requires.2, c.loop-i.invariant.within)
 
 pub own_number-n-requires : goal.own_number-n-requires
 own_number-n-requires c = let z = c in
@@ -37,16 +24,10 @@ returns-then-n-ne0 c = let z = c in
     let h = c.loop-i in
     number_found z.args.b.now z.args.ent.now z.args.scopes (text_at (bits z.args.b.now) z.args.p) z.args.used h.i (omega arith) h.invariant _ (sym (in_stack z.args.scopes (h.i - 1) z.well_formed.1.1.0.1.0.1 (omega (arith, h.invariant.within, z.requires.2)))) c.own_number-n.result c.own_number-n.ensures c.if-n-ne0.true
 
-pub loop-i-smaller-else-n-ne0 : goal.loop-i-smaller-else-n-ne0
-loop-i-smaller-else-n-ne0 c = omega arith
-
 pub loop-i-preserved-else-n-ne0 : goal.loop-i-preserved-else-n-ne0
 loop-i-preserved-else-n-ne0 c = let z = c in
     let h = c.loop-i in
     number_on z.args.b.now z.args.ent.now z.args.scopes (text_at (bits z.args.b.now) z.args.p) z.args.used h.i (omega arith) h.invariant _ (sym (in_stack z.args.scopes (h.i - 1) z.well_formed.1.1.0.1.0.1 (omega (arith, h.invariant.within, z.requires.2)))) c.own_number-n.result c.own_number-n.ensures c.if-n-ne0.false
-
-pub loop-i-smaller : goal.loop-i-smaller
-loop-i-smaller c = omega arith
 
 pub loop-i-preserved : goal.loop-i-preserved
 loop-i-preserved c = let z = c in

@@ -1,15 +1,7 @@
-use native.Mathlib.Omega.{arith}
 use Rattle.rules.specs.Bits.{bits}
 use Rattle.rules.specs.BundleLaws.{bits_binary}
-use Rattle.scope.proofs.Letters.{headed_small, headed_other, headed_same}
-use borrow.Author.Rules.{rules}
+use Rattle.scope.proofs.Letters.{headed_other, headed_same}
 use Rattle.scope.proofs.same_headed.Goals as goal
-
-pub overflow_shr-x : goal.overflow_shr-x
-overflow_shr-x c = let z = c in let a = z.args in omega (arith, headed_small (bits a.b.now) (bits_binary a.b.now) a.p a.q a.x a.y a.k z.requires.2 z.requires.3 z.requires.4)
-
-pub overflow_shr-y : goal.overflow_shr-y
-overflow_shr-y c = let z = c in let a = z.args in omega (arith, headed_small (bits a.b.now) (bits_binary a.b.now) a.p a.q a.x a.y a.k z.requires.2 z.requires.3 z.requires.4)
 
 pub returns-then-x-k : goal.returns-then-x-k
 returns-then-x-k c = let z = c in let a = z.args in headed_other (bits a.b.now) (bits_binary a.b.now) a.p a.q a.x a.y a.k z.requires.2 z.requires.3 z.requires.4 c.if-x-k.true

@@ -1,16 +1,9 @@
 use native.Mathlib.Omega.{arith}
-use mathlib.Core.Path.{refl, sym, ◌∙◌}
-use borrow.Author.Tests.{le-leb, lt-leb}
-use Rattle.rules.specs.Picks.{yes, no}
+use mathlib.Core.Path.{refl}
+use borrow.Author.Tests.{lt-leb}
+use Rattle.rules.specs.Picks.{no}
 use Rattle.scope.proofs.Numbers.{index_number}
-use borrow.Author.Rules.{rules}
 use Rattle.scope.proofs.second_number.Goals as goal
-
-pub returns-then-c-ge5 : goal.returns-then-c-ge5
-returns-then-c-ge5 c = (yes _ _ _ _ (le-leb 5 _ c.if-c-ge5.true) c.bare.ensures, omega (arith, c.struct_known-1.given))
-
-pub overflow_mul-result : goal.overflow_mul-result
-overflow_mul-result c = omega (arith, c.struct_known-1.given)
 
 pub overflow_add-result : goal.overflow_add-result
 overflow_add-result c = omega (arith, c.struct_known-1.given)

@@ -1,28 +1,22 @@
-use Prim.Native.Nat.{◌-◌, ◌≤◌}
-use mathlib.Core.Path.{◌≡◌, refl, sym, ◌∙◌}
+use mathlib.Core.Path.{refl, ◌∙◌}
 use native.Mathlib.Omega.{arith}
 use lib.ListN.{length}
-use Rattle.rules.specs.Bytes.{same}
 use Rattle.bits.specs.Packed.{number_bytes}
-use Rattle.bits.specs.Compare.{SameFrom, same_end, same_differ, same_more}
+use Rattle.bits.specs.Compare.{same_end, same_differ, same_more}
 use Rattle.scope.proofs.Letters.{number_length, number_holds}
-use borrow.Author.Rules.{rules}
 use Rattle.scope.proofs.spells.Goals as goal
-
-pub loop-i-init : goal.loop-i-init
-loop-i-init c = (omega arith, refl)
 
 pub returns-then-z-n : goal.returns-then-z-n
 returns-then-z-n c = let a = c.args in
     let l = c.loop-i in
-    same_differ (number_holds (length a.t.now) a.z l.i c.loop-i-test.true) (record { within = omega (arith, c.loop-i-test.true); is = refl }) c.if-z-n.true ∙ l.invariant.1
+    same_differ (number_holds (length a.t.now) a.z l.i c.loop-i-test.true) (record { within = omega (arith, c.loop-i-test.true); is = refl }) c.if-z-n.true ∙ l.invariant
 
 pub loop-i-preserved : goal.loop-i-preserved
 loop-i-preserved c = let a = c.args in
     let l = c.loop-i in
-    (omega (arith, c.loop-i-test.true), same_more (number_holds (length a.t.now) a.z l.i c.loop-i-test.true) (record { within = omega (arith, c.loop-i-test.true); is = refl }) c.if-z-n.false ∙ l.invariant.1)
+    same_more (number_holds (length a.t.now) a.z l.i c.loop-i-test.true) (record { within = omega (arith, c.loop-i-test.true); is = refl }) c.if-z-n.false ∙ l.invariant
 
 pub returns : goal.returns
 returns c = let a = c.args in
     let l = c.loop-i in
-    same_end (number_bytes (length a.t.now) a.z) a.t.now l.i (omega (arith, number_length (length a.t.now) a.z)) (omega arith) ∙ l.invariant.1
+    same_end (number_bytes (length a.t.now) a.z) a.t.now l.i (omega (arith, number_length (length a.t.now) a.z)) (omega arith) ∙ l.invariant

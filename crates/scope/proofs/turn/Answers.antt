@@ -1,4 +1,3 @@
-use borrow.Author.Rules.{rules}
 use Rattle.scope.proofs.turn.Goals as goal
 
 pub returns : goal.returns

@@ -1,3 +1,4 @@
+use Rattle.std.specs.Prelude.{Some}
 use Prim.Native.Nat.{ℕ, ◌+◌, ◌*◌, ◌/◌, ◌≤◌}
 use native.Mathlib.Omega.{arith}
 use mathlib.Core.Path.{◌≡◌, refl, sym, ap, ◌∙◌}
@@ -9,30 +10,10 @@ use Rattle.rules.specs.Picks.{yes, no}
 use Rattle.layout.specs.Text.{text_at}
 use Rattle.parts.specs.Holds.{end}
 use Rattle.parts.specs.HoldsLaws.{string_end, string_in}
-use Rattle.scope.specs.declared.Param.TheVariants.{Is}
 use Rattle.scope.proofs.NamesLaws.{string_near}
 use Rattle.bits.specs.Fields.{field_first}
 use Rattle.scope.proofs.Numbers.{number_one}
-use borrow.Author.Rules.{rules}
 use Rattle.scope.proofs.two_number.Goals as goal
-
-pub overflow_add-next : goal.overflow_add-next
-overflow_add-next c =
-    let counted : c.field-y.result / 1099511627776 ≡ Rattle.rules.specs.Layout.field (bits c.args.b.now) 16 c.args.c.names = ap (λ (x : ℕ). x / 1099511627776) c.field-y.ensures ∙ field_first (bits c.args.b.now) (bits_binary c.args.b.now) 16 40 c.args.c.names in
-    let inside : c.args.c.names + 16 + 8 * (c.field-y.result / 1099511627776) ≤ 524288 = omega (arith, counted, string_in (bits c.args.b.now) c.args.c.names c.requires.2.0, bits_size c.args.b.now, c.requires.0) in
-    omega (arith, inside)
-
-pub overflow_mul-next : goal.overflow_mul-next
-overflow_mul-next c =
-    let counted : c.field-y.result / 1099511627776 ≡ Rattle.rules.specs.Layout.field (bits c.args.b.now) 16 c.args.c.names = ap (λ (x : ℕ). x / 1099511627776) c.field-y.ensures ∙ field_first (bits c.args.b.now) (bits_binary c.args.b.now) 16 40 c.args.c.names in
-    let inside : c.args.c.names + 16 + 8 * (c.field-y.result / 1099511627776) ≤ 524288 = omega (arith, counted, string_in (bits c.args.b.now) c.args.c.names c.requires.2.0, bits_size c.args.b.now, c.requires.0) in
-    omega (arith, inside)
-
-pub overflow_add-next-2 : goal.overflow_add-next-2
-overflow_add-next-2 c =
-    let counted : c.field-y.result / 1099511627776 ≡ Rattle.rules.specs.Layout.field (bits c.args.b.now) 16 c.args.c.names = ap (λ (x : ℕ). x / 1099511627776) c.field-y.ensures ∙ field_first (bits c.args.b.now) (bits_binary c.args.b.now) 16 40 c.args.c.names in
-    let inside : c.args.c.names + 16 + 8 * (c.field-y.result / 1099511627776) ≤ 524288 = omega (arith, counted, string_in (bits c.args.b.now) c.args.c.names c.requires.2.0, bits_size c.args.b.now, c.requires.0) in
-    omega (arith, inside)
 
 pub same_headed-requires : goal.same_headed-requires
 same_headed-requires c =
@@ -48,16 +29,13 @@ returns-then-same_headed c =
     let counted : c.field-y.result / 1099511627776 ≡ Rattle.rules.specs.Layout.field (bits c.args.b.now) 16 c.args.c.names = ap (λ (x : ℕ). x / 1099511627776) c.field-y.ensures ∙ field_first (bits c.args.b.now) (bits_binary c.args.b.now) 16 40 c.args.c.names in
     let behind : c.args.c.names + 16 + 8 * (c.field-y.result / 1099511627776) ≡ end string (bits c.args.b.now) c.args.c.names = omega (arith, counted, string_end (bits c.args.b.now) c.args.c.names c.requires.2.0) in (
       yes _ _ _ _ (sym (c.same_headed.ensures ∙ ap (λ (q : ℕ). same (text_at (bits c.args.b.now) q) (text_at (bits c.args.b.now) c.args.p)) (behind)) ∙ c.if-same_headed.true)
-          (number_one c.second_number-second.result _ refl ∙ ap Is c.second_number-second.ensures.0),
+          (number_one c.second_number-second.result _ refl ∙ ap Some c.second_number-second.ensures.0),
       omega arith,
       c.second_number-second.ensures.1,
     )
 
 pub same_headed-requires-2 : goal.same_headed-requires-2
 same_headed-requires-2 c = (string_near c.args.b.now c.args.c.names c.requires.0 c.requires.2.0, c.requires.1, c.field-y.ensures, c.requires.3, c.requires.4)
-
-pub overflow_add-result-then-same_headed-2 : goal.overflow_add-result-then-same_headed-2
-overflow_add-result-then-same_headed-2 c = omega (arith, c.struct_known-1.given)
 
 pub returns-then-same_headed-2 : goal.returns-then-same_headed-2
 returns-then-same_headed-2 c =

@@ -4,5 +4,5 @@ use Rattle.test_chars.proofs.show_alone.Goals as goal
 
 pub show-requires : goal.show-requires
 show-requires g c =
-    let f = subst (λ z. Parted c.args.s.now c.args.b.now c.text_of-t.result z) c.in-Char.is c.next_char.ensures in
+    let f = subst (λ z. Parted c.args.s.now c.args.b.now c.text_of-t.result z) c.in-Some.is c.next_char.ensures in
     (c.requires.0, c.requires.1, f.value.stands)

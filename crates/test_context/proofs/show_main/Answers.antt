@@ -22,5 +22,5 @@ show_body-requires g c =
       c.requires.2,
       c.requires.3,
       subst (λ (l : List Scope). NearScopes s b _ l c.args.used) (sym c.begin.ensures) (begun_near s b _ c.args.used c.requires.3),
-      (subst (FoundHolds (body 16 16) (bits b) _ _) (sym c.get_template-f.ensures ∙ c.in-Template.is) (found_stands 16 (bits b) a.templates _).parts).3,
+      (subst (FoundHolds (body 16 16) (bits b) _ _) (sym c.get_template-f.ensures ∙ c.in-Some.is) (found_stands 16 (bits b) a.templates _).parts).3,
     )

@@ -8,14 +8,14 @@ called-requires c =
     let ent = c.args.ent.now in
     let t = c.requires.4.top in
     let w = some_setting s b ent c.args.scopes c.args.used c.args.options t c.requires.2 c.requires.4.stand in
-    (c.requires.0, c.requires.1, expanded_held s b ent t c.args.scopes c.args.used _ c.try_from_template-w.result w.setting.stand (c.try_from_template-w.ensures w.g w.st t w.setting) c.if-w-eq0.true)
+    (c.requires.0, c.requires.1, expanded_held s b ent t c.args.scopes c.args.used _ c.try_from_template-w.result w.setting.stand (c.try_from_template-w.ensures w.g w.st t w.setting) c.in-None.is)
 
-pub returns-then-w-eq0 : goal.returns-then-w-eq0
-returns-then-w-eq0 c =
+pub returns-in-None : goal.returns-in-None
+returns-in-None c =
     let s = c.args.s.now in
     let b = c.args.b.now in
     let ent = c.args.ent.now in
     let t = c.requires.4.top in
     let w = some_setting s b ent c.args.scopes c.args.used c.args.options t c.requires.2 c.requires.4.stand in
-    let f = (c.try_from_template-w.ensures w.g w.st t w.setting).fine c.if-w-eq0.true in
+    let f = (c.try_from_template-w.ensures w.g w.st t w.setting).fine c.in-None.is in
     got_known s b ent t _ c.called.result (c.called.ensures w.g w.st t f.0 w.setting.alike f.2)

@@ -12,5 +12,5 @@ show-requires g c =
     let s = c.args.s.now in (
       c.requires.0,
       c.requires.1,
-      λ _. (is_child s 0 c.loop-k.k c.in-At.c c.requires.0.answers (some_places s) (sym (ap found (sym c.in-At.is) ∙ c.nth.ensures))).within,
+      λ _. (is_child s 0 c.loop-k.k c.in-Some.c c.requires.0.answers (some_places s) (sym (ap found (sym c.in-Some.is) ∙ c.nth.ensures))).within,
     )
