@@ -1,5 +1,7 @@
 -- The beginning of a partial, step by step: what each step asks for, and what is left where it is the last. s is the plan, b the bundle.
-use Rattle.std.specs.Prelude.{ℕ, ◌+◌, ◌-◌, ◌^◌, ◌≤◌, ◌<◌, Bool, true, false, ◌≡◌, eqb, length, take, drop, replicate}
+use Rattle.error.specs.Reasons.{not_none}
+use Rattle.std.specs.Prelude.{ℕ, ◌+◌, ◌-◌, ◌^◌, ◌≤◌, ◌<◌, Bool, true, false, ◌≡◌, eqb, length, take, drop, replicate, Option as RustOption, Some, None}
+use Rattle.std.specs.Option.{is_some}
 use mathlib.Core.List.{List, []}
 use Rattle.std.proofs.Math.Option.{some, none}
 use Rattle.std.proofs.Math.Path.{refl, ap}
@@ -16,7 +18,6 @@ use Rattle.rules.specs.Registry.{Registry}
 use Rattle.rules.specs.Partial.{Rendering}
 use Rattle.rules.specs.Render.{join_indent, indent_fits}
 use Rattle.rules.specs.Expand as expand
-use Rattle.parts.specs.declared.Maybe.{Maybe}
 use Rattle.parts.specs.Holds.{Holds, row}
 use Rattle.parts.specs.Says.{MaybeHolds}
 use Rattle.calls.specs.declared.Call.{Call}
@@ -60,44 +61,47 @@ use Rattle.beginning.specs.Opened.{done, partial_rule, PartialBegun}
 use Rattle.beginning.specs.Tops.{front_by, front_made, front_current, front_array, array_length}
 use Rattle.beginning.specs.Entering.{Enterable, EnteredNext, Enters}
 use Rattle.beginning.specs.Laws.{fits_is, fits_joins, begun_stop, begun_long, marks_ready, worked_there, name_there, begun_bad, begun_text, begun_fallback, begun_entered}
+use Rattle.error.specs.declared.RenderErrorReason.TheVariants.{IndentLimit, BlockTextsLimit, PageLimit}
+use Rattle.error.specs.Reasons.{refusal}
+use Rattle.error.specs.declared.RenderErrorReason.{RenderErrorReason as Reason}
 
 -- What a write and what is done behind it leave of a context
 
 wrote_used : (w : Writer) (c : RenderContext) → (wrote c w).used ≡ c.used
 wrote_used w c = go w.full
   where
-    go : (y : Bool) → (pick y (failed (with_writer c w) (pick w.block_text 24 25)) (with_writer c w)).used ≡ c.used
+    go : (y : Bool) → (pick y (failed (with_writer c w) (Some (pick w.block_text BlockTextsLimit PageLimit))) (with_writer c w)).used ≡ c.used
     go true = refl
     go false = refl
 
 wrote_scopes : (w : Writer) (c : RenderContext) → (wrote c w).scopes ≡ c.scopes
 wrote_scopes w c = go w.full
   where
-    go : (y : Bool) → (pick y (failed (with_writer c w) (pick w.block_text 24 25)) (with_writer c w)).scopes ≡ c.scopes
+    go : (y : Bool) → (pick y (failed (with_writer c w) (Some (pick w.block_text BlockTextsLimit PageLimit))) (with_writer c w)).scopes ≡ c.scopes
     go true = refl
     go false = refl
 
 finished_used : (w : Writer) (c : RenderContext) → (finished w c).used ≡ c.used
-finished_used w c = go (eqb c.bad 0)
+finished_used w c = go (is_some c.bad)
   where
-    go : (y : Bool) → (pick y (settled c w) c).used ≡ c.used
+    go : (y : Bool) → (pick y c (settled c w)).used ≡ c.used
     go true = refl
     go false = refl
 
 finished_scopes : (w : Writer) (c : RenderContext) → (finished w c).scopes ≡ c.scopes
-finished_scopes w c = go (eqb c.bad 0)
+finished_scopes w c = go (is_some c.bad)
   where
-    go : (y : Bool) → (pick y (settled c w) c).scopes ≡ c.scopes
+    go : (y : Bool) → (pick y c (settled c w)).scopes ≡ c.scopes
     go true = refl
     go false = refl
 
 -- What `begin` asks for
-abbrev pub Beginnable : Bytes → List ℕ → Bytes → List ℕ → List Scope → code.RenderContext → Scope → Bytes → Bytes → Bytes → List ℕ → ℕ → ℕ → Maybe → Maybe → Type 0
+abbrev pub Beginnable : Bytes → List ℕ → Bytes → List ℕ → List Scope → code.RenderContext → Scope → Bytes → Bytes → Bytes → List ℕ → ℕ → ℕ → RustOption ℕ → RustOption ℕ → Type 0
 Beginnable s tab b index l c front page texts indent ent d p own at =
     Checked s tab b index × Front l c front × Ready s b (world (whole c l) page texts indent ent) × (d ≤ 16)
     × Holds (call_of (param d)) (bits b) p × MaybeHolds (body 16 d) (bits b) own × MaybeHolds string (bits b) at
 
-module _ (s : Bytes) (tab : List ℕ) (b : Bytes) (index : List ℕ) (o : Options) (l : List Scope) (c : code.RenderContext) (front : Scope) (page texts indent : Bytes) (ent : List ℕ) (d p : ℕ) (own at : Maybe) (before : Bool)
+module _ (s : Bytes) (tab : List ℕ) (b : Bytes) (index : List ℕ) (o : Options) (l : List Scope) (c : code.RenderContext) (front : Scope) (page texts indent : Bytes) (ent : List ℕ) (d p : ℕ) (own at : RustOption ℕ) (before : Bool)
     (P : Beginnable s tab b index l c front page texts indent ent d p own at) where
   abbrev w : World
   w = world (whole c l) page texts indent ent
@@ -146,28 +150,29 @@ module _ (s : Bytes) (tab : List ℕ) (b : Bytes) (index : List ℕ) (o : Option
       )
 
   -- a refusal
-  fails_by : (v : code.RenderContext) (n : ℕ) → ((k : List Scope) → whole v k ≡ failed (whole c k) n) → Renders s b o w (over (failed w.rc n) w) rule → (y : Begun) → y ≡ done v front → Begins page texts indent ent y
+  fails_by : (v : code.RenderContext) (n : RustOption Reason) → ((k : List Scope) → whole v k ≡ failed (whole c k) n) → Renders s b o w (over (failed w.rc n) w) rule → (y : Begun) → y ≡ done v front → Begins page texts indent ent y
   fails_by v n is R y e = done_by c v (λ x. failed x n) is (λ x. refl) (λ x. refl) P.1 r.one r.most page texts R y e
 
   -- x₀ is the name and the parameters
   module _ (x₀ : Expanded) (head : (g : Registry) (st : rules.RenderContext) (t : ℕ) → Setting s b ent l c.used o g st t → IsTemplate s b ent t (expand.try_from_template g st (without_hash (call_at d (bits b) p))) x₀) where
-    pub head_stop : (x₀.bad ≡ 0 → ⊥) → (v : code.RenderContext) → ((k : List Scope) → whole v k ≡ failed (whole c k) x₀.bad) → (y : Begun) → y ≡ done v front → Begins page texts indent ent y
-    head_stop n v is =
+    pub head_stop : (n : Reason) → x₀.bad ≡ Some n → (v : code.RenderContext) → ((k : List Scope) → whole v k ≡ failed (whole c k) (Some n)) → (y : Begun) → y ≡ done v front → Begins page texts indent ent y
+    head_stop n q v is =
         let g = registry_of s b o (length page) in
         let k = head g (abs s b w) (top w) here in
-        fails_by v x₀.bad is
+        fails_by v (Some n) is
+        (subst (λ (m : RustOption Reason). Renders s b o w (over (failed w.rc m) w) rule) q
         (begun_stop s b o w d p own at before r x₀
-        (record { fine = λ e. absurd (n e); refused = head_refused s b ent (top w) d p P.4 (call_view d (bits b) p) refl g (abs s b w) x₀ k }) n)
+        (record { fine = λ e. absurd (not_none n q e); refused = head_refused s b ent (top w) d p P.4 (call_view d (bits b) p) refl g (abs s b w) x₀ k }) (not_none n q)))
 
-    -- v has the hash pairs, values the numbers of theirs, or bad that of a refusal
-    module _ (fine₀ : x₀.bad ≡ 0) (v : Call) (view : v ≡ call_view d (bits b) p) where
+    -- v has the hash pairs, values the numbers of theirs, or bad the refusal
+    module _ (fine₀ : x₀.bad ≡ None) (v : Call) (view : v ≡ call_view d (bits b) p) where
       pub begin_few : v.pairs < 16
       begin_few = (call_pairs_stand d (bits b) p v (bits_binary b) P.4 view).few
 
       pub begin_pairs : Holds (row (string then param d) v.pairs) (bits b) v.pair
       begin_pairs = (call_pairs_stand d (bits b) p v (bits_binary b) P.4 view).holds
 
-      module _ (values : List ℕ) (bad : ℕ)
+      module _ (values : List ℕ) (bad : RustOption Reason)
           (hashed : (g : Registry) (st : rules.RenderContext) (t : ℕ) → Setting s b ent l c.used o g st t
           → Works (λ _. HashValuesIn s b ent t d v.pair v.pairs g st (replicate 15 0) values) (expand.expand_hash g st (hash_at d v.pairs (bits b) v.pair)) bad) where
         abbrev g : Registry
@@ -192,19 +197,19 @@ module _ (s : Bytes) (tab : List ℕ) (b : Bytes) (index : List ℕ) (o : Option
         unfolding x
         x_name = refl
 
-        pub hash_stop : (bad ≡ 0 → ⊥) → (u : code.RenderContext) → ((k : List Scope) → whole u k ≡ failed (whole c k) bad) → (y : Begun) → y ≡ done u front → Begins page texts indent ent y
-        hash_stop n u is =
-            fails_by u bad is
-            (subst (λ (k : ℕ). Renders s b o w (over (failed w.rc k) w) rule) x_bad (begun_stop s b o w d p own at before r x worked (λ e. n (sym x_bad ∙ e))))
+        pub hash_stop : (n : Reason) → bad ≡ Some n → (u : code.RenderContext) → ((k : List Scope) → whole u k ≡ failed (whole c k) (Some n)) → (y : Begun) → y ≡ done u front → Begins page texts indent ent y
+        hash_stop n q u is =
+            fails_by u (Some n) is
+            (subst (λ (k : RustOption Reason). Renders s b o w (over (failed w.rc k) w) rule) (x_bad ∙ q) (begun_stop s b o w d p own at before r x worked (not_none n (x_bad ∙ q))))
 
-        module _ (fine : bad ≡ 0) where
-          so : x.bad ≡ 0
+        module _ (fine : bad ≡ None) where
+          so : x.bad ≡ None
           so = x_bad ∙ fine
 
           -- whether the indents fit together
           module _ (yes : Bool) (fits : (g : Registry) (j : Bytes) → g.limits.indent ≡ 256 → length j ≡ c.writer.indent → yes ≡ indent_fits g (join_indent (pick c.writer.has_indent (some j) none) (own-indent (bits b) at))) where
-            pub long_stop : yes ≡ false → (u : code.RenderContext) → ((k : List Scope) → whole u k ≡ failed (whole c k) 21) → (y : Begun) → y ≡ done u front → Begins page texts indent ent y
-            long_stop e u is = fails_by u 21 is (begun_long s b o w d p own at before r x worked so (sym (fits_is s b o w at r yes fits) ∙ e))
+            pub long_stop : yes ≡ false → (u : code.RenderContext) → ((k : List Scope) → whole u k ≡ failed (whole c k) (Some IndentLimit)) → (y : Begun) → y ≡ done u front → Begins page texts indent ent y
+            long_stop e u is = fails_by u (Some IndentLimit) is (begun_long s b o w d p own at before r x worked so (sym (fits_is s b o w at r yes fits) ∙ e))
 
             -- q has the marks
             module _ (e : yes ≡ true) (q : code.RenderContext) (aware : (k : List Scope) → whole q k ≡ marked (whole c k) (before_partial c.writer at before)) where
@@ -267,10 +272,10 @@ module _ (s : Bytes) (tab : List ℕ) (b : Bytes) (index : List ℕ) (o : Option
                     subst (Leads s b o w₁ d p x own at) i
                     ((subst (λ (z : RenderContext). Decided s b ent z d x₀.name own t) (aware l) D).at page texts indent o p x at x_name ready₁)
 
-                pub target_bad : (n : ℕ) → t ≡ to.Bad n → (u : code.RenderContext) → ((k : List Scope) → whole u k ≡ failed (whole q k) n) → (y : Begun) → y ≡ done u front → Begins page texts indent ent y
+                pub target_bad : (n : Reason) → t ≡ to.Bad n → (u : code.RenderContext) → ((k : List Scope) → whole u k ≡ failed (whole q k) (Some n)) → (y : Begun) → y ≡ done u front → Begins page texts indent ent y
                 target_bad n i u is =
-                    done_by q u (λ z. failed z n) is (λ z. refl) (λ z. refl) q_front q_one q_most page texts
-                    (subst (λ (z : World). Renders s b o w (over (failed z.rc n) z) rule) w_is (begun_bad s b o w d p own at before r x worked so they_fit n (leads (to.Bad n) i)))
+                    done_by q u (λ z. failed z (Some n)) is (λ z. refl) (λ z. refl) q_front q_one q_most page texts
+                    (subst (λ (z : World). Renders s b o w (over (failed z.rc (Some n)) z) rule) w_is (begun_bad s b o w d p own at before r x worked so they_fit n (leads (to.Bad n) i)))
 
                 -- a block text
                 module _ (from n : ℕ) (i : t ≡ to.Text from n) where
@@ -332,7 +337,7 @@ module _ (s : Bytes) (tab : List ℕ) (b : Bytes) (index : List ℕ) (o : Option
                     worked = subst (λ (z : World). Worked s b o z d p x (worked.fine so).0) w_is (worked_there s b o w d p own at before r x worked so);
                   }
 
-                  pub target_body : (a e n : ℕ) (m : Maybe) → t ≡ to.Body a e n m → (ent' : List ℕ) (indent' : Bytes) (y : Begun)
+                  pub target_body : (a e n : ℕ) (m : RustOption ℕ) → t ≡ to.Body a e n m → (ent' : List ℕ) (indent' : Bytes) (y : Begun)
                       → Enters s b ent ent' indent indent' q front base d v.pair v.pairs values a e n m at y → Begins page texts indent' ent' y
                   target_body a e n m i ent' indent' y E =
                       let L = leads (to.Body a e n m) i in

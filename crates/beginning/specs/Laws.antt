@@ -1,5 +1,6 @@
 -- Laws of the beginning of a partial.
-use Rattle.std.specs.Prelude.{ℕ, ◌+◌, ◌-◌, ◌≤◌, Bool, ◌++◌, ◌≡◌, length, take, drop}
+use Rattle.std.proofs.lemmas.Option.{none-some}
+use Rattle.std.specs.Prelude.{ℕ, ◌+◌, ◌-◌, ◌≤◌, Bool, ◌++◌, ◌≡◌, length, take, drop, Option as RustOption, Some, None}
 use Rattle.std.proofs.Math.Bool.{true, false}
 use Rattle.std.proofs.Math.Option.{Option, none, some}
 use Rattle.std.proofs.Math.Path.{refl, ap}
@@ -16,7 +17,6 @@ use Rattle.rules.specs.Expand.{try_from_template}
 use Rattle.rules.specs.Partial.{Rendering}
 use Rattle.rules.specs.Render.{join_indent, indent_fits}
 use Rattle.rules.specs.Output.{write}
-use Rattle.parts.specs.declared.Maybe.{Maybe}
 use Rattle.parts.specs.Says.{MaybeHolds, indent_says}
 use Rattle.calls.specs.Calls.{call_at}
 use Rattle.decorators.specs.Indents.{own as own-indent}
@@ -42,10 +42,12 @@ use Rattle.beginning.specs.declared.Next.{Next}
 use Rattle.beginning.specs.declared.Next.TheVariants.{Done, Fallback, Body, Text}
 use Rattle.beginning.specs.Opened.{partial_rule, PartialBegun}
 use Rattle.beginning.specs.Entering.{BodyEntered, EnteredNext}
+use Rattle.error.specs.declared.RenderErrorReason.TheVariants.{IndentLimit}
+use Rattle.error.specs.declared.RenderErrorReason.{RenderErrorReason as Reason}
 
 -- Limit 21, by the code's test y
 
-module _ (s b : Bytes) (o : Options) (w : World) (at : Maybe) (r : Ready s b w) where
+module _ (s b : Bytes) (o : Options) (w : World) (at : RustOption ℕ) (r : Ready s b w) where
   abbrev i : Bytes
   i = take w.rc.writer.indent w.indent
 
@@ -67,7 +69,7 @@ module _ (s b : Bytes) (o : Options) (w : World) (at : Maybe) (r : Ready s b w) 
       go false q none e = omega (arith, r.indent)
       go false q (some j) e = omega (arith, leb-true (length j) 256 e, r.absent q)
 
-module _ (s b : Bytes) (o : Options) (w : World) (d p : ℕ) (own at : Maybe) (before : Bool) (r : Ready s b w) (x : Expanded)
+module _ (s b : Bytes) (o : Options) (w : World) (d p : ℕ) (own at : RustOption ℕ) (before : Bool) (r : Ready s b w) (x : Expanded)
     (worked : IsTemplate s b w.ent (top w) (try_from_template (registry_of s b o (length w.page)) (abs s b w) (call_at d (bits b) p)) x) where
   abbrev rule : Registry → Rendering → Draw
   rule = partial_rule b d p own at before
@@ -75,11 +77,11 @@ module _ (s b : Bytes) (o : Options) (w : World) (d p : ℕ) (own at : Maybe) (b
   abbrev m : Writer
   m = w.rc.writer
 
-  pub begun_stop : (x.bad ≡ 0 → ⊥) → Renders s b o w (over (failed w.rc x.bad) w) rule
+  pub begun_stop : (x.bad ≡ None → ⊥) → Renders s b o w (over (failed w.rc x.bad) w) rule
   begun_stop n = partial_stop s b o w r d p (call_at d (bits b) p) at own before x worked n
 
-  module _ (fine : x.bad ≡ 0) where
-    pub begun_long : indent_fits (registry_of s b o (length w.page)) (joined s b w at) ≡ false → Renders s b o w (over (failed w.rc 21) w) rule
+  module _ (fine : x.bad ≡ None) where
+    pub begun_long : indent_fits (registry_of s b o (length w.page)) (joined s b w at) ≡ false → Renders s b o w (over (failed w.rc (Some IndentLimit)) w) rule
     begun_long e = partial_too_long s b o w r d p (call_at d (bits b) p) at own before x worked fine e
 
     abbrev w₁ : World
@@ -98,7 +100,7 @@ module _ (s b : Bytes) (o : Options) (w : World) (d p : ℕ) (own at : Maybe) (b
     name_there = (worked.fine fine).2.name_stands
 
     module _ (fits : indent_fits (registry_of s b o (length w.page)) (joined s b w at) ≡ true) where
-      refused : (u : World) → PartialDrawn s b o w₁ u d p x own at → (u.rc.bad ≡ 0 → ⊥) → Renders s b o w u rule
+      refused : (u : World) → PartialDrawn s b o w₁ u d p x own at → (u.rc.bad ≡ None → ⊥) → Renders s b o w u rule
       refused u D n = partial_refused s b o w r d p (call_at d (bits b) p) at own before x worked fine refl fits u D n
 
       finishes : (u : World) → PartialDrawn s b o w₁ u d p x own at → Renders s b o w (over (finished m u.rc) u) rule
@@ -108,8 +110,8 @@ module _ (s b : Bytes) (o : Options) (w : World) (d p : ℕ) (own at : Maybe) (b
       finishes_by : (g : RenderContext → RenderContext) → ((c : RenderContext) → (g c).bad ≡ c.bad) → (u : World) → PartialDrawn s b o w₁ (over (unless_bad g u.rc) u) d p x own at → Renders s b o w (over (unless_bad (λ c. settled (g c) m) u.rc) u) rule
       finishes_by g same u D = subst (λ (c : RenderContext). Renders s b o w (over c u) rule) (unless_both (λ c. settled c m) g same u.rc) (finishes (over (unless_bad g u.rc) u) D)
 
-      pub begun_bad : (n : ℕ) → Leads s b o w₁ d p x own at (to.Bad n) → Renders s b o w (over (failed w₁.rc n) w₁) rule
-      begun_bad n L = refused (over (failed w₁.rc n) w₁) L.1 L.0
+      pub begun_bad : (n : Reason) → Leads s b o w₁ d p x own at (to.Bad n) → Renders s b o w (over (failed w₁.rc (Some n)) w₁) rule
+      begun_bad n L = refused (over (failed w₁.rc (Some n)) w₁) L (λ z. none-some n (sym z))
 
       pub begun_text : (f n : ℕ) → Leads s b o w₁ d p x own at (to.Text f n) → (u : World) → Draws s b w₁ u (write (take n (drop f w.texts)) (abs s b w₁)) → Renders s b o w (over (finished m u.rc) u) rule
       begun_text f n L u D = finishes u (L.2 u D)
@@ -126,7 +128,7 @@ module _ (s b : Bytes) (o : Options) (w : World) (d p : ℕ) (own at : Maybe) (b
       )
 
       -- the partial that was found is entered
-      module _ (q i n : ℕ) (own' : Maybe) (L : Leads s b o w₁ d p x own at (to.Body q i n own')) where
+      module _ (q i n : ℕ) (own' : RustOption ℕ) (L : Leads s b o w₁ d p x own at (to.Body q i n own')) where
         continues : (u : World) → BodyEntered s b o w₁ u d p x q i n own' at → Continues s b o w u 1 (body_rule b i q n) rule (concluded w.rc)
         continues u B = record {
           ready = B.ready;

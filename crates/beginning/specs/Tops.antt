@@ -1,9 +1,8 @@
 -- The newest scope beside the array of the others, as the context changes.
-use Rattle.std.specs.Prelude.{ℕ, ◌+◌, ◌-◌, ◌≤◌, ◌<◌, Bool, List, [], ◌≡◌, refl, length, get_or, set}
+use Rattle.std.specs.Prelude.{ℕ, ◌+◌, ◌-◌, ◌≤◌, ◌<◌, Bool, List, [], ◌≡◌, refl, length, get_or, set, Option as RustOption}
 use Rattle.std.proofs.Common.{sym, ap, ◌∙◌, arith, length-set, get_or-set_same}
 use Rattle.rules.specs.Bytes.{Bytes}
 use Rattle.rules.specs.Bits.{bits}
-use Rattle.parts.specs.declared.Maybe.{Maybe}
 use Rattle.scope.specs.declared.Scope.{Scope}
 use Rattle.scope.specs.Scopes.{blank}
 use Rattle.scope.specs.Made.{with_count}
@@ -90,7 +89,7 @@ module _ (c u₀ u : code.RenderContext) (x : Scope) (m t : ℕ)
   newest_is = topped_newest u l sized one most x ∙ ap (with_count x) (opened_count ∙ sym empty)
 
   -- a partial without a block text: its body begins
-  module _ (b : Bytes) (at : Maybe) (n : ℕ) (v : code.RenderContext) (is : (k : List Scope) → whole v k ≡ body_context (bits b) at n (whole u k)) (y : Scope) (none : y ≡ with_block x 1 x.text) where
+  module _ (b : Bytes) (at : RustOption ℕ) (n : ℕ) (v : code.RenderContext) (is : (k : List Scope) → whole v k ≡ body_context (bits b) at n (whole u k)) (y : Scope) (none : y ≡ with_block x 1 x.text) where
     pub body_top : topped v l y ≡ body_context (bits b) at n (without_text (pushed (counted (whole c l) t) x m))
     body_top =
         topped_by v u (body_context (bits b) at n) is (λ z. refl) l y
@@ -112,7 +111,7 @@ module _ (c u₀ u : code.RenderContext) (x : Scope) (m t : ℕ)
 
 -- A block text is finished: u is what `end_text` makes of q, whose newest scope x is given the text
 
-module _ (b : Bytes) (at : Maybe) (n begin : ℕ) (block : Bool) (q u : code.RenderContext) (is : (k : List Scope) → whole u k ≡ body_context (bits b) at n (text_moved (whole q k) begin block))
+module _ (b : Bytes) (at : RustOption ℕ) (n begin : ℕ) (block : Bool) (q u : code.RenderContext) (is : (k : List Scope) → whole u k ≡ body_context (bits b) at n (text_moved (whole q k) begin block))
     (l : List Scope) (x : Scope) (sized : length l ≡ 32) (one : 1 ≤ q.used) (most : q.used ≤ 32) where
   abbrev given : Scope
   given = with_block (with_count x q.count) 2 (q.writer.low - begin)

@@ -17,17 +17,15 @@ ghost use Rattle.drawing.specs.Renders.{Checked};
 ghost use Rattle.beginning.specs.Opened.{done, BodyFits, body_context, body_buffer, TextEnds, text_buffer, partial_rule, PartialBegun};
 ghost use Rattle.beginning.specs.Entering.{Enterable, Enters};
 
-use error::INDENT_LIMIT;
+use error::RenderErrorReason;
 use expand::Options;
-use opening::Opened;
 use output::Writer;
-use parts::Maybe;
 use scope::Scope;
 use state::RenderContext;
 use targets::Target;
 use value::Value;
 
-fn has_indent(w: Writer, at: Maybe) -> bool
+fn has_indent(w: Writer, at: Option<usize>) -> bool
     ensures { result ≡ (w.has_indent || is_at at) }
 {
     if w.has_indent {
@@ -40,7 +38,7 @@ fn has_indent(w: Writer, at: Maybe) -> bool
 fn begin_body(
     indent: &mut [u8],
     b: &[u8],
-    at: Maybe,
+    at: Option<usize>,
     name: usize,
     rc: RenderContext,
 ) -> RenderContext
@@ -60,7 +58,7 @@ pub fn end_text(
     texts: &mut [u8],
     indent: &mut [u8],
     b: &[u8],
-    at: Maybe,
+    at: Option<usize>,
     name: usize,
     begin: usize,
     block_text: bool,
@@ -124,8 +122,8 @@ fn enter(
     q: usize,
     e: usize,
     name: usize,
-    own: Maybe,
-    at: Maybe,
+    own: Option<usize>,
+    at: Option<usize>,
     d: usize,
     rc: RenderContext,
 ) -> Begun
@@ -137,16 +135,16 @@ fn enter(
         s, tab, b, ent, front, base, r, n, values, d, rc.used, rc.total,
     );
     match opened {
-        Opened::Bad(k) => done(state::failed(rc, k), front),
-        Opened::Is(c, total) => {
+        Err(e) => done(state::failed(rc, e), front),
+        Ok((c, total)) => {
             let u = state::set_total(state::deeper(rc, scope::names_of(b, ent, c)), total);
             match own {
-                Maybe::At(t) => Begun {
+                Some(t) => Begun {
                     rc: state::set_current_template_name(texts::open_text(u), 0),
                     top: c,
                     next: Next::Text(t, q, e, name),
                 },
-                Maybe::Nothing => Begun {
+                None => Begun {
                     rc: begin_body(indent, b, at, name, u),
                     top: texts::no_text(c),
                     next: Next::Body(q, e, name),
@@ -157,7 +155,7 @@ fn enter(
 }
 
 // Whether an indent comes in front of what a partial writes; at is its own indent.
-fn before_partial(w: Writer, at: Maybe, before: bool) -> bool
+fn before_partial(w: Writer, at: Option<usize>, before: bool) -> bool
     ensures { result ≡ before_partial w at before }
 {
     if before {
@@ -183,8 +181,8 @@ pub fn begin(
     front: Scope,
     options: Options,
     p: usize,
-    own: Maybe,
-    at: Maybe,
+    own: Option<usize>,
+    at: Option<usize>,
     before: bool,
     d: usize,
     rc: RenderContext,
@@ -204,13 +202,13 @@ pub fn begin(
         × (result.top.count ≡ result.rc.count) }
 {
     let w = expand::name_and_params(s, tab, b, ent, scopes, rc.used, options, p, d);
-    if w.bad != 0 {
-        return done(state::failed(rc, w.bad), front);
+    if let Some(e) = w.bad {
+        return done(state::failed(rc, e), front);
     }
     let call = calls::call_at(b, p, d);
     let n = call.pairs as usize;
     let mut values: [u32; 15] = [0; 15];
-    let bad = including::hash_all(
+    let hashed = including::hash_all(
         s,
         tab,
         b,
@@ -225,17 +223,17 @@ pub fn begin(
         d,
         &mut values,
     );
-    if bad != 0 {
-        return done(state::failed(rc, bad), front);
+    if let Err(e) = hashed {
+        return done(state::failed(rc, e), front);
     }
     let marks = rc.writer;
     if !decorators::indent_fits(b, marks.has_indent, marks.indent, at) {
-        return done(state::failed(rc, INDENT_LIMIT), front);
+        return done(state::failed(rc, RenderErrorReason::IndentLimit), front);
     }
     let q = state::begin_aware(rc, before_partial(marks, at, before));
     let name = w.name;
     match targets::expand_partial(s, tab, b, index, ent, scopes, name, own, d, q) {
-        Target::Bad(k) => done(state::failed(q, k), front),
+        Target::Bad(e) => done(state::failed(q, e), front),
         Target::Text(from, len) => done(
             state::finish(
                 writing::partial_block_text(page, texts, q, from, len),

@@ -30,6 +30,7 @@ use Rattle.decorators.specs.declared.Inlined.{Inlined}
 use Rattle.decorators.specs.declared.Inlined.TheVariants.{Bad, New, Again}
 use Rattle.decorators.specs.Inlined.{is_string, has_body, Unnamed, Named, Defines, InlinedIs, Inlining}
 use Rattle.decorators.proofs.Naming.{string_name, string_none}
+use Rattle.error.specs.declared.RenderErrorReason.TheVariants.{BlockContentRequired, EntriesLimit, InvalidParamType, ParamNotFoundForIndex}
 
 -- the rule past the first parameter, by the string that it is
 abbrev given : Registry → RenderContext → Option Template → Option Bytes → Res
@@ -81,8 +82,8 @@ module _ (s b : Bytes) (ent : List ℕ) (c : Scope) (taken : ℕ) (w : Expanded)
   abbrev Is : Inlined → Type 0
   Is = InlinedIs s b ent t c taken w st T rule
 
-  pub no_params : w.count ≡ 0 → Is (Bad 15)
-  no_params z = record { reason = param-not-found-for-index; is = go e.params I.expanded.params.count; by_number = refl }
+  pub no_params : w.count ≡ 0 → Is (Bad ParamNotFoundForIndex)
+  no_params z = record { reason = param-not-found-for-index; is = go e.params I.expanded.params.count; by_reason = refl }
     where
       go : (k : List ScopedJson) → w.count ≡ length k → inline g k T st ≡ fail param-not-found-for-index
       go [] n = empty_is g st T
@@ -100,12 +101,12 @@ module _ (s b : Bytes) (ent : List ℕ) (c : Scope) (taken : ℕ) (w : Expanded)
         go (v ∷ []) n h = one v [] h
         go (v ∷ u ∷ k) n h = one v (u ∷ k) h.0
 
-    pub not_string : false ≡ is_string (json_of s b ent w.first) → Is (Bad 18)
+    pub not_string : false ≡ is_string (json_of s b ent w.first) → Is (Bad InvalidParamType)
     not_string q =
         record {
           reason = invalid-param-type;
           is = with_first ∙ ap (given g st T) (string_none (json_of s b ent w.first) q) ∙ given_none g st T;
-          by_number = refl;
+          by_reason = refl;
         }
 
     module _ (q : true ≡ is_string (json_of s b ent w.first)) where
@@ -115,12 +116,12 @@ module _ (s b : Bytes) (ent : List ℕ) (c : Scope) (taken : ℕ) (w : Expanded)
       named : rule ≡ given g st T (some name)
       named = with_first ∙ ap (given g st T) (string_name (json_of s b ent w.first) q)
 
-      pub bare : has ≡ false → Is (Bad 19)
+      pub bare : has ≡ false → Is (Bad BlockContentRequired)
       bare h =
           record {
             reason = block-content-required;
             is = named ∙ ap (λ (o : Option Template). given g st o (some name)) (no_content T (sym I.content ∙ h)) ∙ given_bare g st name;
-            by_number = refl;
+            by_reason = refl;
           }
 
       with_body : (B : Template) → T ≡ some B → rule ≡ set_local_partial g name B st
@@ -155,11 +156,11 @@ module _ (s b : Bytes) (ent : List ℕ) (c : Scope) (taken : ℕ) (w : Expanded)
       pub new : Unnamed s b ent c.inline c.count name → taken < 4096 → Is (New w.first)
       new u lt = (defines (room 1 (fresh u) ∙ le-leb (taken + 1) 4096 (omega arith)), u, lt)
 
-      pub full : has ≡ true → Unnamed s b ent c.inline c.count name → 4096 ≤ taken → Is (Bad 22)
+      pub full : has ≡ true → Unnamed s b ent c.inline c.count name → 4096 ≤ taken → Is (Bad EntriesLimit)
       full h u le =
           let B = some_content T (sym I.content ∙ h) in
           record {
             reason = entries-limit;
             is = with_body B.0 B.1 ∙ refused_is g st name B.0 (room 1 (fresh u) ∙ lt-leb (taken + 1) 4096 (omega arith));
-            by_number = refl;
+            by_reason = refl;
           }

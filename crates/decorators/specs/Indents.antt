@@ -1,5 +1,5 @@
 -- The indent in force is a prefix of a lent buffer; an element's own indent is a string of the bundle.
-use Rattle.std.specs.Prelude.{ℕ, ◌+◌, ◌-◌, ◌≤◌, ◌<◌, Bool, true, false, ◌||◌, [], ◌++◌, ◌≡◌, refl, leb, length, take, drop}
+use Rattle.std.specs.Prelude.{ℕ, ◌+◌, ◌-◌, ◌≤◌, ◌<◌, Bool, true, false, ◌||◌, [], ◌++◌, ◌≡◌, refl, leb, length, take, drop, Option as RustOption, Some, None}
 use Rattle.std.proofs.Math.Option.{Option, none, some}
 use Rattle.std.proofs.Common.{sym, ap, ap₂, ◌∙◌, arith, length-append, length-take-le, take_at, le-leb, leb-true, leb-false}
 use Rattle.std.proofs.lemmas.List.Edits.{sets, sets-eq}
@@ -12,17 +12,15 @@ use Rattle.rules.specs.Render.{join_indent, indent_fits, is_some}
 use Rattle.rules.specs.State.{text_size}
 use Rattle.layout.specs.Text.{text_at}
 use Rattle.parts.specs.Holds.{Holds}
-use Rattle.parts.specs.declared.Maybe.{Maybe}
-use Rattle.parts.specs.declared.Maybe.TheVariants.{At, Nothing}
 
 -- an element's own indent
-abbrev pub own : Bits → Maybe → Option Bytes
-own b (At p) = some (text_at b p)
-own b Nothing = none
+abbrev pub own : Bits → RustOption ℕ → Option Bytes
+own b (Some p) = some (text_at b p)
+own b None = none
 
-abbrev pub OwnStands : Bits → Maybe → Type 0
-OwnStands b (At p) = Holds string b p
-OwnStands b Nothing = Unit {0}
+abbrev pub OwnStands : Bits → RustOption ℕ → Type 0
+OwnStands b (Some p) = Holds string b p
+OwnStands b None = Unit {0}
 
 abbrev pub bytes_of : Option Bytes → Bytes
 bytes_of i = maybe i [] (λ t. t)

@@ -1,12 +1,12 @@
 -- decorators/inline.rs: what `inline` answers. s is the plan, b the bundle, ent the entries of open partials.
-use Rattle.std.specs.Prelude.{ℕ, ◌+◌, ◌-◌, ◌≤◌, ◌<◌, Bool, true, false, List, [], ◌≡◌, refl, get_or}
+use Rattle.std.specs.Prelude.{ℕ, ◌+◌, ◌-◌, ◌≤◌, ◌<◌, Bool, true, false, List, [], ◌≡◌, refl, get_or, Option as RustOption, Some, None}
 use Rattle.std.proofs.Math.Option.{Option, none, some}
 use Rattle.std.proofs.Common.{sym, ap, ◌∙◌}
 use Rattle.rules.specs.Bytes.{Bytes, maybe, same}
 use Rattle.rules.specs.Json.{Json, as_str}
 use Rattle.rules.specs.Order.{same_refl, same_eq}
 use Rattle.rules.specs.Template.{Template}
-use Rattle.rules.specs.Error.{RenderErrorReason, number}
+use Rattle.rules.specs.Error.{RenderErrorReason}
 use Rattle.rules.specs.Partials.{define}
 use Rattle.rules.specs.State.{RenderContext, set_block_partials, entries, Res, ok, fail}
 use Rattle.rules.specs.Registry.{Registry}
@@ -19,10 +19,10 @@ use Rattle.scope.specs.declared.Scope.{Scope}
 use Rattle.scope.specs.Scopes.{inline_name, partials_of, blank}
 use Rattle.expand.specs.declared.Expanded.{Expanded}
 use Rattle.expand.specs.Answers.{name_of, IsExpanded}
-use Rattle.decorators.specs.declared.Local.{Local}
-use Rattle.decorators.specs.declared.Local.TheVariants.{At, Nothing}
 use Rattle.decorators.specs.declared.Inlined.{Inlined}
 use Rattle.decorators.specs.declared.Inlined.TheVariants.{Bad, New, Again}
+use Rattle.error.specs.declared.RenderErrorReason.{RenderErrorReason as Reason}
+use Rattle.error.specs.Reasons.{refusal}
 
 -- whether it is a string
 abbrev pub is_string : Json → Bool
@@ -49,17 +49,17 @@ pub record Named (s b : Bytes) (ent : List ℕ) (e n : ℕ) (m : Bytes) (k : ℕ
   pub is : same (inline_name s b ent (e + turn)) m ≡ true
   pub first : Unnamed s b ent e turn m
 
-abbrev pub LocalIs : Bytes → Bytes → List ℕ → ℕ → ℕ → Bytes → Local → Type 0
-LocalIs s b ent e n m (At k) = Named s b ent e n m k
-LocalIs s b ent e n m Nothing = Unnamed s b ent e n m
+abbrev pub LocalIs : Bytes → Bytes → List ℕ → ℕ → ℕ → Bytes → RustOption ℕ → Type 0
+LocalIs s b ent e n m (Some k) = Named s b ent e n m k
+LocalIs s b ent e n m None = Unnamed s b ent e n m
 
 -- Answers
 
--- a refusal, by the paper's number
-pub record Fails (x : Res) (n : ℕ) : Type 0 where
+-- a refusal, as the code keeps it
+pub record Fails (x : Res) (n : RustOption Reason) : Type 0 where
   pub reason : RenderErrorReason
   pub is : x ≡ fail reason
-  pub by_number : number reason ≡ n
+  pub by_reason : refusal reason ≡ n
 
 -- the body is kept under the name that v says
 pub record Defines (s b : Bytes) (ent : List ℕ) (t : ℕ) (w : Expanded) (st : RenderContext) (T : Option Template) (x : Res) (v : Value) : Type 0 where
@@ -70,7 +70,7 @@ pub record Defines (s b : Bytes) (ent : List ℕ) (t : ℕ) (w : Expanded) (st :
 
 -- c is the newest scope, and so many entries are taken
 abbrev pub InlinedIs : Bytes → Bytes → List ℕ → ℕ → Scope → ℕ → Expanded → RenderContext → Option Template → Res → Inlined → Type 0
-InlinedIs s b ent t c taken w st T x (Bad n) = Fails x n
+InlinedIs s b ent t c taken w st T x (Bad e) = Fails x (Some e)
 InlinedIs s b ent t c taken w st T x (New v) = Defines s b ent t w st T x v × Unnamed s b ent c.inline c.count (name_of s b ent v) × (taken < 4096)
 InlinedIs s b ent t c taken w st T x (Again k v) = Defines s b ent t w st T x v × Named s b ent c.inline c.count (name_of s b ent v) k
 

@@ -27,10 +27,9 @@ ghost use Rattle.expand.specs.Answers.{name_of, ExpandedHeld};
 ghost use Rattle.decorators.specs.Indents.{own, OwnStands, bytes_of};
 ghost use Rattle.decorators.specs.Inlined.{is_string, LocalIs, Inlines};
 
-use error::{BLOCK_CONTENT_REQUIRED, ENTRIES_LIMIT, INVALID_PARAM_TYPE, PARAM_NOT_FOUND_FOR_INDEX};
+use error::RenderErrorReason;
 use expand::Expanded;
 use meaning::Form;
-use parts::Maybe;
 use scope::Scope;
 use text::Text;
 use value::Value;
@@ -38,11 +37,11 @@ use value::Value;
 // The indent
 
 // How many bytes the element's own indent has.
-fn own_length(b: &[u8], at: Maybe) -> usize
+fn own_length(b: &[u8], at: Option<usize>) -> usize
     requires { (length b.now ≤ 65536) × OwnStands (bits b.now) at }
     ensures { (result ≡ text_size (own (bits b.now) at)) × (result ≤ 65536) }
 {
-    let Maybe::At(p) = at else {
+    let Some(p) = at else {
         return 0;
     };
     let t = parts::text_at(b, p);
@@ -50,7 +49,7 @@ fn own_length(b: &[u8], at: Maybe) -> usize
 }
 
 // Limit 21: whether the indent in force, of so many bytes where there is one, and the element's own fit together.
-pub fn indent_fits(b: &[u8], has: bool, len: usize, at: Maybe) -> bool
+pub fn indent_fits(b: &[u8], has: bool, len: usize, at: Option<usize>) -> bool
     requires { (length b.now ≤ 65536) × OwnStands (bits b.now) at }
     ensures { (g : Registry) (v : Bytes) → g.limits.indent ≡ 256 → length v ≡ len
         → result ≡ indent_fits g (join_indent (pick has (some v) none) (own (bits b.now) at)) }
@@ -66,13 +65,13 @@ pub fn indent_fits(b: &[u8], has: bool, len: usize, at: Maybe) -> bool
 }
 
 // The element's own indent behind the first len bytes; gives their length together.
-pub fn append_indent(indent: &mut [u8], b: &[u8], len: usize, at: Maybe) -> usize
+pub fn append_indent(indent: &mut [u8], b: &[u8], len: usize, at: Option<usize>) -> usize
     requires { (length b.now ≤ 65536) × OwnStands (bits b.now) at
         × (len + text_size (own (bits b.now) at) ≤ length indent.old) }
     ensures { (result ≡ len + text_size (own (bits b.now) at))
         × (indent.new ≡ sets indent.old len (bytes_of (own (bits b.now) at))) }
 {
-    let Maybe::At(p) = at else {
+    let Some(p) = at else {
         return len;
     };
     let t = parts::text_at(b, p);
@@ -84,16 +83,9 @@ pub fn append_indent(indent: &mut [u8], b: &[u8], len: usize, at: Maybe) -> usiz
 
 // Among those of a scope.
 #[derive(Clone, Copy)]
-pub enum Local {
-    // its entry
-    At(usize),
-    Nothing,
-}
-
-#[derive(Clone, Copy)]
 pub enum Inlined {
     // the paper's number of the refusal
-    Bad(u8),
+    Bad(RenderErrorReason),
     // the scope has no inline partial of the name that the value says
     New(Value),
     // it has one: its entry
@@ -173,20 +165,18 @@ fn get_named_partial(
     e: usize,
     n: usize,
     q: usize,
-) -> Local
+) -> Option<usize>
     requires { Accepted s.now tab.now × (length b.now ≤ 65536) × Holds string (bits b.now) q
         × (2 * (e + n) ≤ length ent.now) × ((i : ℕ) → i < n → InlineStands s.now b.now ent.now (e + i)) }
     ensures { LocalIs s.now b.now ent.now e n
         (text_at (bits b.now) q) result }
 {
-    let mut i: usize = 0;
-    while i < n {
+    for i in 0..n {
         if has_name(s, tab, b, ent, e + i, q) {
-            return Local::At(e + i);
+            return Some(e + i);
         }
-        i += 1;
     }
-    Local::Nothing
+    None
 }
 
 // The one whose name v prints, whatever v is.
@@ -198,22 +188,20 @@ fn get_printed_partial(
     e: usize,
     n: usize,
     v: Value,
-) -> Local
+) -> Option<usize>
     requires { Accepted s.now tab.now × (length b.now ≤ 65536) × Known s.now b.now v
         × (2 * (e + n) ≤ length ent.now) × ((i : ℕ) → i < n → InlineStands s.now b.now ent.now (e + i)) }
     ensures { (t : ℕ) → Stands s.now b.now ent.now t v
         → LocalIs s.now b.now ent.now e n
         (name_of s.now b.now ent.now v) result }
 {
-    let mut i: usize = 0;
-    while i < n {
+    for i in 0..n {
         let name = inline_name(s, tab, b, ent, e + i);
         if print::text_same(s, tab, b, v, name) {
-            return Local::At(e + i);
+            return Some(e + i);
         }
-        i += 1;
     }
-    Local::Nothing
+    None
 }
 
 // The one whose name v prints: mostly v is a string of the bundle.
@@ -225,7 +213,7 @@ pub fn get_local_partial(
     e: usize,
     n: usize,
     v: Value,
-) -> Local
+) -> Option<usize>
     requires { Accepted s.now tab.now × (length b.now ≤ 65536) × Known s.now b.now v
         × (2 * (e + n) ≤ length ent.now) × ((i : ℕ) → i < n → InlineStands s.now b.now ent.now (e + i)) }
     ensures { (t : ℕ) → Stands s.now b.now ent.now t v
@@ -256,22 +244,22 @@ pub fn inline(
 {
     let v = w.first;
     if w.count == 0 {
-        return Inlined::Bad(PARAM_NOT_FOUND_FOR_INDEX);
+        return Inlined::Bad(RenderErrorReason::ParamNotFoundForIndex);
     }
     if !is_string(s, tab, b, v) {
-        return Inlined::Bad(INVALID_PARAM_TYPE);
+        return Inlined::Bad(RenderErrorReason::InvalidParamType);
     }
     if !has_body {
-        return Inlined::Bad(BLOCK_CONTENT_REQUIRED);
+        return Inlined::Bad(RenderErrorReason::BlockContentRequired);
     }
     let found = get_local_partial(s, tab, b, ent, c.inline as usize, c.count as usize, v);
-    if let Local::At(k) = found {
+    if let Some(k) = found {
         return Inlined::Again(k, v);
     }
     if total < 4096 {
         return Inlined::New(v);
     }
-    Inlined::Bad(ENTRIES_LIMIT)
+    Inlined::Bad(RenderErrorReason::EntriesLimit)
 }
 
 // Keeps an inline partial in the entry k: its name as a number, the depths that its body has left, and the place of its body.

@@ -1,5 +1,7 @@
 -- The array of scopes that stands beside a context while bodies are drawn.
-use Rattle.std.specs.Prelude.{ℕ, zero, suc, ◌+◌, ◌-◌, ◌≤◌, Bool, true, false, List, [], ◌∷◌, ◌≡◌, eqb, length, get_or, set}
+use Rattle.std.specs.Prelude.{ℕ, zero, suc, ◌+◌, ◌-◌, ◌≤◌, Bool, true, false, List, [], ◌∷◌, ◌≡◌, eqb, length, get_or, set, None, Option as RustOption, Some}
+use Rattle.error.specs.Reasons.{not_none}
+use Rattle.std.specs.Option.{is_some}
 use Rattle.std.proofs.Math.Path.{refl}
 use Rattle.std.proofs.Common.{sym, ap, ◌∙◌, subst, arith, length-set, get_or-set_same}
 use Rattle.std.proofs.lemmas.Bool.{eqb-false}
@@ -21,6 +23,8 @@ use Rattle.state.specs.Setters.{with_scopes, pushed, turned, settled, closed, un
 use Rattle.state.specs.World.{World, world, front, top, error_of, Ready}
 use Rattle.texts.specs.Setters.{cleaned, concluded}
 use Rattle.drawing.specs.Renders.{Renders}
+use Rattle.error.specs.Reasons.{refusal}
+use Rattle.error.specs.declared.RenderErrorReason.{RenderErrorReason as Reason}
 
 set_again : (l : List Scope) (i : ℕ) (c d : Scope) → set (set l i c) i d ≡ set l i d
 set_again [] i c d = refl
@@ -152,18 +156,19 @@ module _ (s b : Bytes) (o : Options) (w : World) (q : code.RenderContext) (l m :
   unfolding error_of
   error_any = refl
 
-  pub refused_any : (q.bad ≡ 0 → ⊥) → Renders s b o w (world (whole q m) p t i e) rule → Renders s b o w (world (whole q l) p t i e) rule
+  pub refused_any : (q.bad ≡ None → ⊥) → Renders s b o w (world (whole q m) p t i e) rule → Renders s b o w (world (whole q l) p t i e) rule
   refused_any n d = record {
     at = λ f le. record { fine = λ z. absurd (n z); refused = λ z. (d.at f le).refused n ∙ ap err error_any };
   }
 
   -- what is done behind a drawing unless it was refused, by a function that does not look at the array
   unless_any : (f : RenderContext → RenderContext) → f (whole q m) ≡ f (whole q l) → Renders s b o w (world (unless_bad f (whole q m)) p t i e) rule → Renders s b o w (world (unless_bad f (whole q l)) p t i e) rule
-  unless_any f same = go (eqb q.bad 0) refl
+  unless_any f same = go q.bad refl
     where
-      go : (y : Bool) → eqb q.bad 0 ≡ y → Renders s b o w (world (pick y (f (whole q m)) (whole q m)) p t i e) rule → Renders s b o w (world (pick y (f (whole q l)) (whole q l)) p t i e) rule
-      go true z d = subst (λ (c : RenderContext). Renders s b o w (world c p t i e) rule) same d
-      go false z d = refused_any (eqb-false q.bad 0 z) d
+      go : (y : RustOption Reason) → q.bad ≡ y → Renders s b o w (world (pick (is_some y) (whole q m) (f (whole q m))) p t i e) rule
+          → Renders s b o w (world (pick (is_some y) (whole q l) (f (whole q l))) p t i e) rule
+      go None z d = subst (λ (c : RenderContext). Renders s b o w (world c p t i e) rule) same d
+      go (Some x) z d = refused_any (not_none x z) d
 
   pub within_any : (c : RenderContext) → Renders s b o w (world (finished_within c (whole q m)) p t i e) rule → Renders s b o w (world (finished_within c (whole q l)) p t i e) rule
   within_any c = unless_any (λ x. settled (closed c x) c.writer) refl

@@ -1,5 +1,5 @@
 -- The loop of `each` by the code's context a and its array: x is the scope of the turn before, which knows of the inline partials up to its start.
-use Rattle.std.specs.Prelude.{ℕ, ◌+◌, ◌-◌, ◌≤◌, Bool, List, ◌≡◌, eqb, length, set}
+use Rattle.std.specs.Prelude.{ℕ, ◌+◌, ◌-◌, ◌≤◌, Bool, List, ◌≡◌, eqb, length, set, None}
 use Rattle.std.proofs.Common.{sym, ap, ◌∙◌, subst, arith}
 use Rattle.rules.specs.Bytes.{Bytes}
 use Rattle.rules.specs.Bits.{bits}
@@ -73,12 +73,12 @@ module _ (s b : Bytes) (o : Options) (w : World) (d at p : ℕ) (v : Value) (r :
           D' : Renders s b o (over (set.with_template (set.turned l.rc (made.turned (front l) (encoded item) (encoded key) k (eqb k 0) last object)) 0) l) l₂ (body_rule b d p 0)
           D' = subst (λ (y : RenderContext). Renders s b o (over (set.with_template y 0) l) l₂ (body_rule b d p 0)) starts D
 
-          pub array_stopped : (a₂.bad ≡ 0 → ⊥) → Renders s b o w (world (whole a₂ scopes) page₂ texts₂ indent₂ ent₂) (each_rule s b w d at p v)
+          pub array_stopped : (a₂.bad ≡ None → ⊥) → Renders s b o w (world (whole a₂ scopes) page₂ texts₂ indent₂ ent₂) (each_rule s b w d at p v)
           array_stopped n =
               refused_any s b o w a₂ scopes (set scopes (a.used - 1) c) page₂ texts₂ indent₂ ent₂ (each_rule s b w d at p v) n
               (each_stopped s b o w d at p v r q ok small held l k item key object last E l₂ D' n)
 
-          module _ (e : a₂.bad ≡ 0) where
+          module _ (e : a₂.bad ≡ None) where
             used : a₂.used ≡ a.used
             used = ((D.at 32 (omega arith)).fine e).goes.used
 

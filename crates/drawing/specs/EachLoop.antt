@@ -1,5 +1,5 @@
 -- The loop of `each`: k turns are drawn, and the next one is known.
-use Rattle.std.specs.Prelude.{ℕ, zero, suc, ◌+◌, ◌-◌, ◌≤◌, ◌<◌, Bool, false, [], ◌≡◌, refl, eqb, length, get_or}
+use Rattle.std.specs.Prelude.{None, ℕ, zero, suc, ◌+◌, ◌-◌, ◌≤◌, ◌<◌, Bool, false, [], ◌≡◌, refl, eqb, length, get_or}
 use Rattle.std.proofs.Math.Option.{none}
 use Rattle.std.proofs.Common.{sym, ◌∙◌, arith, add-one, get_or-set_same}
 use Rattle.std.proofs.Math.Path.{ap, subst}
@@ -244,7 +244,7 @@ module _ (s b : Bytes) (o : Options) (w : World) (d at p : ℕ) (v : Value) (r :
     pub each_finished : (w₀ : World) (rule : Registry → Rendering → Draw) → Continues s b o w₀ w 0 (each_rule s b w d at p v) rule (set.finished w₀.rc.writer)
         → ((c : RenderContext) → set.closed w.rc c ≡ set.closed w₀.rc c) → EachGoing l k End → Renders s b o w₀ (over (set.finished_within w₀.rc l.rc) l) rule
     each_finished w₀ rule C same E =
-        let e : l.rc.bad ≡ 0 = E.going.within.ready.fine in
+        let e : l.rc.bad ≡ None = E.going.within.ready.fine in
         let m = w₀.rc.writer in
         let f : set.finished m (set.closed w.rc l.rc) ≡ set.finished_within w₀.rc l.rc =
         unless_fine (λ c. set.settled c m) (set.closed w.rc l.rc) e ∙ ap (λ (c : RenderContext). set.settled c m) (same l.rc) ∙ sym (unless_fine (λ c. set.settled (set.closed w₀.rc c) m) l.rc e) in
@@ -302,10 +302,10 @@ module _ (s b : Bytes) (o : Options) (w : World) (d at p : ℕ) (v : Value) (r :
         body : Renders s b o (over (set.turned l.rc c) l) l₂ (λ g R. render_or_nothing (render_body g R T))
         body = body_drawn s b o (over (set.turned l.rc c) l) l₂ (template_at 16 d (bits b) p) unnamed D
 
-        pub each_stopped : (l₂.rc.bad ≡ 0 → ⊥) → Renders s b o w l₂ (each_rule s b w d at p v)
+        pub each_stopped : (l₂.rc.bad ≡ None → ⊥) → Renders s b o w l₂ (each_rule s b w d at p v)
         each_stopped n = renders_named l₂ (each_stop s b o w r v q.stands ns T l k E.going E.anew E.scope item key object last E.next item_fits key_fits l₂ body n)
 
-        module _ (e : l₂.rc.bad ≡ 0) where
+        module _ (e : l₂.rc.bad ≡ None) where
           text : Bytes
           text = ((D.at 32 (omega arith)).fine e).text
 

@@ -1,5 +1,5 @@
 -- The turns of `each` by the code's cursor: v is the value, ns are the block names.
-use Rattle.std.specs.Prelude.{ℕ, zero, suc, ◌+◌, ◌-◌, ◌≤◌, ◌<◌, Bool, true, false, List, [], ◌∷◌, ◌≡◌, eqb, leb, length, drop, get_or}
+use Rattle.std.specs.Prelude.{None, ℕ, zero, suc, ◌+◌, ◌-◌, ◌≤◌, ◌<◌, Bool, true, false, List, [], ◌∷◌, ◌≡◌, eqb, leb, length, drop, get_or}
 use Rattle.std.proofs.Math.Option.{Option, none, some}
 use Rattle.std.proofs.Math.Path.{refl}
 use Rattle.std.proofs.Common.{sym, ap, ap₂, ◌∙◌, subst, arith, get_or-set_same}
@@ -130,13 +130,13 @@ module _ (s b : Bytes) (o : Options) (w : World) (r : Ready s b w) (v : Value) (
     each_ready = (turning_within s b o w r F (each_turns J) (create_block Z) T l k G I.turn here c there refl refl refl refl merged covers is).ready
 
     module _ (l₂ : World) (d : Renders s b o l₁ l₂ (λ g R. render_or_nothing (render_body g R T))) where
-      pub each_stop : (l₂.rc.bad ≡ 0 → ⊥) → (f : ℕ) → 32 ≤ f + w.rc.used
+      pub each_stop : (l₂.rc.bad ≡ None → ⊥) → (f : ℕ) → 32 ≤ f + w.rc.used
           → Draws s b w l₂ (pop_block after turns F (render_or_nothing (render_body (registry_of s b o (length w.page)) (render_template (registry_of s b o (length w.page)) f) T)) (each_turns J) (push_block (create_block Z) (abs s b w)))
       each_stop n f le = turning_stop s b o w r F (each_turns J) (create_block Z) T l k G I.turn here c there refl refl refl refl merged covers is l₂ d n f le
 
-      pub each_more : l₂.rc.bad ≡ 0 → Going l₂ (suc k)
+      pub each_more : l₂.rc.bad ≡ None → Going l₂ (suc k)
       each_more e = turning_more s b o w r F (each_turns J) (create_block Z) T l k G I.turn here c there refl refl refl refl merged covers is l₂ d e
 
-      pub each_more_block : (e : l₂.rc.bad ≡ 0) → (each_more e).block ≡ context_of s b l₂.ent (front l₂)
+      pub each_more_block : (e : l₂.rc.bad ≡ None) → (each_more e).block ≡ context_of s b l₂.ent (front l₂)
       unfolding each_more
       each_more_block e = more_block s b o w r F (each_turns J) (create_block Z) T l k G I.turn here c there refl refl refl refl merged covers is l₂ d e

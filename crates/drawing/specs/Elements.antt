@@ -1,5 +1,5 @@
 -- An element by its kind.
-use Rattle.std.specs.Prelude.{ℕ, Bool, [], ◌≡◌, refl}
+use Rattle.std.specs.Prelude.{ℕ, Bool, [], ◌≡◌, refl, Option as RustOption, Some, None}
 use Rattle.std.proofs.Math.Option.{Option, none, some}
 use Rattle.std.proofs.Common.{sym, ap, ◌∙◌}
 use Rattle.std.proofs.Math.Path.{subst}
@@ -11,8 +11,6 @@ use Rattle.rules.specs.Output.{indent_aware_write}
 use Rattle.rules.specs.Partial.{Rendering}
 use Rattle.rules.specs.Render.{render_body, render_element, render_html_expression, render_expression, render_helper, eval_decorator, render_partial_element}
 use Rattle.layout.specs.Text.{text_at}
-use Rattle.parts.specs.declared.Maybe.{Maybe}
-use Rattle.parts.specs.declared.Maybe.TheVariants.{At, Nothing}
 use Rattle.parts.specs.Says.{names_at, indent_says}
 use Rattle.calls.specs.Calls.{call_at}
 use Rattle.template.specs.declared.Element.{Element}
@@ -40,26 +38,26 @@ module _ (s b : Bytes) (o : Options) (w w' : World) (d : ℕ) (e : Element) wher
   unfolding render_element
   element_expression p f q h = subst Drawn (sym q) (record { at = h.at })
 
-  pub element_helper : (p n : ℕ) (t i : Maybe) (f : Bool) → e ≡ kind.HelperBlock p n t i f
+  pub element_helper : (p n : ℕ) (t i : RustOption ℕ) (f : Bool) → e ≡ kind.HelperBlock p n t i f
       → Renders s b o w w' (λ g R. render_helper g (call_at d (bits b) p) f (names_at (bits b) n) (render_body g R (body_says 16 d (bits b) t)) (render_body g R (body_says 16 d (bits b) i))) → Drawn e
   unfolding render_element
   element_helper p n t i f q h = subst Drawn (sym q) (record { at = h.at })
 
-  pub element_decorator : (p : ℕ) (i : Maybe) (f : Bool) → e ≡ kind.DecoratorExpression p i f → Renders s b o w w' (λ g R. eval_decorator g (call_at d (bits b) p) none (indent_says (bits b) i)) → Drawn e
+  pub element_decorator : (p : ℕ) (i : RustOption ℕ) (f : Bool) → e ≡ kind.DecoratorExpression p i f → Renders s b o w w' (λ g R. eval_decorator g (call_at d (bits b) p) none (indent_says (bits b) i)) → Drawn e
   unfolding render_element
   element_decorator p i f q h = subst Drawn (sym q) (record { at = h.at })
 
-  pub element_decorated : (p t : ℕ) (i : Maybe) (f : Bool) → e ≡ kind.DecoratorBlock p t i f → Renders s b o w w' (λ g R. eval_decorator g (call_at d (bits b) p) (some (template_at 16 d (bits b) t)) (indent_says (bits b) i)) → Drawn e
+  pub element_decorated : (p t : ℕ) (i : RustOption ℕ) (f : Bool) → e ≡ kind.DecoratorBlock p t i f → Renders s b o w w' (λ g R. eval_decorator g (call_at d (bits b) p) (some (template_at 16 d (bits b) t)) (indent_says (bits b) i)) → Drawn e
   unfolding render_element
   element_decorated p t i f q h = subst Drawn (sym q) (record { at = h.at })
 
-  pub element_partial : (p : ℕ) (i : Maybe) (f : Bool) → e ≡ kind.PartialExpression p i f
-      → Renders s b o w w' (λ g R. render_partial_element g R (call_at d (bits b) p) (render_body g R (body_says 16 d (bits b) Nothing)) (indent_says (bits b) i) f) → Drawn e
+  pub element_partial : (p : ℕ) (i : RustOption ℕ) (f : Bool) → e ≡ kind.PartialExpression p i f
+      → Renders s b o w w' (λ g R. render_partial_element g R (call_at d (bits b) p) (render_body g R (body_says 16 d (bits b) None)) (indent_says (bits b) i) f) → Drawn e
   unfolding render_element render_body
   element_partial p i f q h = subst Drawn (sym q) (record { at = h.at })
 
-  pub element_partial_block : (p t : ℕ) (i : Maybe) (f : Bool) → e ≡ kind.PartialBlock p t i f
-      → Renders s b o w w' (λ g R. render_partial_element g R (call_at d (bits b) p) (render_body g R (body_says 16 d (bits b) (At t))) (indent_says (bits b) i) f) → Drawn e
+  pub element_partial_block : (p t : ℕ) (i : RustOption ℕ) (f : Bool) → e ≡ kind.PartialBlock p t i f
+      → Renders s b o w w' (λ g R. render_partial_element g R (call_at d (bits b) p) (render_body g R (body_says 16 d (bits b) (Some t))) (indent_says (bits b) i) f) → Drawn e
   unfolding render_element render_body
   element_partial_block p t i f q h = subst Drawn (sym q) (record { at = h.at })
 

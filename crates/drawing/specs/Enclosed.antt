@@ -1,5 +1,5 @@
 -- A partial whose scope is open: its block text, its indent, and its body.
-use Rattle.std.specs.Prelude.{ℕ, zero, suc, ◌+◌, ◌-◌, ◌≤◌, ◌<◌, Bool, true, false, ◌||◌, List, [], ◌≡◌, refl, take}
+use Rattle.std.specs.Prelude.{ℕ, zero, suc, ◌+◌, ◌-◌, ◌≤◌, ◌<◌, Bool, true, false, ◌||◌, List, [], ◌≡◌, refl, take, Option as RustOption, Some, None}
 use Rattle.std.proofs.Math.Option.{Option, none, some}
 use Rattle.std.proofs.Math.Path.{sym, ap, ap₂, subst}
 use Rattle.std.proofs.Common.{◌∙◌, arith, length-take}
@@ -17,8 +17,6 @@ use Rattle.rules.specs.BlockUtil.{Drawable}
 use Rattle.rules.specs.Partial.{Rendering, cleanup, take_text, block_text_of, render_partial}
 use Rattle.rules.specs.Render.{join_indent, is_some, render_body, render_elements, render_template}
 use Rattle.output.proofs.Texts.{take_sets}
-use Rattle.parts.specs.declared.Maybe.{Maybe}
-use Rattle.parts.specs.declared.Maybe.TheVariants.{At, Nothing}
 use Rattle.parts.specs.Says.{indent_says}
 use Rattle.template.specs.Views.{template_at, body_says}
 use Rattle.expand.specs.declared.Options.{Options}
@@ -34,17 +32,17 @@ use Rattle.texts.specs.Drawing.{draws_text_stop}
 use Rattle.inlining.specs.Decorated.{is_at}
 use Rattle.drawing.specs.Renders.{registry_of, Named, Renders, Joins, joined, target, Concludes, TextDrawn, BodyDrawn}
 
-pub own_says : (b : Bytes) (m : Maybe) → own (bits b) m ≡ indent_says (bits b) m
-own_says b (At p) = refl
-own_says b Nothing = refl
+pub own_says : (b : Bytes) (m : RustOption ℕ) → own (bits b) m ≡ indent_says (bits b) m
+own_says b (Some p) = refl
+own_says b None = refl
 
-own_at : (b : Bytes) (m : Maybe) → is_some (indent_says (bits b) m) ≡ is_at m
-own_at b (At p) = refl
-own_at b Nothing = refl
+own_at : (b : Bytes) (m : RustOption ℕ) → is_some (indent_says (bits b) m) ≡ is_at m
+own_at b (Some p) = refl
+own_at b None = refl
 
 -- `include_body`: w₁ has the block text settled
 
-module _ (s b : Bytes) (o : Options) (w₁ : World) (q e n : ℕ) (at : Maybe) (named : Named b n) (joins : Joins b w₁ at) (r₁ : Ready s b w₁) where
+module _ (s b : Bytes) (o : Options) (w₁ : World) (q e n : ℕ) (at : RustOption ℕ) (named : Named b n) (joins : Joins b w₁ at) (r₁ : Ready s b w₁) where
   abbrev m : ℕ
   m = w₁.rc.writer.indent + text_size (indent_says (bits b) at)
 
@@ -60,10 +58,10 @@ module _ (s b : Bytes) (o : Options) (w₁ : World) (q e n : ℕ) (at : Maybe) (
   abbrev w₃ : World
   w₃ = over (with_template w₂.rc n) w₂
 
-  absent_is : (x : Bool) (a : Maybe) → (x ≡ false → w₁.rc.writer.indent ≡ 0) → (x || is_at a) ≡ false → w₁.rc.writer.indent + text_size (indent_says (bits b) a) ≡ 0
+  absent_is : (x : Bool) (a : RustOption ℕ) → (x ≡ false → w₁.rc.writer.indent ≡ 0) → (x || is_at a) ≡ false → w₁.rc.writer.indent + text_size (indent_says (bits b) a) ≡ 0
   absent_is true a f z = let k : ◌≡◌ {A = ℕ} 0 1 = cc in absurd (omega arith)
-  absent_is false (At p) f z = let k : ◌≡◌ {A = ℕ} 0 1 = cc in absurd (omega arith)
-  absent_is false Nothing f z = omega (arith, f refl)
+  absent_is false (Some p) f z = let k : ◌≡◌ {A = ℕ} 0 1 = cc in absurd (omega arith)
+  absent_is false None f z = omega (arith, f refl)
 
   module _ (w : World) (r : Ready s b w) (h : Included s b w w₁) (same-has : w₁.rc.writer.has_indent ≡ w.rc.writer.has_indent) (same_indent : w₁.rc.writer.indent ≡ w.rc.writer.indent) where
     pub inside : Included s b w w₂
@@ -106,12 +104,12 @@ module _ (s b : Bytes) (o : Options) (w₁ : World) (q e n : ℕ) (at : Maybe) (
 
 -- `include_text`
 
-module _ (s b : Bytes) (o : Options) (w₁ : World) (d q e n : ℕ) (at : Maybe) where
+module _ (s b : Bytes) (o : Options) (w₁ : World) (d q e n : ℕ) (at : RustOption ℕ) where
   abbrev G : Registry
   G = registry_of s b o (length w₁.page)
 
   -- without a text
-  pub text_nothing : (w₆ : World) → BodyDrawn s b o (text_none w₁) w₆ q e n at → TextDrawn s b o w₁ w₆ d q e n Nothing at
+  pub text_nothing : (w₆ : World) → BodyDrawn s b o (text_none w₁) w₆ q e n at → TextDrawn s b o w₁ w₆ d q e n None at
   unfolding render_body block_text_of render_partial
   text_nothing w₆ D = record {
     at = λ w r h nb nt f k le ge.
@@ -134,7 +132,7 @@ module _ (s b : Bytes) (o : Options) (w₁ : World) (d q e n : ℕ) (at : Maybe)
     own_is : (f : ℕ) → O f (abs s b (text_begun w₁)) ≡ begun f
     own_is f = ap (O f) (abs_begun s b w₁)
 
-    pub text_refused : (w₃.rc.bad ≡ 0 → ⊥) → TextDrawn s b o w₁ w₃ d q e n (At p) at
+    pub text_refused : (w₃.rc.bad ≡ None → ⊥) → TextDrawn s b o w₁ w₃ d q e n (Some p) at
     unfolding render_body block_text_of
     text_refused z = record {
       at = λ w r h nb nt f k le ge.
@@ -142,7 +140,7 @@ module _ (s b : Bytes) (o : Options) (w₁ : World) (d q e n : ℕ) (at : Maybe)
           record { fine = λ y. absurd (z y); refused = λ y. x };
     }
 
-    pub text_drawn : w₃.rc.bad ≡ 0 → (w₆ : World) → BodyDrawn s b o (text_done w₁ w₃) w₆ q e n at → TextDrawn s b o w₁ w₆ d q e n (At p) at
+    pub text_drawn : w₃.rc.bad ≡ None → (w₆ : World) → BodyDrawn s b o (text_done w₁ w₃) w₆ q e n at → TextDrawn s b o w₁ w₆ d q e n (Some p) at
     unfolding render_body block_text_of render_partial take_text
     text_drawn z w₆ B = record {
       at = λ w r h nb nt f k le ge.

@@ -1,6 +1,6 @@
 -- `expand_partial`: what a partial's name stands for, and the marks around it.
 use Prim.Native.Nat.{ℕ, zero, suc, ◌+◌, ◌-◌, ◌≤◌, ◌<◌}
-use Rattle.std.specs.Prelude.{Bool, ◌&&◌, ◌||◌, List, [], ◌≡◌, length}
+use Rattle.std.specs.Prelude.{Bool, ◌&&◌, ◌||◌, List, [], ◌≡◌, length, Option as RustOption, Some, None}
 use Rattle.std.proofs.Math.Bool.{true, false}
 use Rattle.std.proofs.Math.Option.{Option, none, some}
 use Rattle.std.proofs.Math.Path.{refl, ap, ap₂, subst}
@@ -20,8 +20,6 @@ use Rattle.rules.specs.BlockUtil.{Drawable}
 use Rattle.rules.specs.Expand.{try_from_template}
 use Rattle.rules.specs.Partial.{Rendering, get_partial, find_partial, hash_ctx, partial_context, include, include_found, is_current_template, render_partial_block, expand_partial, block_text_of}
 use Rattle.rules.specs.Render.{indent_aware, join_indent, indent_fits, is_some, render_partial_element, render_body, render_elements, render_template}
-use Rattle.parts.specs.declared.Maybe.{Maybe}
-use Rattle.parts.specs.declared.Maybe.TheVariants.{At, Nothing}
 use Rattle.parts.specs.Holds.{value}
 use Rattle.parts.specs.Says.{indent_says}
 use Rattle.calls.specs.Calls.{call_at}
@@ -43,18 +41,19 @@ use Rattle.drawing.specs.Parts.{before_partial}
 use Rattle.drawing.specs.Renders.{registry_of, Renders, Worked, joined, PartialDrawn, IncludeDrawn, target}
 use Rattle.drawing.specs.Members.{setting}
 use Rattle.drawing.specs.Helping.{not_worked}
+use Rattle.error.specs.declared.RenderErrorReason.TheVariants.{CannotIncludeSelf, IndentLimit, PartialNotFound}
 
 pub names_agree : (b : Bytes) (n : ℕ) → template_name (bits b) n ≡ name_at b n
 names_agree b zero = refl
 names_agree b (suc n) = refl
 
-is_own : (b : Bytes) (m : Maybe) → is_some (indent_says (bits b) m) ≡ is_at m
-is_own b (At p) = refl
-is_own b Nothing = refl
+is_own : (b : Bytes) (m : RustOption ℕ) → is_some (indent_says (bits b) m) ≡ is_at m
+is_own b (Some p) = refl
+is_own b None = refl
 
 -- `render_partial`: the element
 
-module _ (s b : Bytes) (o : Options) (w : World) (r : Ready s b w) (d p : ℕ) (c : template.Call) (at : Maybe) (own : Maybe) (before : Bool) (x : Expanded)
+module _ (s b : Bytes) (o : Options) (w : World) (r : Ready s b w) (d p : ℕ) (c : template.Call) (at : RustOption ℕ) (own : RustOption ℕ) (before : Bool) (x : Expanded)
     (worked : IsTemplate s b w.ent (top w) (try_from_template (registry_of s b o (length w.page)) (abs s b w) c) x) where
   abbrev g : Registry
   g = registry_of s b o (length w.page)
@@ -73,11 +72,11 @@ module _ (s b : Bytes) (o : Options) (w : World) (r : Ready s b w) (d p : ℕ) (
       choose (indent_fits g (joined s b w at)) (λ _.
       indent_aware (before && ((abs s b w).seen.marks.trailing_newline || is_some (indent_says (bits b) at))) (expand_partial g (R f) (O f) e (joined s b w at)) (abs s b w)) (λ _. fail indent-limit)
 
-  pub partial_stop : (x.bad ≡ 0 → ⊥) → Renders s b o w (over (failed w.rc x.bad) w) rule
+  pub partial_stop : (x.bad ≡ None → ⊥) → Renders s b o w (over (failed w.rc x.bad) w) rule
   unfolding render_partial_element
   partial_stop n = record { at = λ f le. not_worked s b o w r (try_from_template g (abs s b w) c) x.bad (worked.refused n) (after f) }
 
-  module _ (fine : x.bad ≡ 0) where
+  module _ (fine : x.bad ≡ None) where
     abbrev e : block-util.Expanded
     e = (worked.fine fine).0
 
@@ -85,12 +84,12 @@ module _ (s b : Bytes) (o : Options) (w : World) (r : Ready s b w) (d p : ℕ) (
     unfolding render_partial_element or_fail
     unfolded f = ap (λ q. or_fail q (after f)) (worked.fine fine).1
 
-    pub partial_too_long : indent_fits g (joined s b w at) ≡ false → Renders s b o w (over (failed w.rc 21) w) rule
+    pub partial_too_long : indent_fits g (joined s b w at) ≡ false → Renders s b o w (over (failed w.rc (Some IndentLimit)) w) rule
     unfolding choose
     partial_too_long q = record {
       at = λ f le.
-          subst (Draws s b w (over (failed w.rc 21) w)) (sym (unfolded f ∙ ap (λ (y : Bool). choose y (λ _. indent_aware (before && ((abs s b w).seen.marks.trailing_newline || is_some (indent_says (bits b) at))) (expand_partial g (R f) (O f) e (joined s b w at)) (abs s b w)) (λ _. fail indent-limit)) q))
-          (draws_fail s b w (over (failed w.rc 21) w) indent-limit refl r.nowhere r.nameless);
+          subst (Draws s b w (over (failed w.rc (Some IndentLimit)) w)) (sym (unfolded f ∙ ap (λ (y : Bool). choose y (λ _. indent_aware (before && ((abs s b w).seen.marks.trailing_newline || is_some (indent_says (bits b) at))) (expand_partial g (R f) (O f) e (joined s b w at)) (abs s b w)) (λ _. fail indent-limit)) q))
+          (draws_fail s b w (over (failed w.rc (Some IndentLimit)) w) indent-limit refl r.nowhere r.nameless);
     }
 
     abbrev w₁ : World
@@ -117,15 +116,15 @@ module _ (s b : Bytes) (o : Options) (w : World) (r : Ready s b w) (d p : ℕ) (
       inner : (f : ℕ) → 32 ≤ f + w.rc.used → Draws s b w₁ w₂ (expand_partial g (R f) (O f) e (joined s b w at) (abs s b w₁))
       inner f le = subst (λ (i : Option Bytes). Draws s b w₁ w₂ (expand_partial g (R f) (O f) e i (abs s b w₁))) same_indent (D.at f le e (partial_worked q))
 
-      pub partial_refused : (w₂.rc.bad ≡ 0 → ⊥) → Renders s b o w w₂ rule
+      pub partial_refused : (w₂.rc.bad ≡ None → ⊥) → Renders s b o w w₂ rule
       partial_refused n = record { at = λ f le. subst (Draws s b w w₂) (sym (whole f)) (aware_stop s b w w₂ r (before_partial w.rc.writer at before) (expand_partial g (R f) (O f) e (joined s b w at)) (inner f le) n) }
 
-      pub partial_done : w₂.rc.bad ≡ 0 → Renders s b o w (over (settled w₂.rc w.rc.writer) w₂) rule
+      pub partial_done : w₂.rc.bad ≡ None → Renders s b o w (over (settled w₂.rc w.rc.writer) w₂) rule
       partial_done z = record { at = λ f le. subst (Draws s b w (over (settled w₂.rc w.rc.writer) w₂)) (sym (whole f)) (aware_done s b w w₂ r (before_partial w.rc.writer at before) (expand_partial g (R f) (O f) e (joined s b w at)) (inner f le) z) }
 
 -- `expand_partial`
 
-module _ (s b : Bytes) (o : Options) (w : World) (r : Ready s b w) (d p : ℕ) (x : Expanded) (own at : Maybe) where
+module _ (s b : Bytes) (o : Options) (w : World) (r : Ready s b w) (d p : ℕ) (x : Expanded) (own at : RustOption ℕ) where
   abbrev G : Registry
   G = registry_of s b o (length w.page)
 
@@ -142,10 +141,10 @@ module _ (s b : Bytes) (o : Options) (w : World) (r : Ready s b w) (d p : ℕ) (
   unfolding expand_partial
   not_self f e y q = ap (λ (z : Bool). choose z (λ _. fail cannot-include-self) (λ _. by_name f e)) q
 
-  pub includes_self : ((e : block-util.Expanded) → Worked s b o w d p x e → is_current_template (abs s b w).seen.current_template e.name ≡ true) → PartialDrawn s b o w (over (failed w.rc 17) w) d p x own at
+  pub includes_self : ((e : block-util.Expanded) → Worked s b o w d p x e → is_current_template (abs s b w).seen.current_template e.name ≡ true) → PartialDrawn s b o w (over (failed w.rc (Some CannotIncludeSelf)) w) d p x own at
   unfolding choose
   includes_self q = record {
-    at = λ f le e k. subst (Draws s b w (over (failed w.rc 17) w)) (sym (not_self f e true (q e k))) (draws_fail s b w (over (failed w.rc 17) w) cannot-include-self refl r.nowhere r.nameless);
+    at = λ f le e k. subst (Draws s b w (over (failed w.rc (Some CannotIncludeSelf)) w)) (sym (not_self f e true (q e k))) (draws_fail s b w (over (failed w.rc (Some CannotIncludeSelf)) w) cannot-include-self refl r.nowhere r.nameless);
   }
 
   module _ (other : (e : block-util.Expanded) → Worked s b o w d p x e → is_current_template (abs s b w).seen.current_template e.name ≡ false) where
@@ -186,21 +185,21 @@ module _ (s b : Bytes) (o : Options) (w : World) (r : Ready s b w) (d p : ℕ) (
         }
 
       -- nothing is found
-      pub found_nothing : v ≡ found.Nothing → own ≡ Nothing → PartialDrawn s b o w (over (failed w.rc 12) w) d p x own at
+      pub found_nothing : v ≡ found.Nothing → own ≡ None → PartialDrawn s b o w (over (failed w.rc (Some PartialNotFound)) w) d p x own at
       unfolding include_found render_body
       found_nothing a c = record {
         at = λ f le y k.
-            subst (Draws s b w (over (failed w.rc 12) w))
-            (sym (whole_by f y k ∙ ap₂ (λ (z : Found) (m : Maybe). include_found G (drawn (bits b) (render_template G f) z) (render_body G (render_template G f) (body_says 16 d (bits b) m)) y (joined s b w at) (abs s b w)) a c))
-            (draws_fail s b w (over (failed w.rc 12) w) partial-not-found refl r.nowhere r.nameless);
+            subst (Draws s b w (over (failed w.rc (Some PartialNotFound)) w))
+            (sym (whole_by f y k ∙ ap₂ (λ (z : Found) (m : RustOption ℕ). include_found G (drawn (bits b) (render_template G f) z) (render_body G (render_template G f) (body_says 16 d (bits b) m)) y (joined s b w at) (abs s b w)) a c))
+            (draws_fail s b w (over (failed w.rc (Some PartialNotFound)) w) partial-not-found refl r.nowhere r.nameless);
       }
 
       -- the element's own body, which then is no block text
-      pub found_own : v ≡ found.Nothing → (q : ℕ) → own ≡ At q → (w₂ : World) → IncludeDrawn s b o w w₂ d p x q d 0 Nothing at → PartialDrawn s b o w w₂ d p x own at
+      pub found_own : v ≡ found.Nothing → (q : ℕ) → own ≡ Some q → (w₂ : World) → IncludeDrawn s b o w w₂ d p x q d 0 None at → PartialDrawn s b o w w₂ d p x own at
       unfolding include_found render_body include block_text_of
       found_own a q c w₂ D = record {
         at = λ f le y k.
             subst (Draws s b w w₂)
-            (sym (whole_by f y k ∙ ap₂ (λ (z : Found) (m : Maybe). include_found G (drawn (bits b) (render_template G f) z) (render_body G (render_template G f) (body_says 16 d (bits b) m)) y (joined s b w at) (abs s b w)) a c))
+            (sym (whole_by f y k ∙ ap₂ (λ (z : Found) (m : RustOption ℕ). include_found G (drawn (bits b) (render_template G f) z) (render_body G (render_template G f) (body_says 16 d (bits b) m)) y (joined s b w at) (abs s b w)) a c))
             (D.at f f (omega arith) (omega arith) y k (target G f b q d 0) (λ lt. refl));
       }

@@ -1,5 +1,5 @@
 -- A partial that was found: what it works out, and its scope.
-use Rattle.std.specs.Prelude.{ℕ, suc, ◌+◌, ◌-◌, ◌*◌, ◌≤◌, ◌<◌, Bool, List, [], ◌∷◌, ◌≡◌, eqb, length, get_or}
+use Rattle.std.specs.Prelude.{ℕ, suc, ◌+◌, ◌-◌, ◌*◌, ◌≤◌, ◌<◌, Bool, List, [], ◌∷◌, ◌≡◌, eqb, length, get_or, Some}
 use Rattle.std.proofs.Math.Bool.{true, false}
 use Rattle.std.proofs.Math.Option.{Option, none, some}
 use Rattle.std.proofs.Math.Path.{refl, ap, subst}
@@ -41,6 +41,7 @@ use Rattle.state.specs.Laws.{draws_fail}
 use Rattle.state.specs.Steps.{Within, abs_open, within_open, depth_abs}
 use Rattle.state.specs.Entries.{abs_entries, ready_entries, within_entries}
 use Rattle.drawing.specs.Renders.{registry_of}
+use Rattle.error.specs.declared.RenderErrorReason.TheVariants.{EntriesLimit, ScopesLimit}
 
 -- h is the hash and j the base by the rules; l has the numbers of the hash values; st has the scopes of w
 module _ (s b : Bytes) (o : Options) (w : World) (r : Ready s b w) (base : Value) (l : List ℕ) (d p n : ℕ) (st : rules.RenderContext) (same : blocks st ≡ blocks (abs s b w)) (j : Json) (h : List (Bytes × Json))
@@ -70,8 +71,8 @@ module _ (s b : Bytes) (o : Options) (w : World) (r : Ready s b w) (base : Value
       ap (λ (y : Bool). choose y (λ _. choose (ltb (depth (abs s b w)) 32) (λ _. inside) (λ _. fail scopes-limit)) (λ _. fail entries-limit)) e
 
   -- the pairs alone are too many
-  pub too_many_pairs : 4096 < top w + n → Draws s b w (over (failed w.rc 22) w) drawn
-  too_many_pairs lt = subst (Draws s b w (over (failed w.rc 22) w)) (sym (over_entries (omega (arith, taken, r.enough)))) (draws_fail s b w (over (failed w.rc 22) w) entries-limit refl r.nowhere r.nameless)
+  pub too_many_pairs : 4096 < top w + n → Draws s b w (over (failed w.rc (Some EntriesLimit)) w) drawn
+  too_many_pairs lt = subst (Draws s b w (over (failed w.rc (Some EntriesLimit)) w)) (sym (over_entries (omega (arith, taken, r.enough)))) (draws_fail s b w (over (failed w.rc (Some EntriesLimit)) w) entries-limit refl r.nowhere r.nameless)
 
   module _ (I : Includes s b w.ent (top w) base l d p n (front w) st j h) where
     abbrev ent : List ℕ
@@ -83,15 +84,15 @@ module _ (s b : Bytes) (o : Options) (w : World) (r : Ready s b w) (base : Value
     abbrev c : Scope
     c = included base (top w) n (front w)
 
-    pub too_many_entries : 4096 < w.rc.total + m → Draws s b w (over (failed w.rc 22) w₀) drawn
-    too_many_entries lt = subst (Draws s b w (over (failed w.rc 22) w₀)) (sym (over_entries lt)) (draws_fail s b w (over (failed w.rc 22) w₀) entries-limit refl r.nowhere r.nameless)
+    pub too_many_entries : 4096 < w.rc.total + m → Draws s b w (over (failed w.rc (Some EntriesLimit)) w₀) drawn
+    too_many_entries lt = subst (Draws s b w (over (failed w.rc (Some EntriesLimit)) w₀)) (sym (over_entries lt)) (draws_fail s b w (over (failed w.rc (Some EntriesLimit)) w₀) entries-limit refl r.nowhere r.nameless)
 
-    pub too_many_scopes : w.rc.total + m ≤ 4096 → 32 ≤ w.rc.used → Draws s b w (over (failed w.rc 23) w₀) drawn
+    pub too_many_scopes : w.rc.total + m ≤ 4096 → 32 ≤ w.rc.used → Draws s b w (over (failed w.rc (Some ScopesLimit)) w₀) drawn
     unfolding choose
     too_many_scopes le ge =
         let e : ltb (depth (abs s b w)) 32 ≡ false = le-ltb (depth (abs s b w)) 32 (omega (arith, depth_abs s b w r.one)) in
-        subst (Draws s b w (over (failed w.rc 23) w₀)) (sym (within_entries_limit le ∙ ap (λ (y : Bool). choose y (λ _. inside) (λ _. fail scopes-limit)) e))
-        (draws_fail s b w (over (failed w.rc 23) w₀) scopes-limit refl r.nowhere r.nameless)
+        subst (Draws s b w (over (failed w.rc (Some ScopesLimit)) w₀)) (sym (within_entries_limit le ∙ ap (λ (y : Bool). choose y (λ _. inside) (λ _. fail scopes-limit)) e))
+        (draws_fail s b w (over (failed w.rc (Some ScopesLimit)) w₀) scopes-limit refl r.nowhere r.nameless)
 
     -- the names of its scope can be read
     pub include_readable : w.rc.total + m ≤ 4096 → Readable b ent c

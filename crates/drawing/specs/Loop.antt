@@ -1,5 +1,5 @@
 -- Drawing the elements of a body one by one.
-use Rattle.std.specs.Prelude.{ℕ, zero, suc, ◌+◌, ◌-◌, ◌≤◌, ◌<◌, List, [], ◌∷◌, ◌++◌, ◌≡◌, refl, length, drop}
+use Rattle.std.specs.Prelude.{ℕ, zero, suc, ◌+◌, ◌-◌, ◌≤◌, ◌<◌, List, [], ◌∷◌, ◌++◌, ◌≡◌, refl, length, drop, None}
 use Rattle.std.proofs.Common.{append_assoc, append-nil, sym, ap₂, ◌∙◌, subst, arith}
 use Rattle.std.proofs.Math.Option.{Option}
 use Rattle.std.proofs.Math.Path.{ap}
@@ -32,7 +32,7 @@ goes_text s b u v w w' g h =
     sym (drop-append_seam x u) ∙ ap (drop (length x)) (sym (g.grows.text 0 (omega arith)) ∙ h.grows.text 0 (omega arith)) ∙ drop-append_seam x v
 
 -- what is drawn, and what it wrote by any other account
-pub drawn_as : (s b v : Bytes) (w w' : World) (x : Res) → Draws s b w w' x → w'.rc.bad ≡ 0 → Goes s b v w w' → x ≡ ok (abs s b w') v
+pub drawn_as : (s b v : Bytes) (w w' : World) (x : Res) → Draws s b w w' x → w'.rc.bad ≡ None → Goes s b v w w' → x ≡ ok (abs s b w') v
 drawn_as s b v w w' x d e g = let y = d.fine e in y.is ∙ ap (ok (abs s b w')) (goes_text s b y.text v w w' y.goes g)
 
 pub prefixed_nothing : (x : Res) → prefixed [] x ≡ x
@@ -112,7 +112,7 @@ module _ (s b : Bytes) (o : Options) (n : Option Bytes) (w : World) where
       unfolding render_elements
       unrolled f le = D.rest f le ∙ ap (λ (t : Template). prefixed D.text (render_elements g (R f) n t (abs s b l))) (elements_here 16 d (bits b) count i p z D.passed h v hv)
 
-      pub drawing_stop : (k : ℕ) → n ≡ name_at b k → (l'.rc.bad ≡ 0 → ⊥) → Renders s b o w (over (set.located l'.rc k v.line v.column) l') (λ g R. render_elements g R n T)
+      pub drawing_stop : (k : ℕ) → n ≡ name_at b k → (l'.rc.bad ≡ None → ⊥) → Renders s b o w (over (set.located l'.rc k v.line v.column) l') (λ g R. render_elements g R n T)
       unfolding ◌then◌ prefixed
       drawing_stop k e bad = record {
         at = λ f le.
@@ -125,7 +125,7 @@ module _ (s b : Bytes) (o : Options) (n : Option Bytes) (w : World) where
             };
       }
 
-      pub drawing_more : l'.rc.bad ≡ 0 → Drawing s b o n T d count z w l' (i + 1) v.next
+      pub drawing_more : l'.rc.bad ≡ None → Drawing s b o n T d count z w l' (i + 1) v.next
       unfolding ◌then◌ located
       drawing_more e =
           let y = (one 32 (omega arith)).fine e in

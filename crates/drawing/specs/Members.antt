@@ -1,10 +1,9 @@
 -- What the members of the drawing cite, over plain variables.
-use Rattle.std.specs.Prelude.{ℕ, zero, suc, ◌+◌, ◌-◌, ◌≤◌, ◌<◌, Bool, true, false, List, [], ◌≡◌, refl, length}
+use Rattle.std.specs.Prelude.{ℕ, zero, suc, ◌+◌, ◌-◌, ◌≤◌, ◌<◌, Bool, true, false, List, [], ◌≡◌, refl, length, Option as RustOption}
 use Rattle.std.proofs.Math.Option.{Option, none, some}
 use Rattle.std.proofs.Common.{sym, ap, ◌∙◌, subst, arith}
 use Rattle.rules.specs.Bytes.{Bytes, pick}
 use Rattle.rules.specs.Bits.{bits}
-use Rattle.rules.specs.Error.{RenderErrorReason, number}
 use Rattle.rules.specs.Template as template
 use Rattle.rules.specs.State as rules
 use Rattle.rules.specs.State.{Res, ok, err, Draw, fail, set_current_template_name}
@@ -22,6 +21,8 @@ use Rattle.state.specs.World.{World, over, top, name_at, abs, Ready, Goes, Draws
 use Rattle.state.specs.Laws.{draws_nothing, draws_fail, draws_from}
 use Rattle.state.specs.Steps.{goes_template, abs_template, blocks_abs, depth_abs}
 use Rattle.drawing.specs.Renders.{registry_of, Renders}
+use Rattle.error.specs.Reasons.{refusal}
+use Rattle.error.specs.declared.RenderErrorReason.{RenderErrorReason as Reason}
 
 -- the registry and the state as the code's leaves know them
 module _ (s b : Bytes) (o : Options) (w : World) (r : Ready s b w) where
@@ -31,9 +32,9 @@ module _ (s b : Bytes) (o : Options) (w : World) (r : Ready s b w) where
   pub setting : (n : ℕ) → Setting s b w.ent w.rc.scopes w.rc.used o (registry_of s b o n) (abs s b w) (top w)
   setting n = record { alike = alike n; plan = refl; recursive = refl; open_scopes = blocks_abs s b w r.one; stand = r.scopes }
 
-  -- a refusal by its number
-  pub draws_failed : (x : Res) (n : ℕ) → Fails x n → Draws s b w (over (failed w.rc n) w) x
-  draws_failed x n f = subst (Draws s b w (over (failed w.rc n) w)) (sym f.is) (draws_fail s b w (over (failed w.rc n) w) f.reason (sym f.by_number) r.nowhere r.nameless)
+  -- a refusal
+  pub draws_failed : (x : Res) (n : RustOption Reason) → Fails x n → Draws s b w (over (failed w.rc n) w) x
+  draws_failed x n f = subst (Draws s b w (over (failed w.rc n) w)) (sym f.is) (draws_fail s b w (over (failed w.rc n) w) f.reason (sym f.by_reason) r.nowhere r.nameless)
 
 -- the same drawing by another rule
 pub renders_as : (s b : Bytes) (o : Options) (w w' : World) (f g : Registry → Rendering → Draw) → ((r : Registry) (R : Rendering) → g r R (abs s b w) ≡ f r R (abs s b w)) → Renders s b o w w' f → Renders s b o w w' g

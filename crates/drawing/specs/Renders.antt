@@ -1,5 +1,5 @@
 -- What a call holds as it draws, and what the members of the drawing promise: s is the plan, b the bundle.
-use Rattle.std.specs.Prelude.{ℕ, suc, ◌+◌, ◌-◌, ◌≤◌, ◌<◌, Bool, false, List, [], ◌≡◌, length}
+use Rattle.std.specs.Prelude.{ℕ, suc, ◌+◌, ◌-◌, ◌≤◌, ◌<◌, Bool, false, List, [], ◌≡◌, length, Option as RustOption, None}
 use Rattle.std.proofs.Math.Option.{Option, none, some}
 use Rattle.rules.specs.Bytes.{Bytes}
 use Rattle.rules.specs.Bits.{bits}
@@ -17,7 +17,6 @@ use Rattle.rules.specs.Expand as expand
 use Rattle.rules.specs.Partial.{Rendering, hash_ctx, partial_context, block_text_of, cleanup, render_partial, include, expand_partial}
 use Rattle.rules.specs.Render.{render_elements, render_body, render_template, join_indent}
 use Rattle.rules.specs.Layout.{field}
-use Rattle.parts.specs.declared.Maybe.{Maybe}
 use Rattle.parts.specs.Holds.{Holds}
 use Rattle.parts.specs.Says.{indent_says}
 use Rattle.calls.specs.Calls.{call_at}
@@ -73,7 +72,7 @@ pub record Openable (s b : Bytes) (w : World) (v : Value) : Type 0 where
   pub room : w.rc.used < 32
 
 abbrev pub Possible : Bytes → Bytes → World → Does → Type 0
-Possible s b w (Bad n) = n ≡ 0 → ⊥
+Possible s b w (Bad n) = Unit {0}
 Possible s b w Nothing = Unit {0}
 Possible s b w Template = Unit {0}
 Possible s b w Inverse = Unit {0}
@@ -100,14 +99,14 @@ abbrev pub SomeWorked : Bytes → Bytes → Options → World → ℕ → ℕ �
 SomeWorked s b o w d p x = (e : block-util.Expanded) × Worked s b o w d p x e
 
 -- the indent in force and the element's own fit together
-abbrev pub Joins : Bytes → World → Maybe → Type 0
+abbrev pub Joins : Bytes → World → RustOption ℕ → Type 0
 Joins b w at = w.rc.writer.indent + text_size (indent_says (bits b) at) ≤ 256
 
-abbrev pub joined : Bytes → Bytes → World → Maybe → Option Bytes
+abbrev pub joined : Bytes → Bytes → World → RustOption ℕ → Option Bytes
 joined s b w at = join_indent (abs s b w).kept.indent_string (indent_says (bits b) at)
 
 -- `expand_partial`
-pub record PartialDrawn (s b : Bytes) (o : Options) (w w' : World) (d p : ℕ) (x : Expanded) (own ind : Maybe) : Type 0 where
+pub record PartialDrawn (s b : Bytes) (o : Options) (w w' : World) (d p : ℕ) (x : Expanded) (own ind : RustOption ℕ) : Type 0 where
   pub at : (f : ℕ) → 32 ≤ f + w.rc.used → (e : block-util.Expanded) → Worked s b o w d p x e
       → Draws s b w w' (expand_partial (registry_of s b o (length w.page)) (render_template (registry_of s b o (length w.page)) f) (render_body (registry_of s b o (length w.page)) (render_template (registry_of s b o (length w.page)) f) (body_says 16 d (bits b) own)) e (joined s b w ind) (abs s b w))
 
@@ -120,7 +119,7 @@ abbrev pub body_rule : Bytes → ℕ → ℕ → ℕ → Registry → Rendering 
 body_rule b d p n g R = render_elements g R (name_at b n) (template_at 16 d (bits b) p)
 
 -- a partial that was found is drawn by D, which is that body where a scope may be opened; own is its block text's body
-pub record IncludeDrawn (s b : Bytes) (o : Options) (w w' : World) (d p : ℕ) (x : Expanded) (q e n : ℕ) (own ind : Maybe) : Type 0 where
+pub record IncludeDrawn (s b : Bytes) (o : Options) (w w' : World) (d p : ℕ) (x : Expanded) (q e n : ℕ) (own ind : RustOption ℕ) : Type 0 where
   pub at : (f k : ℕ) → 32 ≤ f + suc w.rc.used → 32 ≤ k + suc w.rc.used → (y : block-util.Expanded) → Worked s b o w d p x y
       → (D : Draw) → (w.rc.used < 32 → D ≡ target (registry_of s b o (length w.page)) k b q e n)
       → Draws s b w w' (or_fail (partial_context (registry_of s b o (length w.page)) (abs s b w) y.params) (λ j.
@@ -128,17 +127,17 @@ pub record IncludeDrawn (s b : Bytes) (o : Options) (w w' : World) (d p : ℕ) (
 
 -- x is drawn from w₁ on, inside the partial's scope, and ends behind it: w is what it was before, w₂ what is left inside
 pub record Concludes (s b : Bytes) (w w₂ : World) (x : Res) : Type 0 where
-  pub fine : w₂.rc.bad ≡ 0 → Draws s b w (over (cleaned w₂.rc w.rc) w₂) x
-  pub refused : (w₂.rc.bad ≡ 0 → ⊥) → Draws s b w w₂ x
+  pub fine : w₂.rc.bad ≡ None → Draws s b w (over (cleaned w₂.rc w.rc) w₂) x
+  pub refused : (w₂.rc.bad ≡ None → ⊥) → Draws s b w w₂ x
 
 -- the drawing of a partial whose scope is open
-pub record TextDrawn (s b : Bytes) (o : Options) (w₁ w₂ : World) (d q e n : ℕ) (own ind : Maybe) : Type 0 where
+pub record TextDrawn (s b : Bytes) (o : Options) (w₁ w₂ : World) (d q e n : ℕ) (own ind : RustOption ℕ) : Type 0 where
   pub at : (w : World) → Ready s b w → steps.Within s b [] w w₁ → (front w₁).block ≡ 0 → (front w₁).text ≡ 0 → (f k : ℕ) → 32 ≤ f + w₁.rc.used → 32 ≤ k + w₁.rc.used
       → Concludes s b w w₂ (block_text_of (some (target (registry_of s b o (length w₁.page)) k b q e n)) (render_body (registry_of s b o (length w₁.page)) (render_template (registry_of s b o (length w₁.page)) f) (body_says 16 d (bits b) own))
       (render_partial (abs s b w).seen.current_template (abs s b w).kept.indent_string (joined s b w ind) (target (registry_of s b o (length w₁.page)) k b q e n)) (abs s b w₁))
 
 -- the same where its block text is settled
-pub record BodyDrawn (s b : Bytes) (o : Options) (w₁ w₂ : World) (q e n : ℕ) (ind : Maybe) : Type 0 where
+pub record BodyDrawn (s b : Bytes) (o : Options) (w₁ w₂ : World) (q e n : ℕ) (ind : RustOption ℕ) : Type 0 where
   pub at : (w : World) → Ready s b w → Included s b w w₁ → w₁.rc.writer.has_indent ≡ w.rc.writer.has_indent → w₁.rc.writer.indent ≡ w.rc.writer.indent → (k : ℕ) → 32 ≤ k + w₁.rc.used
       → Concludes s b w w₂ (cleanup (abs s b w).seen.current_template (abs s b w).kept.indent_string
       after target (registry_of s b o (length w₁.page)) k b q e n (set_indent_string (joined s b w ind) (abs s b w₁)))

@@ -1,5 +1,5 @@
 -- `each`: its template is drawn for each turn, all in one scope.
-use Rattle.std.specs.Prelude.{ℕ, zero, suc, ◌+◌, ◌-◌, ◌≤◌, ◌<◌, ◌≡◌, length, get_or}
+use Rattle.std.specs.Prelude.{ℕ, zero, suc, ◌+◌, ◌-◌, ◌≤◌, ◌<◌, ◌≡◌, length, get_or, None}
 use mathlib.Core.List.{List, [], ◌∷◌, ◌++◌, append-nil}
 use Rattle.std.proofs.Math.Option.{Option, none, some}
 use Rattle.std.proofs.Math.Path.{Path, refl, ap}
@@ -108,14 +108,14 @@ module _ (s b : Bytes) (o : Options) (w : World) (r : Ready s b w) (F : Turn →
             t.rest f le ∙ ap (λ (x : List Turn). prefixed t.text (turns F (D f) x (set_block t.block (abs s b l)))) here
             ∙ ap (λ (x : rules.RenderContext). prefixed t.text (D f x then turns F (D f) (drop (suc k) ts))) (sym turned_is)
 
-        pub turning_stop : (l₂.rc.bad ≡ 0 → ⊥) → (f : ℕ) → 32 ≤ f + w.rc.used → Draws s b w l₂ (pop_block after turns F (D f) ts (push_block B (abs s b w)))
+        pub turning_stop : (l₂.rc.bad ≡ None → ⊥) → (f : ℕ) → 32 ≤ f + w.rc.used → Draws s b w l₂ (pop_block after turns F (D f) ts (push_block B (abs s b w)))
         unfolding ◌then◌ prefixed ◌after◌
         turning_stop n f le = record {
           fine = λ z. absurd (n z);
           refused = λ z. ap (λ (x : Res). pop_block after x) (unrolled f le ∙ ap (λ (x : Res). prefixed t.text (x then turns F (D f) (drop (suc k) ts))) ((one f le).refused n));
         }
 
-        pub turning_more : l₂.rc.bad ≡ 0 → Turning l₂ (suc k)
+        pub turning_more : l₂.rc.bad ≡ None → Turning l₂ (suc k)
         unfolding ◌then◌
         turning_more e =
             let y = (one 32 (omega arith)).fine e in
@@ -135,6 +135,6 @@ module _ (s b : Bytes) (o : Options) (w : World) (r : Ready s b w) (F : Turn →
             front_same f = ap f (get_or-set_same l.rc.scopes (l.rc.used - 1) c blank (omega (arith, t.within.ready.sized, t.within.ready.most, t.within.ready.one)))
 
         -- its scope by the rules is that of the code
-        pub more_block : (e : l₂.rc.bad ≡ 0) → (turning_more e).block ≡ context_of s b l₂.ent (front l₂)
+        pub more_block : (e : l₂.rc.bad ≡ None) → (turning_more e).block ≡ context_of s b l₂.ent (front l₂)
         unfolding turning_more abs
         more_block e = refl

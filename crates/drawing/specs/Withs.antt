@@ -1,5 +1,5 @@
 -- `with`: its template is drawn in a scope of the value.
-use Rattle.std.specs.Prelude.{ℕ, suc, ◌+◌, ◌-◌, ◌≤◌, ◌<◌, Bool, false, List, [], ◌≡◌, refl, length, get_or, set}
+use Rattle.std.specs.Prelude.{None, ℕ, suc, ◌+◌, ◌-◌, ◌≤◌, ◌<◌, Bool, false, List, [], ◌≡◌, refl, length, get_or, set}
 use Rattle.std.proofs.Math.Option.{Option, none, some}
 use Rattle.std.proofs.Common.{sym, ap, ◌∙◌, subst, arith, get_or-set_same}
 use Rattle.rules.specs.Bytes.{Bytes}
@@ -77,10 +77,10 @@ module _ (s b : Bytes) (o : Options) (w : World) (v : Value) (ns : BlockParam) (
         subst (λ (x : rules.RenderContext). Draws s b w₁ w₂ (render_or_nothing (render_body (registry_of s b o (length w.page)) (render_template (registry_of s b o (length w.page)) f) T) x))
         (abs_with s b w v r q.room q.stands q.present fits ns held m covers) (D.at f (omega arith))
 
-    pub with_done : w₂.rc.bad ≡ 0 → Renders s b o w (over (closed w.rc w₂.rc) w₂) rule
+    pub with_done : w₂.rc.bad ≡ None → Renders s b o w (over (closed w.rc w₂.rc) w₂) rule
     with_done e = record {
       at = λ f le. draws_close s b w w₁ w₂ _ r opened (ap (λ (x : Scope). x.block) newest ∙ no_block ns) (ap (λ (x : Scope). x.text) newest ∙ no_text ns) (inside f le) e;
     }
 
-    pub with_stop : (w₂.rc.bad ≡ 0 → ⊥) → Renders s b o w w₂ rule
+    pub with_stop : (w₂.rc.bad ≡ None → ⊥) → Renders s b o w w₂ rule
     with_stop n = record { at = λ f le. draws_stop_after s b w w₂ _ pop_block (draws_refused s b w w₁ w₂ _ (inside f le) n) n }

@@ -1,5 +1,5 @@
 -- Laws of expressions.
-use Rattle.std.specs.Prelude.{ℕ, Bool, true, List, [], ◌∷◌, ◌≡◌, length}
+use Rattle.std.specs.Prelude.{ℕ, Bool, true, List, [], ◌∷◌, ◌≡◌, length, None, Some}
 use Rattle.std.proofs.Math.Bool.{false}
 use Rattle.std.proofs.Math.Option.{none}
 use Rattle.std.proofs.Common.{sym, arith}
@@ -16,7 +16,6 @@ use Rattle.rules.specs.Value.{render}
 use Rattle.rules.specs.Registry.{Registry}
 use Rattle.rules.specs.Partial.{Rendering}
 use Rattle.rules.specs.Render.{render_helper, render_body, render_expression, render_html_expression}
-use Rattle.parts.specs.declared.Maybe.TheVariants as maybe
 use Rattle.calls.specs.Calls.{call_at}
 use Rattle.value.specs.declared.Value.{Value}
 use Rattle.meaning.specs.Meaning.{json_of}
@@ -44,6 +43,7 @@ use Rattle.drawing.specs.Renders.{registry_of, Renders, Possible, Helped}
 use Rattle.drawing.specs.Members.{setting, draws_failed}
 use Rattle.helping.specs.Decided.{marks_set, Drawable, Decided}
 use Rattle.expressions.specs.Bare.{bare_rule, Printable, BareDrawn}
+use Rattle.error.specs.declared.RenderErrorReason.{RenderErrorReason as Reason}
 
 -- v is written, whatever entries there are
 abbrev Prints : Bytes → Bytes → RenderContext → RenderContext → Bytes → Bytes → Bytes → Bytes → Bytes → Value → Type 0
@@ -69,11 +69,11 @@ nothing_drawn s b o w r (does.Turns v) k = record {
 nothing_drawn s b o w r (does.Write v) k = absurd (miss (1 ∷ 2 ∷ 3 ∷ 4 ∷ 5 ∷ []) 6 tt k)
 
 module _ (s b : Bytes) (c : RenderContext) (page texts indent : Bytes) (a : Does) where
-  pub bare_refused : (n : ℕ) → a ≡ does.Bad n → (x : RenderContext) → x ≡ failed c n → BareDrawn s b c x page texts indent page texts a
+  pub bare_refused : (n : Reason) → a ≡ does.Bad n → (x : RenderContext) → x ≡ failed c (Some n) → BareDrawn s b c x page texts indent page texts a
   bare_refused n e x q =
       subst (BareDrawn s b c x page texts indent page texts) (sym e)
       (subst (λ (k : RenderContext). BareDrawn s b c k page texts indent page texts (does.Bad n)) (sym q)
-      (record { at = λ o ent r m. record { at = λ f le y h. draws_failed s b o (world c page texts indent ent) r y n h } }))
+      (record { at = λ o ent r m. record { at = λ f le y h. draws_failed s b o (world c page texts indent ent) r y (Some n) h } }))
 
   pub bare_written : (v : Value) → a ≡ does.Write v → (x : RenderContext) (page' texts' : Bytes) → Prints s b c x page texts indent page' texts' v → BareDrawn s b c x page texts indent page' texts' a
   bare_written v e x page' texts' W =
@@ -89,8 +89,8 @@ module _ (s b : Bytes) (c : RenderContext) (page texts indent : Bytes) (a : Does
 
 -- The helper with its marks
 
-module _ (s b : Bytes) (o : Options) (w : World) (r : Ready s b w) (d p : ℕ) (before : Bool) (a : Does) (D : Decided s b w.ent o w.rc d p maybe.Nothing maybe.Nothing a) where
-  can : Drawable s b o w d p before no_names maybe.Nothing maybe.Nothing a
+module _ (s b : Bytes) (o : Options) (w : World) (r : Ready s b w) (d p : ℕ) (before : Bool) (a : Does) (D : Decided s b w.ent o w.rc d p None None a) where
+  can : Drawable s b o w d p before no_names None None a
   can = D.at w.page w.texts w.indent before no_names r
 
   pub bare_printable : Printable s b a
@@ -124,8 +124,8 @@ module _ (s b : Bytes) (o : Options) (w : World) (r : Ready s b w) (d p : ℕ) (
   expressed : (k : Shows) → a ≡ k → Expresses s b w.ent (top w) g c before (abs s b w) (render_expression g c before (abs s b w)) k
   expressed k e = subst (Expresses s b w.ent (top w) g c before (abs s b w) (render_expression g c before (abs s b w))) e (E g (abs s b w) (top w) before here)
 
-  pub expression_refused : (n : ℕ) → a ≡ shows.Bad n → (x : RenderContext) → x ≡ failed w.rc n → Renders s b o w (over x w) rule
-  expression_refused n e x q = subst (λ (k : RenderContext). Renders s b o w (over k w) rule) (sym q) (record { at = λ f le. draws_failed s b o w r (render_expression g c before (abs s b w)) n (expressed (shows.Bad n) e) })
+  pub expression_refused : (n : Reason) → a ≡ shows.Bad n → (x : RenderContext) → x ≡ failed w.rc (Some n) → Renders s b o w (over x w) rule
+  expression_refused n e x q = subst (λ (k : RenderContext). Renders s b o w (over k w) rule) (sym q) (record { at = λ f le. draws_failed s b o w r (render_expression g c before (abs s b w)) (Some n) (expressed (shows.Bad n) e) })
 
   pub expression_helper : a ≡ shows.Helper → (u : World) → Renders s b o w u (λ g R. render_helper g c before no_names none none) → Renders s b o w u rule
   expression_helper e u R = record { at = λ f le. subst (Draws s b w u) (sym (expressed shows.Helper e)) (R.at f le) }
@@ -149,11 +149,11 @@ module _ (s b : Bytes) (o : Options) (w : World) (r : Ready s b w) (c : template
     inside : Renders s b o (over (with_escape w.rc true) w) u (λ g R. render_expression g c before)
     inside = subst (λ (k : RenderContext). Renders s b o (over k w) u (λ g R. render_expression g c before)) set D
 
-    pub html_refused : (u.rc.bad ≡ 0 → ⊥) → Renders s b o w u (λ g R. render_html_expression g c before)
+    pub html_refused : (u.rc.bad ≡ None → ⊥) → Renders s b o w u (λ g R. render_html_expression g c before)
     unfolding render_html_expression
     html_refused n = record { at = λ f le. html_stop s b w u r (render_expression (registry_of s b o (length w.page)) c before) (inside.at f le) n }
 
-    pub html_drawn : u.rc.bad ≡ 0 → (x : RenderContext) → x ≡ with_escape u.rc false → Renders s b o w (over x u) (λ g R. render_html_expression g c before)
+    pub html_drawn : u.rc.bad ≡ None → (x : RenderContext) → x ≡ with_escape u.rc false → Renders s b o w (over x u) (λ g R. render_html_expression g c before)
     unfolding render_html_expression
     html_drawn e x q =
         subst (λ (k : RenderContext). Renders s b o w (over k u) (λ g R. render_html_expression g c before)) (sym q)

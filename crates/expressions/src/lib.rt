@@ -18,7 +18,6 @@ ghost use Rattle.expressions.specs.Bare.{bare_rule, Printable, BareDrawn};
 
 use expand::Options;
 use helpers::{Does, Shows};
-use parts::Maybe;
 use scope::Scope;
 use state::RenderContext;
 
@@ -71,7 +70,7 @@ fn render_bare(
         (world (whole result scopes) page.new texts.new indent.now ent.now)
         (bare_rule b.now d p before) }
 {
-    let none = Maybe::Nothing;
+    let none = None;
     let w = expand::try_from_template(s, tab, b, ent, scopes, rc.used, options, p, d);
     let does = helping::decide(s, tab, b, ent, rc.used, options, w, none, none);
     let q = helping::begin_helper(rc, before);
@@ -147,7 +146,7 @@ pub fn render_html_expression(
     let u = render_expression(
         s, tab, b, ent, page, texts, indent, scopes, options, p, before, d, q,
     );
-    if u.bad != 0 {
+    if u.bad.is_some() {
         return u;
     }
     state::set_disable_escape(u, false)

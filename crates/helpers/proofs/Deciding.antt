@@ -43,6 +43,8 @@ use Rattle.expand.specs.Answers.{Begins, IsExpanded, helper_of}
 use Rattle.helpers.specs.declared.Does.{Does}
 use Rattle.helpers.specs.declared.Does.TheVariants.{Bad, Nothing, Template, Inverse, Within, Turns, Write}
 use Rattle.helpers.specs.Does.{Guided, has, Fails, Helps, Helping, Decides, unless_strict, inverse, in_scope, branch, truth, is_collection}
+use Rattle.error.specs.declared.RenderErrorReason.TheVariants.{HelperNotFound, ParamNotFoundForIndex, ScopesLimit}
+use Rattle.error.specs.Reasons.{refusal}
 
 -- Values and bodies
 
@@ -77,8 +79,8 @@ pub has_some : {A : Type 0} (x : Option A) → has x ≡ true → (a : A) × (x 
 has_some none q = clash (sym q)
 has_some (some a) q = (a, refl)
 
-pub fails : (r : RenderErrorReason) (x : Res) → x ≡ fail r → Fails x (number r)
-fails r x e = record { reason = r; is = e; by_number = refl }
+pub fails : (r : RenderErrorReason) (x : Res) → x ≡ fail r → Fails x (refusal r)
+fails r x e = record { reason = r; is = e; by_reason = refl }
 
 -- What the rules give
 
@@ -206,13 +208,13 @@ module _ (s b : Bytes) (ent : List ℕ) (t used : ℕ) (o : Options) (w : Expand
         outcome : (c : Bool) → ltb used 32 ≡ c → in_block g B d st ≡ choose c (λ _. pop_block after d (push_block B st)) (λ _. fail scopes-limit)
         outcome c p = ap (λ (x : Bool). choose x (λ _. pop_block after d (push_block B st)) (λ _. fail scopes-limit)) (ap₂ ltb G.alike.deep G.alike.scopes ∙ p)
 
-        go : (c : Bool) → ltb used 32 ≡ c → Is (in_block g B d st) (pick c a (Bad 23))
+        go : (c : Bool) → ltb used 32 ≡ c → Is (in_block g B d st) (pick c a (Bad ScopesLimit))
         go true p = subst (λ (x : Res). Is x a) (sym (outcome true p)) (h (ltb-true used 32 p))
         go false p = fails scopes-limit _ (outcome false p)
 
     -- each
 
-    pub each_none : w.count ≡ 0 → Is (each_helper g e.params ns T I st) (Bad 15)
+    pub each_none : w.count ≡ 0 → Is (each_helper g e.params ns T I st) (Bad ParamNotFoundForIndex)
     unfolding each_helper
     each_none z = fails param-not-found-for-index _ (ap (λ (l : List ScopedJson). each_helper g l ns T I st) (no_param z))
 
@@ -267,7 +269,7 @@ module _ (s b : Bytes) (ent : List ℕ) (t used : ℕ) (o : Options) (w : Expand
 
     -- with
 
-    pub with_none : w.count ≡ 0 → Is (with_helper g e.params ns T I st) (Bad 15)
+    pub with_none : w.count ≡ 0 → Is (with_helper g e.params ns T I st) (Bad ParamNotFoundForIndex)
     unfolding with_helper
     with_none z = fails param-not-found-for-index _ (ap (λ (l : List ScopedJson). with_helper g l ns T I st) (no_param z))
 
@@ -290,7 +292,7 @@ module _ (s b : Bytes) (ent : List ℕ) (t used : ℕ) (o : Options) (w : Expand
 
     -- if and unless
 
-    pub if_none : (positive : Bool) → w.count ≡ 0 → Is (if_helper g positive e.params e.hash T I st) (Bad 15)
+    pub if_none : (positive : Bool) → w.count ≡ 0 → Is (if_helper g positive e.params e.hash T I st) (Bad ParamNotFoundForIndex)
     unfolding if_helper
     if_none positive z = fails param-not-found-for-index _ (ap (λ (l : List ScopedJson). if_helper g positive l e.hash T I st) (no_param z))
 
@@ -319,11 +321,11 @@ module _ (s b : Bytes) (ent : List ℕ) (t used : ℕ) (o : Options) (w : Expand
 
     -- lookup
 
-    pub lookup_few : w.count < 2 → Is (lookup_helper g e.params st) (Bad 15)
+    pub lookup_few : w.count < 2 → Is (lookup_helper g e.params st) (Bad ParamNotFoundForIndex)
     unfolding lookup_helper or_fail
     lookup_few lt = go e.params E.params.count
       where
-        go : (l : List ScopedJson) → w.count ≡ length l → Is (lookup_helper g l st) (Bad 15)
+        go : (l : List ScopedJson) → w.count ≡ length l → Is (lookup_helper g l st) (Bad ParamNotFoundForIndex)
         go [] n = fails param-not-found-for-index _ refl
         go (x ∷ []) n = fails param-not-found-for-index _ refl
         go (x ∷ y ∷ l) n = absurd (omega arith)
@@ -378,7 +380,7 @@ module _ (s b : Bytes) (ent : List ℕ) (used : ℕ) (o : Options) (h : HelperDe
   back_is registry.HelperDef.unless = refl
   back_is registry.HelperDef.lookup = refl
 
-  not_unknown : (k : registry.HelperDef) (r : Does) → helper_of (some k) ≡ helper.Unknown → r ≡ Bad 14
+  not_unknown : (k : registry.HelperDef) (r : Does) → helper_of (some k) ≡ helper.Unknown → r ≡ Bad HelperNotFound
   not_unknown registry.HelperDef.each r q = cc
   not_unknown registry.HelperDef.with r q = cc
   not_unknown registry.HelperDef.if r q = cc
@@ -412,7 +414,7 @@ module _ (s b : Bytes) (ent : List ℕ) (used : ℕ) (o : Options) (h : HelperDe
   unfolding call_helper
   by_lookup q r x = decided registry.HelperDef.lookup q r x
 
-  pub by_none : h ≡ helper.Unknown → Decides s b ent used o h w ht hi (Bad 14)
+  pub by_none : h ≡ helper.Unknown → Decides s b ent used o h w ht hi (Bad HelperNotFound)
   by_none q = record { known = λ k p. clash (ap yes (not_unknown k Nothing (sym p ∙ q))); unknown = λ p. refl }
     where
       yes : Does → Bool

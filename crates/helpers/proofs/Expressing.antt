@@ -1,4 +1,5 @@
 -- What an expression is about to do.
+use Rattle.std.specs.Prelude.{Result, Ok, Err, Option as RustOption, Some}
 use Prim.Native.Nat.{ℕ, zero, suc, ◌<◌}
 use native.Mathlib.Omega.{arith}
 use mathlib.Core.Bool.{Bool, true, false}
@@ -40,14 +41,14 @@ use Rattle.scope.specs.declared.Scope.{Scope}
 use Rattle.scope.specs.Scopes.{blank, context_of, partials_of, blocks_of}
 use Rattle.context.specs.Near.{NearScopes}
 use Rattle.expand.specs.declared.Options.{Options}
-use Rattle.expand.specs.declared.Got.{Got}
-use Rattle.expand.specs.declared.Got.TheVariants.{Is, Bad}
 use Rattle.expand.specs.declared.HelperDef.{HelperDef}
 use Rattle.expand.specs.Answers.{Setting, Refuses, Expands, helper_of}
 use Rattle.helpers.specs.declared.Shows.{Shows}
 use Rattle.helpers.specs.declared.Shows.TheVariants as shows
 use Rattle.helpers.specs.Does.{has, is_known, Fails, Expresses, shown, rendered}
 use Rattle.helpers.proofs.Deciding.{as_json_of, fails, has_none, has_some}
+use Rattle.error.specs.declared.RenderErrorReason.TheVariants.{MissingVariable}
+use Rattle.error.specs.declared.RenderErrorReason.{RenderErrorReason as Reason}
 
 -- A call that is its name alone
 
@@ -132,9 +133,9 @@ missing_is s b ent v = go (is_missing v) (context_place v)
 
 -- What the rules give, against the code
 
-failing : {A : Type 0} (x : rule.Got A) (f : A → Res) (n : ℕ) → Refuses x n → Fails (or_fail x f) n
+failing : {A : Type 0} (x : rule.Got A) (f : A → Res) (n : RustOption Reason) → Refuses x n → Fails (or_fail x f) n
 unfolding or_fail
-failing x f n r = record { reason = r.reason; is = ap (λ y. or_fail y f) r.is; by_number = r.by_number }
+failing x f n r = record { reason = r.reason; is = ap (λ y. or_fail y f) r.is; by_reason = r.by_reason }
 
 module _ (s b : Bytes) (ent : List ℕ) (t : ℕ) (g : Registry) (st : RenderContext) (c : template.Call) (ibw : Bool) where
   abbrev Draws : Res → Shows → Type 0
@@ -152,9 +153,9 @@ module _ (s b : Bytes) (ent : List ℕ) (t : ℕ) (g : Registry) (st : RenderCon
     unfolding render_expression either
     by_name = ap (λ (o : Option template.Parameter). either o (λ _. render_helper g c ibw no_names none none st) (λ n. render_name g c ibw n st)) N
 
-    pub bad_name : (m : ℕ) → Refuses (rules.expand_as_name g st n) m → Draws whole (shows.Bad m)
+    pub bad_name : (m : Reason) → Refuses (rules.expand_as_name g st n) (Some m) → Draws whole (shows.Bad m)
     unfolding render_name
-    bad_name m r = subst (λ (x : Res). Fails x m) (sym by_name) (failing (rules.expand_as_name g st n) _ m r)
+    bad_name m r = subst (λ (x : Res). Fails x (Some m)) (sym by_name) (failing (rules.expand_as_name g st n) _ (Some m) r)
 
     abbrev named : Option registry.HelperDef → Res
     named o = either o (λ _. or_fail (rules.expand g st n) (λ v. render_value g v st)) (λ h. render_helper g c ibw no_names none none st)
@@ -172,12 +173,12 @@ module _ (s b : Bytes) (ent : List ℕ) (t : ℕ) (g : Registry) (st : RenderCon
       unfolding render_value choose
       written v h x q = go (is_missing v) (missing_is s b ent v) strict A
         where
-          go : (c : Bool) → scoped.is_missing (scoped_of s b ent v) ≡ c → (d : Bool) → g.options.strict_mode ≡ d → Draws x (pick c (pick d (shows.Bad 11) shows.Nothing) (shows.Value v))
+          go : (c : Bool) → scoped.is_missing (scoped_of s b ent v) ≡ c → (d : Bool) → g.options.strict_mode ≡ d → Draws x (pick c (pick d (shows.Bad MissingVariable) shows.Nothing) (shows.Value v))
           go true p true f = fails missing-variable x (q ∙ rw (p, f))
           go true p false f = q ∙ rw (p, f)
           go false p d f = record { is = q ∙ rw p (ap (λ (j : Json). indent_aware_write (do_escape st (render j)) st) (as_json_of s b ent v)); stands = h }
 
-      pub named_value : (w : Bytes) → rules.expand_as_name g st n ≡ got w → has (get_helper w) ≡ false → (y : Got) → Expands s b ent t (rules.expand g st n) y → (r : Shows) → r ≡ rendered strict y
+      pub named_value : (w : Bytes) → rules.expand_as_name g st n ≡ got w → has (get_helper w) ≡ false → (y : Result Value Reason) → Expands s b ent t (rules.expand g st n) y → (r : Shows) → r ≡ rendered strict y
           → Draws whole r
       unfolding either or_fail
       named_value w q h y x r f = subst (Draws whole) (sym f) (go y x)
@@ -185,9 +186,9 @@ module _ (s b : Bytes) (ent : List ℕ) (t : ℕ) (g : Registry) (st : RenderCon
           valued : whole ≡ or_fail (rules.expand g st n) (λ v. render_value g v st)
           valued = found w q ∙ ap named (has_none (get_helper w) h)
 
-          go : (y : Got) → Expands s b ent t (rules.expand g st n) y → Draws whole (rendered strict y)
-          go (Bad m) x = subst (λ (z : Res). Fails z m) (sym valued) (failing (rules.expand g st n) _ m x)
-          go (Is v) x = written v x.1 whole (valued ∙ ap (λ (z : rule.Got ScopedJson). or_fail z (λ v. render_value g v st)) x.0)
+          go : (y : Result Value Reason) → Expands s b ent t (rules.expand g st n) y → Draws whole (rendered strict y)
+          go (Err m) x = subst (λ (z : Res). Fails z (Some m)) (sym valued) (failing (rules.expand g st n) _ (Some m) x)
+          go (Ok v) x = written v x.1 whole (valued ∙ ap (λ (z : rule.Got ScopedJson). or_fail z (λ v. render_value g v st)) x.0)
 
 -- There is such a registry and such a state
 

@@ -1,4 +1,5 @@
 -- What an expression is about to do whose name is a path.
+use Rattle.std.specs.Prelude.{Result}
 use Prim.Native.Nat.{ℕ, zero, suc, ◌+◌}
 use mathlib.Core.Bool.{Bool, true, false}
 use mathlib.Core.List.{List}
@@ -24,12 +25,13 @@ use Rattle.parts.specs.Holds.{Holds, end}
 use Rattle.parts.specs.Says.{path_at, path_raw_is}
 use Rattle.calls.specs.declared.Parameter.TheVariants.{Path}
 use Rattle.calls.specs.Calls.{param_of, param_view, param_at, param_path, ParamStands, param_read, name_end, call_at, call_name}
-use Rattle.expand.specs.declared.Got.{Got}
 use Rattle.expand.specs.Answers.{Expands}
 use Rattle.helpers.specs.declared.Shows.{Shows}
 use Rattle.helpers.specs.declared.Shows.TheVariants as shows
 use Rattle.helpers.specs.Does.{has, Expresses, rendered}
 use Rattle.helpers.proofs.Expressing.{bare_name, called, named_helper, named_value}
+use Rattle.error.specs.declared.RenderErrorReason.{RenderErrorReason as Reason}
+use Rattle.value.specs.declared.Value.{Value}
 
 module _ (d : ℕ) (b : Bits) (p q : ℕ) (H : Holds (call_of (param d)) b p) (W : param_view b p ≡ Path q) where
   path_stands : ParamStands d b p (Path q)
@@ -83,7 +85,7 @@ module _ (s b : Bytes) (ent : List ℕ) (t : ℕ) (g : Registry) (st : RenderCon
     pub path_helper : has (get_helper (text_at (bits b) q)) ≡ true → Draws shows.Helper
     path_helper k = named_helper s b ent t g st here ibw name named (text_at (bits b) q) name_is k
 
-    pub path_value : (strict : Bool) → g.options.strict_mode ≡ strict → has (get_helper (text_at (bits b) q)) ≡ false → (y : Got) → Expands s b ent t (rules.evaluate2 g st (path_at (bits b) q)) y
+    pub path_value : (strict : Bool) → g.options.strict_mode ≡ strict → has (get_helper (text_at (bits b) q)) ≡ false → (y : Result Value Reason) → Expands s b ent t (rules.evaluate2 g st (path_at (bits b) q)) y
         → (u : Shows) → u ≡ rendered strict y → Draws u
     path_value strict a k y e u f =
         let v = ap (rules.expand g st) (path_stands d (bits b) p q H W).is in

@@ -1,5 +1,5 @@
 -- What a helper or an expression is about to do: s is the plan, b the bundle, ent the entries of open partials, and t is behind those in use.
-use Rattle.std.specs.Prelude.{ℕ, ◌-◌, ◌<◌, Bool, true, false, List, [], ◌≡◌, refl, eqb, ltb}
+use Rattle.std.specs.Prelude.{ℕ, ◌-◌, ◌<◌, Bool, true, false, List, [], ◌≡◌, refl, eqb, ltb, Option as RustOption, Some, Result, Ok, Err, None}
 use Rattle.std.proofs.Math.Option.{Option, none, some}
 use Rattle.std.proofs.Common.{arith}
 use borrow.Author.Tests.{lt-ltb, le-ltb, ne_eqb}
@@ -33,8 +33,6 @@ use Rattle.members.specs.Turns.{each_turns}
 use Rattle.scope.specs.declared.Scope.{Scope}
 use Rattle.expand.specs.declared.Options.{Options}
 use Rattle.expand.specs.declared.Expanded.{Expanded}
-use Rattle.expand.specs.declared.Got.{Got}
-use Rattle.expand.specs.declared.Got.TheVariants as got
 use Rattle.expand.specs.declared.HelperDef.{HelperDef}
 use Rattle.expand.specs.declared.HelperDef.TheVariants as helper
 use Rattle.expand.specs.declared.HelperDef.TheVariants.{Unknown}
@@ -43,6 +41,9 @@ use Rattle.helpers.specs.declared.Does.{Does}
 use Rattle.helpers.specs.declared.Does.TheVariants.{Bad, Nothing, Template, Inverse, Within, Turns, Write}
 use Rattle.helpers.specs.declared.Shows.{Shows}
 use Rattle.helpers.specs.declared.Shows.TheVariants as shows
+use Rattle.error.specs.declared.RenderErrorReason.TheVariants.{HelperNotFound, MissingVariable, ScopesLimit, InvalidJsonIndex}
+use Rattle.error.specs.declared.RenderErrorReason.{RenderErrorReason as Reason}
+use Rattle.error.specs.Reasons.{refusal}
 
 -- what of the registry and the state a helper depends on
 pub record Guided (used : ℕ) (o : Options) (g : Registry) (st : RenderContext) : Type 0 where
@@ -55,11 +56,11 @@ has (some a) = true
 
 -- Answers
 
--- a refusal, by the paper's number
-pub record Fails (x : Res) (n : ℕ) : Type 0 where
+-- a refusal, as the code keeps it
+pub record Fails (x : Res) (n : RustOption Reason) : Type 0 where
   pub reason : RenderErrorReason
   pub is : x ≡ fail reason
-  pub by_number : number reason ≡ n
+  pub by_reason : refusal reason ≡ n
 
 -- v is written
 pub record Writes (s b : Bytes) (ent : List ℕ) (t : ℕ) (st : RenderContext) (x : Res) (v : Value) : Type 0 where
@@ -84,7 +85,7 @@ pub record Takes (s b : Bytes) (ent : List ℕ) (t used : ℕ) (ns : BlockParam)
 
 -- of a helper with the block names ns, the template T and the inverse I; x is the rules' answer
 abbrev pub Helps : Bytes → Bytes → List ℕ → ℕ → ℕ → BlockParam → Drawable → Drawable → RenderContext → Res → Does → Type 0
-Helps s b ent t used ns T I st x (Bad n) = Fails x n
+Helps s b ent t used ns T I st x (Bad e) = Fails x (Some e)
 Helps s b ent t used ns T I st x Nothing = x ≡ ok st []
 Helps s b ent t used ns T I st x Template = x ≡ render_or_nothing T st
 Helps s b ent t used ns T I st x Inverse = x ≡ render_or_nothing I st
@@ -99,33 +100,33 @@ Helping s b ent used o w ht hi f r =
     → Helps s b ent t used ns T I st (f g e ns T I st) r
 
 -- a call by its parts: its name, how many parameters, the first two, what includeZero says, and the refusal
-abbrev pub given : Value → ℕ → Value → Value → Bool → ℕ → Expanded
+abbrev pub given : Value → ℕ → Value → Value → Bool → RustOption Reason → Expanded
 given n k v u z x = record { name = n; count = k; first = v; second = u; zero = z; bad = x }
 
 -- by some of them, whatever the others are: the first parameter, that and includeZero, or the first two
 abbrev pub HelpingFirst : Bytes → Bytes → ℕ → Options → ℕ → Value → Bool → Bool → (Registry → block-util.Expanded → BlockParam → Drawable → Drawable → Draw) → Does → Type 0
-HelpingFirst s b used o k v ht hi f r = (ent : List ℕ) (n u : Value) (z : Bool) (x : ℕ) → Helping s b ent used o (given n k v u z x) ht hi f r
+HelpingFirst s b used o k v ht hi f r = (ent : List ℕ) (n u : Value) (z : Bool) (x : RustOption Reason) → Helping s b ent used o (given n k v u z x) ht hi f r
 
 abbrev pub HelpingTruth : Bytes → Bytes → Options → ℕ → Value → Bool → (Registry → block-util.Expanded → BlockParam → Drawable → Drawable → Draw) → Does → Type 0
-HelpingTruth s b o k v z f r = (ent : List ℕ) (used : ℕ) (ht hi : Bool) (n u : Value) (x : ℕ) → Helping s b ent used o (given n k v u z x) ht hi f r
+HelpingTruth s b o k v z f r = (ent : List ℕ) (used : ℕ) (ht hi : Bool) (n u : Value) (x : RustOption Reason) → Helping s b ent used o (given n k v u z x) ht hi f r
 
 abbrev pub HelpingBoth : Bytes → Bytes → List ℕ → Options → ℕ → Value → Value → (Registry → block-util.Expanded → BlockParam → Drawable → Drawable → Draw) → Does → Type 0
-HelpingBoth s b ent o k v u f r = (used : ℕ) (ht hi : Bool) (n : Value) (z : Bool) (x : ℕ) → Helping s b ent used o (given n k v u z x) ht hi f r
+HelpingBoth s b ent o k v u f r = (used : ℕ) (ht hi : Bool) (n : Value) (z : Bool) (x : RustOption Reason) → Helping s b ent used o (given n k v u z x) ht hi f r
 
 pub record Decides (s b : Bytes) (ent : List ℕ) (used : ℕ) (o : Options) (h : HelperDef) (w : Expanded) (ht hi : Bool) (r : Does) : Type 0 where
   pub known : (k : registry.HelperDef) → h ≡ helper_of (some k) → Helping s b ent used o w ht hi (λ g e ns T I st. call_helper g k e ns T I st) r
-  pub unknown : h ≡ Unknown → r ≡ Bad 14
+  pub unknown : h ≡ Unknown → r ≡ Bad HelperNotFound
 
 -- with one parameter, or two, and no hash
 abbrev pub DecidesOne : Bytes → Bytes → ℕ → Options → HelperDef → Value → Bool → Bool → Does → Type 0
-DecidesOne s b used o h v ht hi r = (ent : List ℕ) (n u : Value) → Decides s b ent used o h (given n 1 v u false 0) ht hi r
+DecidesOne s b used o h v ht hi r = (ent : List ℕ) (n u : Value) → Decides s b ent used o h (given n 1 v u false None) ht hi r
 
 abbrev pub DecidesTwo : Bytes → Bytes → List ℕ → ℕ → Options → HelperDef → Value → Value → Bool → Bool → Does → Type 0
-DecidesTwo s b ent used o h v u ht hi r = (n : Value) → Decides s b ent used o h (given n 2 v u false 0) ht hi r
+DecidesTwo s b ent used o h v u ht hi r = (n : Value) → Decides s b ent used o h (given n 2 v u false None) ht hi r
 
 -- of an expression's call c
 abbrev pub Expresses : Bytes → Bytes → List ℕ → ℕ → Registry → template.Call → Bool → RenderContext → Res → Shows → Type 0
-Expresses s b ent t g c ibw st x (shows.Bad n) = Fails x n
+Expresses s b ent t g c ibw st x (shows.Bad e) = Fails x (Some e)
 Expresses s b ent t g c ibw st x shows.Helper = x ≡ render_helper g c ibw no_names none none st
 Expresses s b ent t g c ibw st x (shows.Value v) = Writes s b ent t st x v
 Expresses s b ent t g c ibw st x shows.Nothing = x ≡ ok st []
@@ -160,7 +161,7 @@ is_known helper.Lookup = true
 is_known helper.Unknown = false
 
 abbrev pub unless_strict : Bool → Does → Does
-unless_strict strict d = pick strict (Bad 11) d
+unless_strict strict d = pick strict (Bad MissingVariable) d
 
 -- the inverse, where there is one
 abbrev pub inverse : Bool → Bool → Does
@@ -168,7 +169,7 @@ inverse strict hi = pick hi Inverse (unless_strict strict Nothing)
 
 -- under one more scope
 abbrev pub in_scope : ℕ → Does → Does
-in_scope used d = pick (ltb used 32) d (Bad 23)
+in_scope used d = pick (ltb used 32) d (Bad ScopesLimit)
 
 abbrev pub branch : Bool → Does
 branch b = pick b Template Inverse
@@ -188,11 +189,15 @@ is_collection (jarr l) = true
 is_collection (jobj m) = true
 
 abbrev pub shown : Bool → Value → Shows
-shown strict v = pick (is_missing v) (pick strict (shows.Bad 11) shows.Nothing) (shows.Value v)
+shown strict v = pick (is_missing v) (pick strict (shows.Bad MissingVariable) shows.Nothing) (shows.Value v)
 
--- as one number: 0 where it is a helper's, below 255 a refusal, 255 for nothing, else 256 more than the value's
+-- as one number: 0 where it is a helper's, a refusal by its own, 255 for nothing, else 256 more than the value's
 unfoldable pub shows_of : ℕ → Shows
-shows_of n = pick (eqb n 0) shows.Helper (pick (ltb n 255) (shows.Bad n) (pick (eqb n 255) shows.Nothing (shows.Value (decoded (n - 256)))))
+shows_of n =
+    pick (eqb n 0) shows.Helper
+    (pick (eqb n 11) (shows.Bad MissingVariable)
+    (pick (eqb n 20) (shows.Bad InvalidJsonIndex)
+    (pick (eqb n 255) shows.Nothing (shows.Value (decoded (n - 256))))))
 
 pub shows_helper : shows_of 0 ≡ shows.Helper
 unfolding shows_of
@@ -202,15 +207,18 @@ pub shows_nothing : shows_of 255 ≡ shows.Nothing
 unfolding shows_of
 shows_nothing = refl
 
-module _ (n : ℕ) where
-  pub shows_bad : (n ≡ 0 → ⊥) → n < 255 → shows_of n ≡ shows.Bad n
-  unfolding shows_of
-  shows_bad h lt = rw (ne_eqb n 0 h, lt-ltb n 255 lt)
+pub shows_missing : shows_of 11 ≡ shows.Bad MissingVariable
+unfolding shows_of
+shows_missing = refl
 
-  pub shows_value : 255 < n → shows_of n ≡ shows.Value (decoded (n - 256))
-  unfolding shows_of
-  shows_value lt = rw (ne_eqb n 0 (λ e. omega arith), le-ltb n 255 (omega arith), ne_eqb n 255 (λ e. omega arith))
+pub shows_bad_index : shows_of 20 ≡ shows.Bad InvalidJsonIndex
+unfolding shows_of
+shows_bad_index = refl
 
-abbrev pub rendered : Bool → Got → Shows
-rendered strict (got.Is v) = shown strict v
-rendered strict (got.Bad n) = shows.Bad n
+pub shows_value : (n : ℕ) → 255 < n → shows_of n ≡ shows.Value (decoded (n - 256))
+unfolding shows_of
+shows_value n lt = rw (ne_eqb n 0 (λ e. omega arith), ne_eqb n 11 (λ e. omega arith), ne_eqb n 20 (λ e. omega arith), ne_eqb n 255 (λ e. omega arith))
+
+abbrev pub rendered : Bool → Result Value Reason → Shows
+rendered strict (Ok v) = shown strict v
+rendered strict (Err e) = shows.Bad e

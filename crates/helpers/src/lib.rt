@@ -31,11 +31,8 @@ ghost use Rattle.helpers.specs.Does.{is_collection, shown, rendered, shows_of};
 ghost use Rattle.helpers.specs.Does.{ExpressingCall, ExpressingPath, ExpressingBare};
 
 use calls::Parameter;
-use error::{
-    HELPER_NOT_FOUND, INVALID_JSON_INDEX, MISSING_VARIABLE, PARAM_NOT_FOUND_FOR_INDEX, SCOPES_LIMIT,
-};
-use expand::{Expanded, Got, HelperDef, Options};
-use lookup::Found;
+use error::RenderErrorReason;
+use expand::{Expanded, HelperDef, Options};
 use meaning::Form;
 use scope::Scope;
 use value::Value;
@@ -44,7 +41,7 @@ use value::Value;
 #[derive(Clone, Copy)]
 pub enum Does {
     // the paper's number of the refusal
-    Bad(u8),
+    Bad(RenderErrorReason),
     Nothing,
     // draws its template or its inverse, if there is one
     Template,
@@ -63,7 +60,7 @@ fn unless_strict(strict: bool, d: Does) -> Does
     ensures { result ≡ unless_strict strict d }
 {
     if strict {
-        return Does::Bad(MISSING_VARIABLE);
+        return Does::Bad(RenderErrorReason::MissingVariable);
     }
     d
 }
@@ -85,7 +82,7 @@ fn in_scope(used: usize, d: Does) -> Does
     if used < 32 {
         return d;
     }
-    Does::Bad(SCOPES_LIMIT)
+    Does::Bad(RenderErrorReason::ScopesLimit)
 }
 
 fn branch(template: bool) -> Does
@@ -149,7 +146,7 @@ fn each_helper(
         (λ g e ns T I st. each_helper g e.params ns T I st) result }
 {
     if count == 0 {
-        return Does::Bad(PARAM_NOT_FOUND_FOR_INDEX);
+        return Does::Bad(RenderErrorReason::ParamNotFoundForIndex);
     }
     if !has_template {
         return Does::Nothing;
@@ -184,7 +181,7 @@ fn with_helper(
         (λ g e ns T I st. with_helper g e.params ns T I st) result }
 {
     if count == 0 {
-        return Does::Bad(PARAM_NOT_FOUND_FOR_INDEX);
+        return Does::Bad(RenderErrorReason::ParamNotFoundForIndex);
     }
     if meaning::is_truthy(s, tab, b, v, false) {
         return in_scope(used, Does::Within(v));
@@ -208,7 +205,7 @@ fn if_helper(
         (λ g e ns T I st. if_helper g positive e.params e.hash T I st) result }
 {
     if count == 0 {
-        return Does::Bad(PARAM_NOT_FOUND_FOR_INDEX);
+        return Does::Bad(RenderErrorReason::ParamNotFoundForIndex);
     }
     if truth(s, tab, b, v, options.guide_truth, zero) {
         return branch(positive);
@@ -234,9 +231,9 @@ fn lookup_helper(
         (λ g e ns T I st. lookup_helper g e.params st) result }
 {
     if count < 2 {
-        return Does::Bad(PARAM_NOT_FOUND_FOR_INDEX);
+        return Does::Bad(RenderErrorReason::ParamNotFoundForIndex);
     }
-    let Found::Is(x) = lookup::looked_up(s, tab, b, ent, v, i) else {
+    let Some(x) = lookup::looked_up(s, tab, b, ent, v, i) else {
         return unless_strict(options.strict, Does::Write(Value::Null));
     };
     Does::Write(x)
@@ -293,7 +290,7 @@ pub fn call_helper(
         HelperDef::If => if_helper(s, tab, b, options, w.count, v, w.zero, true),
         HelperDef::Unless => if_helper(s, tab, b, options, w.count, v, w.zero, false),
         HelperDef::Lookup => lookup_helper(s, tab, b, ent, options, w.count, v, i),
-        HelperDef::Unknown => Does::Bad(HELPER_NOT_FOUND),
+        HelperDef::Unknown => Does::Bad(RenderErrorReason::HelperNotFound),
     }
 }
 
@@ -319,8 +316,8 @@ pub fn call_one(
         HelperDef::If => if_helper(s, tab, b, options, 1, v, false, true),
         HelperDef::Unless => if_helper(s, tab, b, options, 1, v, false, false),
         // it wants two
-        HelperDef::Lookup => Does::Bad(PARAM_NOT_FOUND_FOR_INDEX),
-        HelperDef::Unknown => Does::Bad(HELPER_NOT_FOUND),
+        HelperDef::Lookup => Does::Bad(RenderErrorReason::ParamNotFoundForIndex),
+        HelperDef::Unknown => Does::Bad(RenderErrorReason::HelperNotFound),
     }
 }
 
@@ -351,7 +348,7 @@ pub fn call_two(
         HelperDef::If => if_helper(s, tab, b, options, 2, v, false, true),
         HelperDef::Unless => if_helper(s, tab, b, options, 2, v, false, false),
         HelperDef::Lookup => lookup_helper(s, tab, b, ent, options, 2, v, i),
-        HelperDef::Unknown => Does::Bad(HELPER_NOT_FOUND),
+        HelperDef::Unknown => Does::Bad(RenderErrorReason::HelperNotFound),
     }
 }
 
@@ -361,7 +358,7 @@ pub fn call_two(
 #[derive(Clone, Copy)]
 pub enum Shows {
     // the paper's number of the refusal
-    Bad(u8),
+    Bad(RenderErrorReason),
     // calls a helper with no bodies
     Helper,
     // writes that value
@@ -414,7 +411,7 @@ fn shown(strict: bool, v: Value) -> Shows
     match v {
         Value::Missing => {
             if strict {
-                return Shows::Bad(MISSING_VARIABLE);
+                return Shows::Bad(RenderErrorReason::MissingVariable);
             }
             Shows::Nothing
         }
@@ -422,19 +419,23 @@ fn shown(strict: bool, v: Value) -> Shows
     }
 }
 
-fn rendered(strict: bool, x: Got) -> Shows
+fn rendered(strict: bool, x: Result<Value, RenderErrorReason>) -> Shows
     ensures { result ≡ rendered strict x }
 {
     match x {
-        Got::Is(v) => shown(strict, v),
-        Got::Bad(n) => Shows::Bad(n),
+        Ok(v) => shown(strict, v),
+        Err(e) => Shows::Bad(e),
     }
 }
 
 // What `bare_number` tells is one number, for an enum would go through memory.
 pub const HELPER: u64 = 0;
 
-// Below it are the refusals, by their own numbers.
+// The refusals, by their own numbers
+pub const MISSING: u64 = 11;
+
+pub const BAD_INDEX: u64 = 20;
+
 pub const NOTHING: u64 = 255;
 
 // A value is told by so much more than its own number.
@@ -463,7 +464,8 @@ pub fn bare_number(
         → Newest b.now ent.now front names l used
         → ExpressingBare s.now b.now ent.now l used options q (shows_of result))
         × (eqb result 4294967552 ≡ pick (has (get_helper (text_at (bits b.now) q))) false
-        (needs_all b.now ent.now front names (path_at (bits b.now) q))) }
+        (needs_all b.now ent.now front names (path_at (bits b.now) q)))
+        × ((result ≡ 0 → ⊥) → (result ≡ 11 → ⊥) → result < 255 → result ≡ 20) }
 {
     // few paths name a helper, and one number tells that of most
     if expand::may_name(b, q) {
@@ -477,12 +479,12 @@ pub fn bare_number(
     }
     // a wrong index
     if found == 0 {
-        return INVALID_JSON_INDEX as u64;
+        return BAD_INDEX;
     }
     // nothing: one more than the number of what is missing
     if found % 16 == 1 {
         if options.strict {
-            return MISSING_VARIABLE as u64;
+            return MISSING;
         }
         return NOTHING;
     }
@@ -572,8 +574,8 @@ pub fn expression(
     }
     let name = expand::expand_as_name(s, tab, b, ent, scopes, used, options, p, d);
     match name {
-        Got::Bad(n) => Shows::Bad(n),
-        Got::Is(v) => {
+        Err(e) => Shows::Bad(e),
+        Ok(v) => {
             if is_helper(s, tab, b, v) {
                 return Shows::Helper;
             }

@@ -1,4 +1,6 @@
 -- The beginning of a helper, beside the array of scopes.
+use Rattle.std.specs.Prelude.{Option as RustOption, Some, None}
+use Rattle.std.specs.Option.{is_some}
 use Prim.Native.Nat.{ℕ, ◌+◌, ◌-◌, ◌≤◌, ◌<◌}
 use mathlib.Core.Bool.{Bool, true, false}
 use mathlib.Core.List.{List}
@@ -12,8 +14,6 @@ use Rattle.rules.specs.Bits.{bits}
 use Rattle.rules.specs.Bundle.{body, block_names}
 use Rattle.rules.specs.Value.{render}
 use Rattle.rules.specs.Output.{do_escape, indent_aware_write}
-use Rattle.parts.specs.declared.Maybe.{Maybe}
-use Rattle.parts.specs.declared.Maybe.TheVariants.{At, Nothing}
 use Rattle.parts.specs.declared.BlockParam.{BlockParam}
 use Rattle.parts.specs.declared.BlockParam.TheVariants as names
 use Rattle.parts.specs.Holds.{Holds}
@@ -51,6 +51,8 @@ use Rattle.helping.specs.declared.Begun as code
 use Rattle.helping.specs.Begun.{Begun, whole_begun, topped_begun, done, body_next, turns_next, within_next, opened, Stays, WithOpened, WithinBegun, TopIs, HelperBegun}
 use Rattle.helping.specs.Decided.{Drawable, Decided, Doable}
 use Rattle.helping.specs.Laws.{ready₁, begun_bad, begun_nothing, begun_template, begun_inverse, begun_write, begun_within, begun_turns}
+use Rattle.error.specs.declared.RenderErrorReason.TheVariants.{BlockTextsLimit, PageLimit}
+use Rattle.error.specs.declared.RenderErrorReason.{RenderErrorReason as Reason}
 
 -- a scope of `with` has no inline partials yet
 none_yet : (v : Value) (ns : BlockParam) (x : Scope) → (with_scope v ns x).count ≡ 0
@@ -82,25 +84,25 @@ pub record Keeps (x : Begun) (c : RenderContext) : Type 0 where
   pub used : x.rc.used ≡ c.used
   pub flat : opened x.next ≡ 0
 
-pub body_keeps : (m : Maybe) (c : RenderContext) (w : Writer) → Keeps (body_next m c w) c
-body_keeps (At p) c w = record { scopes = refl; used = refl; flat = refl }
-body_keeps Nothing c w = record { scopes = refl; used = refl; flat = refl }
+pub body_keeps : (m : RustOption ℕ) (c : RenderContext) (w : Writer) → Keeps (body_next m c w) c
+body_keeps (Some p) c w = record { scopes = refl; used = refl; flat = refl }
+body_keeps None c w = record { scopes = refl; used = refl; flat = refl }
 
-pub turns_keeps : (m : Maybe) (v : Value) (c : RenderContext) (w : Writer) → Keeps (turns_next m v c w) c
-turns_keeps (At p) v c w = record { scopes = refl; used = refl; flat = refl }
-turns_keeps Nothing v c w = record { scopes = refl; used = refl; flat = refl }
+pub turns_keeps : (m : RustOption ℕ) (v : Value) (c : RenderContext) (w : Writer) → Keeps (turns_next m v c w) c
+turns_keeps (Some p) v c w = record { scopes = refl; used = refl; flat = refl }
+turns_keeps None v c w = record { scopes = refl; used = refl; flat = refl }
 
 -- what was written, and settled behind it
 pub written_keeps : (c : RenderContext) (o w : Writer) → Keeps (done (finished w (wrote c o))) c
 written_keeps c o w = go o.full
   where
-    fine : (y : Bool) (d : RenderContext) → d.scopes ≡ c.scopes → d.used ≡ c.used → Keeps (done (pick y (settled d w) d)) c
+    fine : (y : Bool) (d : RenderContext) → d.scopes ≡ c.scopes → d.used ≡ c.used → Keeps (done (pick y d (settled d w))) c
     fine true d e f = record { scopes = e; used = f; flat = refl }
     fine false d e f = record { scopes = e; used = f; flat = refl }
 
-    go : (y : Bool) → Keeps (done (finished w (pick y (failed (with_writer c o) (pick o.block_text 24 25)) (with_writer c o)))) c
-    go true = fine (eqb (pick o.block_text 24 25) 0) (failed (with_writer c o) (pick o.block_text 24 25)) refl refl
-    go false = fine (eqb c.bad 0) (with_writer c o) refl refl
+    go : (y : Bool) → Keeps (done (finished w (pick y (failed (with_writer c o) (Some (pick o.block_text BlockTextsLimit PageLimit))) (with_writer c o)))) c
+    go true = fine true (failed (with_writer c o) (Some (pick o.block_text BlockTextsLimit PageLimit))) refl refl
+    go false = fine (is_some c.bad) (with_writer c o) refl refl
 
 -- Beside the array l, whose newest scope is the front
 
@@ -164,26 +166,26 @@ module _ (rc : state.RenderContext) (front : Scope) (l : List Scope) (sized : le
         same = λ z. absurd (omega (arith, z, one_more));
       }
 
-      opened_is : topped_begun r l ≡ within_next (bits b) n (At p) v c w h.names
+      opened_is : topped_begun r l ≡ within_next (bits b) n (Some p) v c w h.names
       opened_is =
           let e : r.top ≡ with_scope v ns (newest c) = h.top ∙ ap (with_scope v ns) (sym newest_same) in
           ap (λ (y : RenderContext). record { rc = y; next = r.next }) (topped_is ∙ ap (λ (y : Scope). with_template (pushed c y h.names) 0) e)
           ∙ ap (λ (z : Next). record { rc = with_template (pushed c (with_scope v ns (newest c)) h.names) 0; next = z }) h.next
 
     -- with a template or without
-    pub within_top : (k : Maybe) (r : code.Begun) → WithinBegun b ent n k v front q w r → TopIs front rc r
-    within_top (At p) r h = opened_top p r h
-    within_top Nothing r h = stays_top r (done (settled c w)) h.top (h.is l ∙ ap (λ (y : RenderContext). done (settled y w)) marks) (record { scopes = scopes; used = same; flat = refl })
+    pub within_top : (k : RustOption ℕ) (r : code.Begun) → WithinBegun b ent n k v front q w r → TopIs front rc r
+    within_top (Some p) r h = opened_top p r h
+    within_top None r h = stays_top r (done (settled c w)) h.top (h.is l ∙ ap (λ (y : RenderContext). done (settled y w)) marks) (record { scopes = scopes; used = same; flat = refl })
 
-    pub within_told : (k : Maybe) (r : code.Begun) → WithinBegun b ent n k v front q w r
+    pub within_told : (k : RustOption ℕ) (r : code.Begun) → WithinBegun b ent n k v front q w r
         → (m : ℕ) × Covers m b ent (with_scope v ns front) × (topped_begun r l ≡ within_next (bits b) n k v c w m)
-    within_told (At p) r h = (h.names, subst (Covers h.names b ent) h.top h.covers, opened_is p r h)
-    within_told Nothing r h =
+    within_told (Some p) r h = (h.names, subst (Covers h.names b ent) h.top h.covers, opened_is p r h)
+    within_told None r h =
         (18446744073709551615, covers_full b ent (with_scope v ns front), stays_topped r (done (settled c w)) h.top (h.is l ∙ ap (λ (y : RenderContext). done (settled y w)) marks) (record { scopes = scopes; used = same; flat = refl }))
 
 -- What `begin` promises, for each thing that was decided: q is the context behind the marks
 
-module _ (s : Bytes) (tab : List ℕ) (b page texts indent : Bytes) (ent : List ℕ) (front : Scope) (a : Does) (n : ℕ) (tm im : Maybe) (before : Bool) (rc : state.RenderContext) (accepted : Accepted s tab)
+module _ (s : Bytes) (tab : List ℕ) (b page texts indent : Bytes) (ent : List ℕ) (front : Scope) (a : Does) (n : ℕ) (tm im : RustOption ℕ) (before : Bool) (rc : state.RenderContext) (accepted : Accepted s tab)
     (small : length b ≤ 65536) (Q : Doable s b ent front rc a) (held : Holds block_names (bits b) n) (q : state.RenderContext) (marks : (l : List Scope) → whole q l ≡ marked (whole rc l) (before_helper rc.writer before)) where
   abbrev W : List Scope → World
   W l = world (whole rc l) page texts indent ent
@@ -224,9 +226,9 @@ module _ (s : Bytes) (tab : List ℕ) (b page texts indent : Bytes) (ent : List 
         (g l o d p R D ht hi),
   )
 
-  pub begins_bad : (k : ℕ) → a ≡ does.Bad k → (r : code.Begun) (u : state.RenderContext) → Stays front r (λ l. done (whole u l)) → ((l : List Scope) → whole u l ≡ failed (whole q l) k) → TopIs front rc r × Ends page texts r
+  pub begins_bad : (k : Reason) → a ≡ does.Bad k → (r : code.Begun) (u : state.RenderContext) → Stays front r (λ l. done (whole u l)) → ((l : List Scope) → whole u l ≡ failed (whole q l) (Some k)) → TopIs front rc r × Ends page texts r
   begins_bad k e r u h f =
-      stays r (λ l. done (whole u l)) (λ l. done (failed (M l) k)) page texts h (λ l. ap done (f l ∙ ap (λ (y : RenderContext). failed y k) (marks l))) (λ l. record { scopes = refl; used = refl; flat = refl })
+      stays r (λ l. done (whole u l)) (λ l. done (failed (M l) (Some k))) page texts h (λ l. ap done (f l ∙ ap (λ (y : RenderContext). failed y (Some k)) (marks l))) (λ l. record { scopes = refl; used = refl; flat = refl })
       (λ l o d p R D ht hi. begun_bad s b o (W l) d p n before tm im R held small k (can o d p l R D (does.Bad k) e))
 
   pub begins_nothing : a ≡ does.Nothing → (r : code.Begun) (u : state.RenderContext) → Stays front r (λ l. done (whole u l)) → ((l : List Scope) → whole u l ≡ settled (whole q l) m) → TopIs front rc r × Ends page texts r

@@ -1,10 +1,8 @@
 -- What the beginning of a helper leaves to be drawn: s is the plan, b the bundle.
-use Rattle.std.specs.Prelude.{ℕ, ◌+◌, Bool, List, ◌≡◌, length}
+use Rattle.std.specs.Prelude.{ℕ, ◌+◌, Bool, List, ◌≡◌, length, Option as RustOption, Some, None}
 use Rattle.rules.specs.Bytes.{Bytes}
 use Rattle.rules.specs.Bits.{Bits, bits}
 use Rattle.rules.specs.Bundle.{body}
-use Rattle.parts.specs.declared.Maybe.{Maybe}
-use Rattle.parts.specs.declared.Maybe.TheVariants.{At, Nothing}
 use Rattle.parts.specs.Holds.{Holds}
 use Rattle.parts.specs.Views.{names_view}
 use Rattle.parts.specs.Says.{names_at}
@@ -41,18 +39,18 @@ topped_begun r l = record { rc = topped r.rc l r.top; next = r.next }
 abbrev pub done : RenderContext → Begun
 done c = record { rc = c; next = Done }
 
-abbrev pub body_next : Maybe → RenderContext → Writer → Begun
-body_next (At p) c w = record { rc = with_template c 0; next = Body p }
-body_next Nothing c w = done (settled c w)
+abbrev pub body_next : RustOption ℕ → RenderContext → Writer → Begun
+body_next (Some p) c w = record { rc = with_template c 0; next = Body p }
+body_next None c w = done (settled c w)
 
-abbrev pub turns_next : Maybe → Value → RenderContext → Writer → Begun
-turns_next (At p) v c w = record { rc = c; next = Turns v p }
-turns_next Nothing v c w = done (settled c w)
+abbrev pub turns_next : RustOption ℕ → Value → RenderContext → Writer → Begun
+turns_next (Some p) v c w = record { rc = c; next = Turns v p }
+turns_next None v c w = done (settled c w)
 
 -- the scope of `with` is opened; its names stand at n, and are in the set m
-abbrev pub within_next : Bits → ℕ → Maybe → Value → RenderContext → Writer → ℕ → Begun
-within_next b n (At p) v c w m = record { rc = with_template (pushed c (with_scope v (names_view b n) (newest c)) m) 0; next = Within p }
-within_next b n Nothing v c w m = done (settled c w)
+abbrev pub within_next : Bits → ℕ → RustOption ℕ → Value → RenderContext → Writer → ℕ → Begun
+within_next b n (Some p) v c w m = record { rc = with_template (pushed c (with_scope v (names_view b n) (newest c)) m) 0; next = Within p }
+within_next b n None v c w m = done (settled c w)
 
 -- how many scopes were opened
 abbrev pub opened : Next → ℕ
@@ -74,9 +72,9 @@ pub record WithOpened (b : Bytes) (ent : List ℕ) (n p : ℕ) (v : Value) (fron
   pub next : r.next ≡ Within p
   pub is : (l : List Scope) → length l ≡ 32 → Current l rc → topped r.rc l r.top ≡ with_template (pushed (whole rc l) r.top names) 0
 
-abbrev pub WithinBegun : Bytes → List ℕ → ℕ → Maybe → Value → Scope → state.RenderContext → Writer → code.Begun → Type 0
-WithinBegun b ent n (At p) v front rc w r = WithOpened b ent n p v front rc r
-WithinBegun b ent n Nothing v front rc w r = Stays front r (λ l. done (settled (whole rc l) w))
+abbrev pub WithinBegun : Bytes → List ℕ → ℕ → RustOption ℕ → Value → Scope → state.RenderContext → Writer → code.Begun → Type 0
+WithinBegun b ent n (Some p) v front rc w r = WithOpened b ent n p v front rc r
+WithinBegun b ent n None v front rc w r = Stays front r (λ l. done (settled (whole rc l) w))
 
 -- top is the newest scope: the one that was opened, else the front
 pub record TopIs (front : Scope) (rc : state.RenderContext) (r : code.Begun) : Type 0 where
@@ -85,7 +83,7 @@ pub record TopIs (front : Scope) (rc : state.RenderContext) (r : code.Begun) : T
   pub same : opened r.next ≡ 0 → r.top ≡ front
 
 -- w is in front of the helper, w₁ is what its beginning leaves
-abbrev pub HelperBegun : Bytes → Bytes → Options → World → World → ℕ → ℕ → ℕ → Maybe → Maybe → Bool → Next → Type 0
+abbrev pub HelperBegun : Bytes → Bytes → Options → World → World → ℕ → ℕ → ℕ → RustOption ℕ → RustOption ℕ → Bool → Next → Type 0
 HelperBegun s b o w w₁ d p n tm im before Done = Renders s b o w w₁ (helper_rule b d p before (names_at (bits b) n) tm im)
 HelperBegun s b o w w₁ d p n tm im before (Body q) =
     Holds (body 16 d) (bits b) q × Continues s b o w w₁ 0 (body_rule b d q 0) (helper_rule b d p before (names_at (bits b) n) tm im) (finished w.rc.writer)

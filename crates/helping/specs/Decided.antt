@@ -1,5 +1,5 @@
 -- What a helper was found to do is drawn, and its marks are settled: s is the plan, b the bundle.
-use Rattle.std.specs.Prelude.{ℕ, Bool, true, List, ◌≡◌}
+use Rattle.std.specs.Prelude.{ℕ, Bool, true, List, ◌≡◌, Option as RustOption, Some, None}
 use Rattle.rules.specs.Bytes.{Bytes}
 use Rattle.rules.specs.Bits.{bits}
 use Rattle.rules.specs.Template as template
@@ -9,7 +9,6 @@ use Rattle.rules.specs.Expand.{evaluate2, try_from_template}
 use Rattle.rules.specs.Registry.{Registry}
 use Rattle.rules.specs.Partial.{Rendering}
 use Rattle.rules.specs.Render.{render_helper, render_body}
-use Rattle.parts.specs.declared.Maybe.{Maybe}
 use Rattle.parts.specs.Says.{path_at}
 use Rattle.context.specs.declared.Evaluated.{Evaluated}
 use Rattle.context.specs.Evaluated.{Evaluates}
@@ -30,25 +29,23 @@ use Rattle.drawing.specs.Parts.{before_helper}
 use Rattle.drawing.specs.Renders.{Renders, Possible, Helped}
 use Rattle.helping.specs.declared.Few.{Few}
 use Rattle.helping.specs.declared.Few.TheVariants.{One, Two, Other}
-use Rattle.helping.specs.declared.Near.{Near}
-use Rattle.helping.specs.declared.Near.TheVariants.{Is, Far}
 use Rattle.helping.specs.Few.{few_view}
 
 -- the element: its call at p, its bodies tm and im with d depths, its names ns
-abbrev pub helper_rule : Bytes → ℕ → ℕ → Bool → template.BlockParam → Maybe → Maybe → Registry → Rendering → Draw
+abbrev pub helper_rule : Bytes → ℕ → ℕ → Bool → template.BlockParam → RustOption ℕ → RustOption ℕ → Registry → Rendering → Draw
 helper_rule b d p before ns tm im g R = render_helper g (call_at d (bits b) p) before ns (render_body g R (body_says 16 d (bits b) tm)) (render_body g R (body_says 16 d (bits b) im))
 
 -- behind the marks
 abbrev pub marks_set : World → Bool → World
 marks_set w before = over (marked w.rc (before_helper w.rc.writer before)) w
 
-pub record Drawable (s b : Bytes) (o : Options) (w : World) (d p : ℕ) (before : Bool) (ns : template.BlockParam) (tm im : Maybe) (a : Does) : Type 0 where
+pub record Drawable (s b : Bytes) (o : Options) (w : World) (d p : ℕ) (before : Bool) (ns : template.BlockParam) (tm im : RustOption ℕ) (a : Does) : Type 0 where
   pub possible : Possible s b (marks_set w before) a
   pub done : (w₂ : World) → Helped s b o (marks_set w before) w₂ ns (body_says 16 d (bits b) tm) (body_says 16 d (bits b) im) a
       → Renders s b o w (over (finished w.rc.writer w₂.rc) w₂) (helper_rule b d p before ns tm im)
 
 -- whatever page, texts and indent there are
-pub record Decided (s b : Bytes) (ent : List ℕ) (o : Options) (c : RenderContext) (d p : ℕ) (tm im : Maybe) (a : Does) : Type 0 where
+pub record Decided (s b : Bytes) (ent : List ℕ) (o : Options) (c : RenderContext) (d p : ℕ) (tm im : RustOption ℕ) (a : Does) : Type 0 where
   pub at : (page texts indent : Bytes) (before : Bool) (ns : template.BlockParam) → Ready s b (world c page texts indent ent) → Drawable s b o (world c page texts indent ent) d p before ns tm im a
 
 -- what the path at v leads to
@@ -63,7 +60,7 @@ CallWorked s b ent l used o d p x =
 
 -- of a call by the scopes that are open and the bodies that there are, whatever the context is else
 abbrev pub DecidedBy : Bytes → Bytes → List ℕ → List Scope → ℕ → Options → ℕ → ℕ → Bool → Bool → Does → Type 0
-DecidedBy s b ent l used o d p ht hi a = (c : RenderContext) (tm im : Maybe) → c.scopes ≡ l → c.used ≡ used → ht ≡ is_at tm → hi ≡ is_at im → Decided s b ent o c d p tm im a
+DecidedBy s b ent l used o d p ht hi a = (c : RenderContext) (tm im : RustOption ℕ) → c.scopes ≡ l → c.used ≡ used → ht ≡ is_at tm → hi ≡ is_at im → Decided s b ent o c d p tm im a
 
 -- By the front alone
 
@@ -73,9 +70,9 @@ few_needs_all b ent front names (One v) = needs_all b ent front names (path_at (
 few_needs_all b ent front names (Two v k) = needs_all b ent front names (path_at (bits b) v)
 few_needs_all b ent front names Other = true
 
-abbrev pub DecidedNear : Bytes → Bytes → List ℕ → Scope → ℕ → ℕ → Options → ℕ → ℕ → Bool → Bool → Near → Type 0
-DecidedNear s b ent front names used o d p ht hi (Is a) = (l : List Scope) → Newest b ent front names l used → DecidedBy s b ent l used o d p ht hi a
-DecidedNear s b ent front names used o d p ht hi Far = few_needs_all b ent front names (few_view (bits b) p) ≡ true
+abbrev pub DecidedNear : Bytes → Bytes → List ℕ → Scope → ℕ → ℕ → Options → ℕ → ℕ → Bool → Bool → RustOption Does → Type 0
+DecidedNear s b ent front names used o d p ht hi (Some a) = (l : List Scope) → Newest b ent front names l used → DecidedBy s b ent l used o d p ht hi a
+DecidedNear s b ent front names used o d p ht hi None = few_needs_all b ent front names (few_view (bits b) p) ≡ true
 
 -- there is an array with that front in a call, and what was decided can be done there
 pub record Doable (s b : Bytes) (ent : List ℕ) (front : Scope) (rc : code.RenderContext) (a : Does) : Type 0 where

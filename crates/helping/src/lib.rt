@@ -27,11 +27,10 @@ ghost use Rattle.helping.specs.Few.{SecondHolds, second_view, few_view, FewIs};
 ghost use Rattle.helping.specs.Decided.{Leads, CallWorked, Decided, DecidedBy, DecidedNear, Doable};
 ghost use Rattle.helping.specs.Begun.{done, body_next, turns_next, Stays, WithinBegun, TopIs, HelperBegun};
 
-use error::INVALID_JSON_INDEX;
+use error::RenderErrorReason;
 use expand::{Expanded, Options};
 use helpers::Does;
 use output::Writer;
-use parts::Maybe;
 use scope::Scope;
 use state::RenderContext;
 use value::Value;
@@ -113,7 +112,7 @@ fn decide_one(
 {
     // a wrong index
     if found == 0 {
-        return Does::Bad(INVALID_JSON_INDEX);
+        return Does::Bad(RenderErrorReason::InvalidJsonIndex);
     }
     let w = value::decode((found - 1) as u32);
     let h = expand::helper_at(b, p + 2);
@@ -148,7 +147,7 @@ fn decide_two(
 {
     // a wrong index
     if found == 0 {
-        return Does::Bad(INVALID_JSON_INDEX);
+        return Does::Bad(RenderErrorReason::InvalidJsonIndex);
     }
     let w = value::decode((found - 1) as u32);
     let h = expand::helper_at(b, p + 2);
@@ -168,12 +167,6 @@ fn decide_two(
 }
 
 // What a helper does, if the front tells.
-#[derive(Clone, Copy)]
-pub enum Near {
-    Is(Does),
-    Far,
-}
-
 // What the helper of the call at p does, by the front alone.
 pub fn decide_near(
     s: &[u8],
@@ -185,10 +178,10 @@ pub fn decide_near(
     used: usize,
     options: Options,
     p: usize,
-    template: Maybe,
-    inverse: Maybe,
+    template: Option<usize>,
+    inverse: Option<usize>,
     d: usize,
-) -> Near
+) -> Option<Does>
     requires { Accepted s.now tab.now
         × (length b.now ≤ 65536)
         × NearFront s.now b.now ent.now front names
@@ -204,18 +197,18 @@ pub fn decide_near(
         Few::One(v) => {
             let x = context::evaluate_near(s, tab, b, ent, front, names, r, v);
             if x == context::FAR {
-                return Near::Far;
+                return None;
             }
-            Near::Is(decide_one(s, tab, b, used, options, p, x, t, i))
+            Some(decide_one(s, tab, b, used, options, p, x, t, i))
         }
         Few::Two(v, l) => {
             let x = context::evaluate_near(s, tab, b, ent, front, names, r, v);
             if x == context::FAR {
-                return Near::Far;
+                return None;
             }
-            Near::Is(decide_two(s, tab, b, ent, used, options, p, x, l, t, i))
+            Some(decide_two(s, tab, b, ent, used, options, p, x, l, t, i))
         }
-        Few::Other => Near::Far,
+        Few::Other => None,
     }
 }
 
@@ -228,19 +221,19 @@ pub fn decide(
     used: usize,
     options: Options,
     w: Expanded,
-    template: Maybe,
-    inverse: Maybe,
+    template: Option<usize>,
+    inverse: Option<usize>,
 ) -> Does
     requires { Accepted s.now tab.now
         × (length b.now ≤ 65536)
-        × (w.bad ≡ 0 → ExpandedHeld s.now b.now ent.now w) }
+        × (w.bad ≡ None → ExpandedHeld s.now b.now ent.now w) }
     ensures { (l : List Scope) (d p : ℕ)
         → CallWorked s.now b.now ent.now l used options d p w
         → DecidedBy s.now b.now ent.now l used options d p
         (is_at template) (is_at inverse) result }
 {
-    if w.bad != 0 {
-        return Does::Bad(w.bad);
+    if let Some(e) = w.bad {
+        return Does::Bad(e);
     }
     let n = w.name;
     let h = expand::get_helper(s, tab, b, n);
@@ -311,18 +304,18 @@ fn done(front: Scope, rc: RenderContext) -> Begun
 }
 
 // A body of the element, if it has it; a body has no name.
-fn body_next(m: Maybe, front: Scope, rc: RenderContext, before: Writer) -> Begun
+fn body_next(m: Option<usize>, front: Scope, rc: RenderContext, before: Writer) -> Begun
     ensures { Stays front result (λ l. body_next m (whole rc l) before) }
 {
     match m {
-        Maybe::At(p) => {
+        Some(p) => {
             Begun {
                 rc: state::set_current_template_name(rc, 0),
                 top: front,
                 next: Next::Body(p),
             }
         }
-        Maybe::Nothing => done(front, state::settle(rc, before)),
+        None => done(front, state::settle(rc, before)),
     }
 }
 
@@ -332,7 +325,7 @@ fn within_next(
     ent: &[u64],
     front: Scope,
     at: usize,
-    m: Maybe,
+    m: Option<usize>,
     v: Value,
     rc: RenderContext,
     before: Writer,
@@ -345,7 +338,7 @@ fn within_next(
         × (rc.used < 32) }
     ensures { WithinBegun b.now ent.now at m v front rc before result }
 {
-    let Maybe::At(p) = m else {
+    let Some(p) = m else {
         return done(front, state::settle(rc, before));
     };
     let c = blocks::open_with(b, front, at, v);
@@ -357,18 +350,18 @@ fn within_next(
     }
 }
 
-fn turns_next(m: Maybe, v: Value, front: Scope, rc: RenderContext, before: Writer) -> Begun
+fn turns_next(m: Option<usize>, v: Value, front: Scope, rc: RenderContext, before: Writer) -> Begun
     ensures { Stays front result (λ l. turns_next m v (whole rc l) before) }
 {
     match m {
-        Maybe::At(p) => {
+        Some(p) => {
             Begun {
                 rc,
                 top: front,
                 next: Next::Turns(v, p),
             }
         }
-        Maybe::Nothing => done(front, state::settle(rc, before)),
+        None => done(front, state::settle(rc, before)),
     }
 }
 
@@ -384,8 +377,8 @@ pub fn begin(
     front: Scope,
     does: Does,
     at: usize,
-    template: Maybe,
-    inverse: Maybe,
+    template: Option<usize>,
+    inverse: Option<usize>,
     before: bool,
     rc: RenderContext,
 ) -> Begun

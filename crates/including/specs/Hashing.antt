@@ -1,5 +1,5 @@
 -- What the hash of a call works out to, pair by pair: b is the bundle.
-use Rattle.std.specs.Prelude.{ℕ, zero, suc, ◌+◌, ◌-◌, ◌≤◌, ◌<◌, Bool, true, false, List, [], ◌∷◌, ◌≡◌, refl, eqb}
+use Rattle.std.specs.Prelude.{ℕ, zero, suc, ◌+◌, ◌-◌, ◌≤◌, ◌<◌, Bool, true, false, List, [], ◌∷◌, ◌≡◌, refl, eqb, Option as RustOption}
 use Rattle.std.proofs.Common.{sym, ap, ◌∙◌, arith, eqb-true, ne_eqb}
 use Rattle.std.proofs.lemmas.Bool.{eqb-false}
 use Rattle.rules.specs.Bytes.{Bytes, pick}
@@ -7,7 +7,7 @@ use Rattle.rules.specs.Bits.{Bits, bits}
 use Rattle.rules.specs.Layout.{◌then◌}
 use Rattle.rules.specs.Bundle.{string, param}
 use Rattle.rules.specs.Error as rule
-use Rattle.rules.specs.Error.{RenderErrorReason, number, got, bad, wth}
+use Rattle.rules.specs.Error.{got, bad, wth}
 use Rattle.rules.specs.Value.{ScopedJson}
 use Rattle.rules.specs.State.{RenderContext}
 use Rattle.rules.specs.Registry.{Registry}
@@ -18,6 +18,8 @@ use Rattle.parts.specs.HoldsLaws.{more_holds}
 use Rattle.calls.specs.Calls.{param_at, hash_at, no_hash, hash_more}
 use Rattle.expand.specs.Answers.{Refuses, Works}
 use Rattle.including.specs.Values.{pair_place, content_place}
+use Rattle.error.specs.declared.RenderErrorReason.{RenderErrorReason as Reason}
+use Rattle.error.specs.Reasons.{refusal_some}
 
 pub pick_first : (i x y : ℕ) → i ≡ 0 → x ≡ pick (eqb i 0) x y
 pick_first i x y e = ap (λ (j : ℕ). pick (eqb j 0) x y) (sym e)
@@ -29,25 +31,8 @@ pub next_place : (d : ℕ) (b : Bits) (p i : ℕ) → pick (eqb i 0) (pair_place
 next_place d b p zero = refl
 next_place d b p (suc i) = let e : suc i - 1 ≡ i = omega arith in rw (ne_eqb (suc i) 0 (λ z. absurd (omega (arith, z)))) (ap (λ (j : ℕ). end (string then param d) b (pair_place d b p j)) e)
 
-reason_some : (r : RenderErrorReason) → number r ≡ 0 → ⊥
-reason_some rule.missing-variable e = omega arith
-reason_some rule.partial-not-found e = omega arith
-reason_some rule.partial-block-not-found e = omega arith
-reason_some rule.helper-not-found e = omega arith
-reason_some rule.param-not-found-for-index e = omega arith
-reason_some rule.decorator-not-found e = omega arith
-reason_some rule.cannot-include-self e = omega arith
-reason_some rule.invalid-param-type e = omega arith
-reason_some rule.block-content-required e = omega arith
-reason_some rule.invalid-json-index e = omega arith
-reason_some rule.indent-limit e = omega arith
-reason_some rule.entries-limit e = omega arith
-reason_some rule.scopes-limit e = omega arith
-reason_some rule.block-texts-limit e = omega arith
-reason_some rule.page-limit e = omega arith
-
-pub refusal_works : {A : Type 0} (P : A → Type 0) (x : rule.Got A) (n : ℕ) → Refuses x n → Works P x n
-refusal_works P x n r = record { fine = λ e. absurd (reason_some r.reason (r.by_number ∙ e)); refused = λ e. r }
+pub refusal_works : {A : Type 0} (P : A → Type 0) (x : rule.Got A) (n : RustOption Reason) → Refuses x n → Works P x n
+refusal_works P x n r = record { fine = λ e. absurd (refusal_some r.reason (r.by_reason ∙ e)); refused = λ e. r }
 
 -- 0 for what is refused
 abbrev unless_bad : {A : Type 0} → rule.Got A → ℕ → ℕ
@@ -80,7 +65,7 @@ module _ (b : Bytes) (d p : ℕ) (g : Registry) (st : RenderContext) where
   pub counted_all : (n : ℕ) → WorkedOut n → worked n 0 ≡ n
   counted_all n w = all_counted n 0 n (omega arith) w
 
-  some_counted : (n i m k : ℕ) → i ≤ m → m < i + n → WorkedOut m → Refuses (value_of m) k → i + worked n i ≡ m
+  some_counted : (n i m : ℕ) (k : RustOption Reason) → i ≤ m → m < i + n → WorkedOut m → Refuses (value_of m) k → i + worked n i ≡ m
   some_counted zero i m k le lt w r = absurd (omega arith)
   some_counted (suc n) i m k le lt w r = go (eqb i m) refl (λ h. some_counted n (suc i) m k (omega arith) (omega arith) w r)
     where
@@ -93,7 +78,7 @@ module _ (b : Bytes) (d p : ℕ) (g : Registry) (st : RenderContext) where
           let e = ap (λ (x : rule.Got ScopedJson). unless_bad x (suc (worked n (suc i)))) (w i before).1 in
           omega (arith, e, f before)
 
-  pub counted_some : (n m k : ℕ) → m < n → WorkedOut m → Refuses (value_of m) k → worked n 0 ≡ m
+  pub counted_some : (n m : ℕ) (k : RustOption Reason) → m < n → WorkedOut m → Refuses (value_of m) k → worked n 0 ≡ m
   counted_some n m k lt w r = omega (arith, some_counted n 0 m k (omega arith) (omega arith) w r)
 
   pub one_worked : (m : ℕ) → WorkedOut m → (v : ScopedJson) → value_of m ≡ got v → WorkedOut (suc m)
@@ -127,14 +112,14 @@ module _ (b : Bytes) (d p : ℕ) (g : Registry) (st : RenderContext) where
   pub all_worked : (n : ℕ) → WorkedOut n → Holds (row (string then param d) n) (bits b) p → (h : List (Bytes × ScopedJson)) × (rules.expand_hash g st (hash_at d n (bits b) p) ≡ got h)
   all_worked n w H = all_from n 0 n (omega arith) w H
 
-  refused_from : (n i m k : ℕ) → i ≤ m → m < i + n → WorkedOut m → Holds (row (string then param d) n) (bits b) (pair_place d (bits b) p i) → Refuses (value_of m) k → Refuses (hash_from n i) k
+  refused_from : (n i m : ℕ) (k : RustOption Reason) → i ≤ m → m < i + n → WorkedOut m → Holds (row (string then param d) n) (bits b) (pair_place d (bits b) p i) → Refuses (value_of m) k → Refuses (hash_from n i) k
   refused_from zero i m k le lt w H r = absurd (omega arith)
   refused_from (suc n) i m k le lt w H r = go (eqb i m) refl (λ h. refused_from n (suc i) m k (omega arith) (omega arith) w (more_holds (string then param d) n (bits b) (pair_place d (bits b) p i) H).rest r)
     where
       go : (y : Bool) → eqb i m ≡ y → (i < m → Refuses (hash_from n (suc i)) k) → Refuses (hash_from (suc n) i) k
       go true q f =
           let e : value_of i ≡ bad r.reason = ap value_of (eqb-true i m q) ∙ r.is in
-          record { reason = r.reason; is = one_more n i H ∙ ap (λ (x : rule.Got ScopedJson). wth x (λ v. wth (hash_from n (suc i)) (λ vs. got ((text_at (bits b) (pair_place d (bits b) p i), v) ∷ vs)))) e; by_number = r.by_number }
+          record { reason = r.reason; is = one_more n i H ∙ ap (λ (x : rule.Got ScopedJson). wth x (λ v. wth (hash_from n (suc i)) (λ vs. got ((text_at (bits b) (pair_place d (bits b) p i), v) ∷ vs)))) e; by_reason = r.by_reason }
       go false q f =
           let before : i < m = omega (arith, eqb-false i m q) in
           let v = w i before in
@@ -144,8 +129,8 @@ module _ (b : Bytes) (d p : ℕ) (g : Registry) (st : RenderContext) where
             is = one_more n i H
                 ∙ ap (λ (x : rule.Got ScopedJson). wth x (λ v. wth (hash_from n (suc i)) (λ vs. got ((text_at (bits b) (pair_place d (bits b) p i), v) ∷ vs)))) v.1
                 ∙ ap (λ (x : rule.Got (List (Bytes × ScopedJson))). wth x (λ vs. got ((text_at (bits b) (pair_place d (bits b) p i), v.0) ∷ vs))) s.is;
-            by_number = s.by_number;
+            by_reason = s.by_reason;
           }
 
-  pub one_refused : (n m k : ℕ) → m < n → WorkedOut m → Holds (row (string then param d) n) (bits b) p → Refuses (value_of m) k → Refuses (rules.expand_hash g st (hash_at d n (bits b) p)) k
+  pub one_refused : (n m : ℕ) (k : RustOption Reason) → m < n → WorkedOut m → Holds (row (string then param d) n) (bits b) p → Refuses (value_of m) k → Refuses (rules.expand_hash g st (hash_at d n (bits b) p)) k
   one_refused n m k lt w H r = refused_from n 0 m k (omega arith) (omega arith) w H r

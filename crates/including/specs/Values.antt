@@ -1,5 +1,5 @@
 -- Hash values, kept as numbers: s is the plan, b the bundle, ent the entries of open partials.
-use Rattle.std.specs.Prelude.{ℕ, zero, suc, ◌≤◌, ◌<◌, List, [], ◌∷◌, ◌≡◌, get_or}
+use Rattle.std.specs.Prelude.{ℕ, zero, suc, ◌≤◌, ◌<◌, List, [], ◌∷◌, ◌≡◌, get_or, Result, Ok, Err}
 use Rattle.rules.specs.Bytes.{Bytes}
 use Rattle.rules.specs.Bits.{Bits, bits}
 use Rattle.rules.specs.Layout.{◌then◌}
@@ -16,8 +16,8 @@ use Rattle.calls.specs.Calls.{param_at}
 use Rattle.value.specs.Numbers.{Fits, encoded, decoded}
 use Rattle.meaning.specs.Meaning.{scoped_of}
 use Rattle.meaning.specs.Standing.{Stands}
-use Rattle.expand.specs.declared.Got.{Got}
-use Rattle.expand.specs.declared.Got.TheVariants.{Is, Bad}
+use Rattle.error.specs.declared.RenderErrorReason.{RenderErrorReason as Reason}
+use Rattle.value.specs.declared.Value.{Value}
 
 -- where the i-th of the hash pairs at p stands, and its value
 abbrev pub pair_place : ℕ → Bits → ℕ → ℕ → ℕ
@@ -28,13 +28,13 @@ abbrev pub content_place : ℕ → Bits → ℕ → ℕ → ℕ
 content_place d b p i = end string b (pair_place d b p i)
 
 -- what is refused counts as missing
-abbrev pub number_of : Got → ℕ
-number_of (Is v) = encoded v
-number_of (Bad n) = 0
+abbrev pub number_of : Result Value Reason → ℕ
+number_of (Ok v) = encoded v
+number_of (Err n) = 0
 
-abbrev pub GotFits : Got → Type 0
-GotFits (Is v) = Fits v
-GotFits (Bad n) = Unit {0}
+abbrev pub GotFits : Result Value Reason → Type 0
+GotFits (Ok v) = Fits v
+GotFits (Err n) = Unit {0}
 
 -- k is the number of what x gives
 pub record Numbered (s b : Bytes) (ent : List ℕ) (t : ℕ) (x : rule.Got ScopedJson) (k : ℕ) : Type 0 where

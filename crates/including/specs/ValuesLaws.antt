@@ -1,5 +1,5 @@
 -- Laws of hash values as numbers.
-use Rattle.std.specs.Prelude.{ℕ, zero, suc, ◌+◌, ◌≤◌, ◌<◌, Bool, true, false, List, [], ◌∷◌, ◌≡◌, refl, eqb, length, set, get_or, replicate}
+use Rattle.std.specs.Prelude.{ℕ, zero, suc, ◌+◌, ◌≤◌, ◌<◌, Bool, true, false, List, [], ◌∷◌, ◌≡◌, refl, eqb, length, set, get_or, replicate, Result, Ok, Err}
 use Rattle.std.proofs.Common.{sym, ap, ap₂, ◌∙◌, subst, arith, get_or-set_same, get_or-set_other, eqb-true}
 use Rattle.std.proofs.lemmas.Bool.{eqb-false}
 use Rattle.rules.specs.Bytes.{Bytes}
@@ -23,10 +23,9 @@ use Rattle.value.specs.Numbers.{Fits, encoded, decoded, decoded_encoded}
 use Rattle.meaning.specs.Meaning.{scoped_of}
 use Rattle.meaning.specs.Standing.{Stands, plain}
 use Rattle.context.specs.Near as near
-use Rattle.expand.specs.declared.Got.{Got}
-use Rattle.expand.specs.declared.Got.TheVariants.{Is, Bad}
 use Rattle.expand.specs.Answers.{Expands}
 use Rattle.including.specs.Values.{pair_place, content_place, number_of, GotFits, Numbered, HashValuesIn, HashValues, hash_pairs}
+use Rattle.error.specs.declared.RenderErrorReason.{RenderErrorReason as Reason}
 
 -- A value that stands has a number
 
@@ -56,12 +55,12 @@ pub got_is : {A C : Type 0} {x : rule.Got A} (a : A) (r : RenderErrorReason) →
 got_is a r e f = let y : got a ≡ bad r = sym e ∙ f in let z : ◌≡◌ {A = ℕ} 0 1 = cc in absurd (omega arith)
 
 module _ (s b : Bytes) (ent : List ℕ) (t : ℕ) where
-  pub got_fits : answer s ≡ 0 → length b ≤ 65536 → t < 1048576 → (x : rule.Got ScopedJson) (r : Got) → Expands s b ent t x r → GotFits r
-  got_fits h le few x (Is v) e = near.stands_fits s b ent t h le few v e.1
-  got_fits h le few x (Bad n) e = tt
+  pub got_fits : answer s ≡ 0 → length b ≤ 65536 → t < 1048576 → (x : rule.Got ScopedJson) (r : Result Value Reason) → Expands s b ent t x r → GotFits r
+  got_fits h le few x (Ok v) e = near.stands_fits s b ent t h le few v e.1
+  got_fits h le few x (Err n) e = tt
 
-  pub numbered : (x : rule.Got ScopedJson) (r : Got) → Expands s b ent t x r → GotFits r → Numbered s b ent t x (number_of r)
-  numbered x (Is v) e f =
+  pub numbered : (x : rule.Got ScopedJson) (r : Result Value Reason) → Expands s b ent t x r → GotFits r → Numbered s b ent t x (number_of r)
+  numbered x (Ok v) e f =
       let same : decoded (encoded v) ≡ v = decoded_encoded v f in
       record {
         value = λ w q. let y : got w ≡ got (scoped_of s b ent v) = sym q ∙ e.0 in let z : w ≡ scoped_of s b ent v = cc in z ∙ ap (scoped_of s b ent) (sym same);
@@ -69,7 +68,7 @@ module _ (s b : Bytes) (ent : List ℕ) (t : ℕ) where
         near = encoded_near v f;
         stands = subst (Stands s b ent t) (sym same) e.1;
       }
-  numbered x (Bad n) e f =
+  numbered x (Err n) e f =
       record {
         value = λ w q. got_is w e.reason q e.is;
         refused = λ r q. refl;

@@ -5,6 +5,7 @@
 ghost use Rattle.std.specs.Prelude.{◌≡◌, List, ℕ, ◌+◌, ◌*◌, ◌≤◌, ◌<◌, eqb, length};
 ghost use Rattle.rules.specs.Bytes.{pick};
 ghost use Rattle.rules.specs.Bits.{bits};
+ghost use Rattle.error.specs.Reasons.{refused};
 ghost use Rattle.rules.specs.Layout.{◌then◌};
 ghost use Rattle.rules.specs.Bundle.{string, path, param};
 ghost use Rattle.rules.specs.State.{RenderContext};
@@ -29,8 +30,8 @@ ghost use Rattle.including.specs.Hashing.{worked};
 
 use calls::Parameter;
 use context::Evaluated;
-use error::INVALID_JSON_INDEX;
-use expand::{Got, Options};
+use error::RenderErrorReason;
+use expand::Options;
 use scope::Scope;
 use value::Value;
 
@@ -73,7 +74,7 @@ fn hash_value(
     options: Options,
     q: usize,
     d: usize,
-) -> Got
+) -> Result<Value, RenderErrorReason>
     requires { Accepted s.now tab.now × (length b.now ≤ 65536) × (0 < used) × (used ≤ 32)
         × NearScopes s.now b.now ent.now scopes used × Newest b.now ent.now front names scopes used
         × Holds (param d) (bits b.now) q }
@@ -100,20 +101,20 @@ fn hash_value(
     );
     let found = context::answer_of(r);
     match found {
-        Evaluated::Is(v) => Got::Is(v),
-        Evaluated::Nothing => Got::Is(Value::Missing),
-        Evaluated::BadIndex => Got::Bad(INVALID_JSON_INDEX),
+        Evaluated::Is(v) => Ok(v),
+        Evaluated::Nothing => Ok(Value::Missing),
+        Evaluated::BadIndex => Err(RenderErrorReason::InvalidJsonIndex),
     }
 }
 
 // A hash value as a number.
-fn number_of(r: Got) -> u32
+fn number_of(r: Result<Value, RenderErrorReason>) -> u32
     requires { GotFits r }
     ensures { result ≡ number_of r }
 {
     match r {
-        Got::Is(v) => value::encode(v),
-        Got::Bad(_) => 0,
+        Ok(v) => value::encode(v),
+        Err(_) => 0,
     }
 }
 
@@ -130,7 +131,7 @@ fn next_pair(b: &[u8], at: usize, i: usize, d: usize) -> usize
 }
 
 // The numbers of the values of the n hash pairs at p, one by one up to the first that is refused: from there on what is
-// lent stays as it was. The answer is the number of the refusal, or 0.
+// lent stays as it was.
 // front is the newest scope, and the block names of all are in names.
 pub fn hash_all(
     s: &[u8],
@@ -146,7 +147,7 @@ pub fn hash_all(
     n: usize,
     d: usize,
     values: &mut [u32],
-) -> u8
+) -> Result<(), RenderErrorReason>
     requires { Accepted s.now tab.now × (length b.now ≤ 65536) × (0 < used) × (used ≤ 32)
         × NearScopes s.now b.now ent.now scopes used × Newest b.now ent.now front names scopes used
         × (n < 16) × Holds (row (string then param d) n) (bits b.now) p × (n ≤ length values.old) }
@@ -155,7 +156,7 @@ pub fn hash_all(
         → Works
         (λ _. HashValuesIn s.now b.now ent.now t d p n g st
         values.old values.new)
-        (rules.expand_hash g st (hash_at d n (bits b.now) p)) result)
+        (rules.expand_hash g st (hash_at d n (bits b.now) p)) (refused result))
         × ((g : Registry) (st : RenderContext) (t : ℕ)
         → Setting s.now b.now ent.now scopes used options g st t
         → HashValuesIn s.now b.now ent.now t d p
@@ -163,18 +164,16 @@ pub fn hash_all(
         values.old values.new) }
 {
     let mut at = p;
-    let mut i: usize = 0;
-    while i < n {
+    for i in 0..n {
         at = next_pair(b, at, i, d);
         let q = parts::skip_string(b, at);
         let x = hash_value(s, tab, b, ent, scopes, front, names, used, options, q, d);
-        if let Got::Bad(k) = x {
-            return k;
+        if let Err(k) = x {
+            return Err(k);
         }
         values[i] = number_of(x);
-        i += 1;
     }
-    0
+    Ok(())
 }
 
 // What the hash is merged into: the first of count parameters, or else the value of the newest scope.
@@ -206,11 +205,9 @@ pub fn merge(
 {
     let k = value::encode(base);
     let mut at = p;
-    let mut i: usize = 0;
-    while i < n {
+    for i in 0..n {
         at = next_pair(b, at, i, d);
         entries::store(ent, t + i, values[i], k, at);
-        i += 1;
     }
 }
 

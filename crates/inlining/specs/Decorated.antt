@@ -1,14 +1,11 @@
 -- render.rs: `eval_decorator`, what it leaves. s is the plan, b the bundle, ent the entries of open partials.
-use Rattle.std.specs.Prelude.{ℕ, ◌+◌, ◌-◌, ◌*◌, ◌≤◌, ◌<◌, Bool, true, false, List, ◌≡◌, length, set}
+use Rattle.std.specs.Prelude.{ℕ, ◌+◌, ◌-◌, ◌*◌, ◌≤◌, ◌<◌, Bool, true, false, List, ◌≡◌, length, set, Option as RustOption, Some, None}
 use Rattle.std.proofs.Math.Option.{Option, none, some}
 use Rattle.rules.specs.Bytes.{Bytes}
 use Rattle.rules.specs.Bits.{Bits, bits}
 use Rattle.rules.specs.Template.{Template}
-use Rattle.rules.specs.Error.{number, block-content-required}
 use Rattle.rules.specs.Registry.{Registry}
 use Rattle.rules.specs.Render.{eval_decorator}
-use Rattle.parts.specs.declared.Maybe.{Maybe}
-use Rattle.parts.specs.declared.Maybe.TheVariants.{At, Nothing}
 use Rattle.parts.specs.Says.{indent_says}
 use Rattle.calls.specs.Calls.{call_at}
 use Rattle.template.specs.Views.{template_at}
@@ -26,26 +23,28 @@ use Rattle.decorators.specs.Inlined.{newest}
 use Rattle.state.specs.Context.{RenderContext}
 use Rattle.state.specs.Setters.{failed, with_scopes}
 use Rattle.state.specs.World.{world, abs, Ready, Draws}
+use Rattle.error.specs.declared.RenderErrorReason.TheVariants.{BlockContentRequired}
+use Rattle.error.specs.Reasons.{refusal}
 
-abbrev pub is_at : Maybe → Bool
-is_at (At q) = true
-is_at Nothing = false
+abbrev pub is_at : RustOption ℕ → Bool
+is_at (Some q) = true
+is_at None = false
 
 -- the element's body, with d depths left
-abbrev pub template_says : ℕ → Bits → Maybe → Option Template
-template_says d b (At q) = some (template_at 16 d b q)
-template_says d b Nothing = none
+abbrev pub template_says : ℕ → Bits → RustOption ℕ → Option Template
+template_says d b (Some q) = some (template_at 16 d b q)
+template_says d b None = none
 
-abbrev pub place_of : Maybe → ℕ
-place_of (At q) = q
-place_of Nothing = 0
+abbrev pub place_of : RustOption ℕ → ℕ
+place_of (Some q) = q
+place_of None = 0
 
 -- an answer of `inline`, where without a body nothing is kept
 abbrev pub with_body : Bool → Inlined → Inlined
 with_body true x = x
 with_body false (Bad n) = Bad n
-with_body false (New v) = Bad (number block-content-required)
-with_body false (Again k v) = Bad (number block-content-required)
+with_body false (New v) = Bad BlockContentRequired
+with_body false (Again k v) = Bad BlockContentRequired
 
 -- the newest scope has an inline partial more
 abbrev pub one_more : RenderContext → RenderContext
@@ -62,7 +61,7 @@ pub record NewFits (ent : List ℕ) (f : Scope) (used taken : ℕ) (v : Value) :
 -- Behind each answer of `inline`: f is the newest scope, q the place of the body, d the depths that it has left
 
 abbrev pub context_after : RenderContext → Inlined → RenderContext
-context_after c (Bad n) = failed c n
+context_after c (Bad e) = failed c (Some e)
 context_after c (New v) = one_more c
 context_after c (Again k v) = c
 
@@ -77,11 +76,11 @@ Keepable ent f used taken (New v) = NewFits ent f used taken v
 Keepable ent f used taken (Again k v) = 2 * k + 1 < length ent
 
 -- r and ent' are what an answer makes of c and ent; a refusal leaves the entries as they are
-pub record Leaves (c r : RenderContext) (ent ent' : List ℕ) (d : ℕ) (body : Maybe) : Type 0 where
+pub record Leaves (c r : RenderContext) (ent ent' : List ℕ) (d : ℕ) (body : RustOption ℕ) : Type 0 where
   pub answer : Inlined
   pub context : r ≡ context_after c answer
   pub table : ent' ≡ entries_after (newest c.scopes c.used) ent d (place_of body) answer
-  pub refused : (r.bad ≡ 0 → ⊥) → ent' ≡ ent
+  pub refused : (r.bad ≡ None → ⊥) → ent' ≡ ent
 
 -- with some page, texts and indent the context may be drawn from
 pub record SomeReady (s b : Bytes) (c : RenderContext) (ent : List ℕ) : Type 0 where
@@ -100,7 +99,7 @@ pub record Given (s : Bytes) (o : Options) (g : Registry) : Type 0 where
   pub entries : g.limits.entries ≡ 4096
 
 -- r with ent' is what the rule makes of c with ent, whatever page, texts and indent there are
-abbrev pub Decorates : Bytes → Bytes → RenderContext → RenderContext → List ℕ → List ℕ → Options → ℕ → Maybe → Maybe → ℕ → Type 0
+abbrev pub Decorates : Bytes → Bytes → RenderContext → RenderContext → List ℕ → List ℕ → Options → ℕ → RustOption ℕ → RustOption ℕ → ℕ → Type 0
 Decorates s b c r ent ent' o p body at d =
     (g : Registry) (page texts indent : Bytes) → Given s o g → Ready s b (world c page texts indent ent)
     → Draws s b (world c page texts indent ent) (world r page texts indent ent')

@@ -1,5 +1,5 @@
 -- The rule of a decorator against what the code finds, step by step. s is the plan, b the bundle.
-use Rattle.std.specs.Prelude.{ℕ, suc, ◌+◌, ◌-◌, ◌≤◌, Bool, true, false, List, [], ◌∷◌, ◌≡◌, length, take}
+use Rattle.std.specs.Prelude.{ℕ, suc, ◌+◌, ◌-◌, ◌≤◌, Bool, true, false, List, [], ◌∷◌, ◌≡◌, length, take, Option as RustOption, Some, None}
 use Rattle.std.proofs.Math.Option.{Option, none, some}
 use Rattle.std.proofs.Math.Path.{refl}
 use Rattle.std.proofs.Common.{sym, ap, ap₂, ◌∙◌, subst, arith, length-take-le}
@@ -9,7 +9,7 @@ use Rattle.rules.specs.Json.{as_str}
 use Rattle.rules.specs.Bundle.{string, body}
 use Rattle.rules.specs.Plan.{answer}
 use Rattle.rules.specs.Template.{Template, Call}
-use Rattle.rules.specs.Error.{RenderErrorReason, number, got, bad, indent-limit, decorator-not-found, param-not-found-for-index, block-content-required}
+use Rattle.rules.specs.Error.{RenderErrorReason, got, bad, indent-limit, decorator-not-found, param-not-found-for-index, block-content-required}
 use Rattle.rules.specs.Value.{ScopedJson, as_json, render}
 use Rattle.rules.specs.State as rules
 use Rattle.rules.specs.State.{Res, ok, fail, choose, either, or_fail, entries}
@@ -19,8 +19,6 @@ use Rattle.rules.specs.Expand.{try_from_template}
 use Rattle.rules.specs.Inline.{inline}
 use Rattle.rules.specs.Render.{join_indent, indent_fits, eval_decorator}
 use Rattle.parts.specs.Holds.{Holds}
-use Rattle.parts.specs.declared.Maybe.{Maybe}
-use Rattle.parts.specs.declared.Maybe.TheVariants.{At, Nothing}
 use Rattle.parts.specs.Says.{MaybeHolds, indent_says}
 use Rattle.calls.specs.Calls.{call_at}
 use Rattle.places.specs.Places.{json_at}
@@ -50,6 +48,9 @@ use Rattle.state.specs.Laws.{draws_fail}
 use Rattle.state.specs.Steps.{blocks_abs, depth_abs}
 use Rattle.inlining.specs.Decorated.{is_at, place_of, with_body, template_says, context_after, entries_after, Keepable, Leaves, SomeReady, Given, Decorates}
 use Rattle.inlining.specs.Defining.{abs_defining, goes_defining, abs_changing, goes_changing}
+use Rattle.error.specs.declared.RenderErrorReason.TheVariants.{BlockContentRequired, DecoratorNotFound, IndentLimit, ParamNotFoundForIndex}
+use Rattle.error.specs.declared.RenderErrorReason.{RenderErrorReason as Reason}
+use Rattle.error.specs.Reasons.{refusal, not_none}
 
 -- The rule
 
@@ -95,17 +96,17 @@ module _ (s b : Bytes) (ent : List ℕ) (g : Registry) (st : rules.RenderContext
 
 -- Two words for one thing
 
-own_says : (b : Bits) (m : Maybe) → own b m ≡ indent_says b m
-own_says b (At p) = refl
-own_says b Nothing = refl
+own_says : (b : Bits) (m : RustOption ℕ) → own b m ≡ indent_says b m
+own_says b (Some p) = refl
+own_says b None = refl
 
-pub own_stands : (b : Bits) (m : Maybe) → MaybeHolds string b m → OwnStands b m
-own_stands b (At p) h = h
-own_stands b Nothing h = tt
+pub own_stands : (b : Bits) (m : RustOption ℕ) → MaybeHolds string b m → OwnStands b m
+own_stands b (Some p) h = h
+own_stands b None h = tt
 
-has_is : (d : ℕ) (b : Bits) (m : Maybe) → is_at m ≡ has_body (template_says d b m)
-has_is d b (At q) = refl
-has_is d b Nothing = refl
+has_is : (d : ℕ) (b : Bits) (m : RustOption ℕ) → is_at m ≡ has_body (template_says d b m)
+has_is d b (Some q) = refl
+has_is d b None = refl
 
 -- From a context that may be drawn from
 
@@ -122,7 +123,7 @@ some_given : (s : Bytes) (o : Options) → Given s o (some_registry s o)
 some_given s o = record { plan = refl; strict = refl; recursive = refl; scopes = refl; indent = refl; entries = refl }
 
 module _ (s b : Bytes) (w : World) (r : Ready s b w) where
-  refuses : (n : ℕ) (q : RenderErrorReason) (x : Res) → x ≡ fail q → number q ≡ n → Draws s b w (over (failed w.rc n) w) x
+  refuses : (n : RustOption Reason) (q : RenderErrorReason) (x : Res) → x ≡ fail q → refusal q ≡ n → Draws s b w (over (failed w.rc n) w) x
   refuses n q x e f = subst (Draws s b w (over (failed w.rc n) w)) (sym e) (draws_fail s b w (over (failed w.rc n) w) q (sym f) r.nowhere r.nameless)
 
   -- nothing is drawn, and the state is another one
@@ -193,7 +194,7 @@ module _ (s b : Bytes) (w : World) (r : Ready s b w) (answers : answer s ≡ 0) 
     again_holds k v h = holds_again s b w.ent (front w) k d q (front_stands s b w r) (keepable true (some (body_at b d q)) R (Again k v) h) few held (name_of s b w.ent v) h.1
 
     keeps : (y : Inlined) → InlinedSo (some (body_at b d q)) R y → Draws s b w (after q y) R
-    keeps (Bad n) h = refuses s b w r n h.reason R h.is h.by_number
+    keeps (Bad n) h = refuses s b w r (Some n) h.reason R h.is h.by_reason
     keeps (New v) h =
         let ent' : List ℕ = stored w.ent (top w) (encoded v) d q in
         let same : length ent' ≡ length w.ent = stored_length w.ent (top w) (encoded v) d q in
@@ -218,29 +219,32 @@ module _ (s b : Bytes) (w : World) (r : Ready s b w) (answers : answer s ≡ 0) 
         bare s b w.ent g (abs s b w) x (name_of s b w.ent v) (ap (λ (y : Value). as_str (json_of s b w.ent y)) (sym D.first) ∙ D.name) l some_there begins
 
     bares : (y : Inlined) → InlinedSo none (rule_of none) y → Draws s b w (after 0 (with_body false y)) (rule_of none)
-    bares (Bad n) h = refuses s b w r n h.reason (rule_of none) h.is h.by_number
-    bares (New v) h = refuses s b w r 19 block-content-required (rule_of none) (bare_is v h.0) refl
-    bares (Again k v) h = refuses s b w r 19 block-content-required (rule_of none) (bare_is v h.0) refl
+    bares (Bad n) h = refuses s b w r (Some n) h.reason (rule_of none) h.is h.by_reason
+    bares (New v) h = refuses s b w r (Some BlockContentRequired) block-content-required (rule_of none) (bare_is v h.0) refl
+    bares (Again k v) h = refuses s b w r (Some BlockContentRequired) block-content-required (rule_of none) (bare_is v h.0) refl
 
-    ends : (m : Maybe) → MaybeHolds (body 16 d) (bits b) m → (y : Inlined) → InlinedSo (template_says d (bits b) m) (rule_of (template_says d (bits b) m)) y
+    ends : (m : RustOption ℕ) → MaybeHolds (body 16 d) (bits b) m → (y : Inlined) → InlinedSo (template_says d (bits b) m) (rule_of (template_says d (bits b) m)) y
         → Draws s b w (after (place_of m) (with_body (is_at m) y)) (rule_of (template_says d (bits b) m))
-    ends (At q) held y h = keeps q held (rule_of (some (body_at b d q))) y h
-    ends Nothing held y h = bares y h
+    ends (Some q) held y h = keeps q held (rule_of (some (body_at b d q))) y h
+    ends None held y h = bares y h
 
 -- What the code finds, in turn: x is the call worked out
 
-module _ (s b : Bytes) (o : Options) (c : RenderContext) (ent : List ℕ) (p d : ℕ) (m at : Maybe) (x : Expanded)
+module _ (s b : Bytes) (o : Options) (c : RenderContext) (ent : List ℕ) (p d : ℕ) (m at : RustOption ℕ) (x : Expanded)
     (E : (g : Registry) (st : rules.RenderContext) (t : ℕ) → Setting s b ent c.scopes c.used o g st t → IsTemplate s b ent t (try_from_template g st (call_at d (bits b) p)) x) where
   abbrev Is : RenderContext → List ℕ → Type 0
   Is r ent' = Decorates s b c r ent ent' o p m at d
 
-  pub at_call : (x.bad ≡ 0 → ⊥) → Is (failed c x.bad) ent
-  at_call n g page texts indent K r =
+  at_bad : (x.bad ≡ None → ⊥) → Is (failed c x.bad) ent
+  at_bad n g page texts indent K r =
       let w : World = world c page texts indent ent in
       let R = (E g (abs s b w) (top w) (setting s b w r o g K)).refused n in
-      refuses s b w r x.bad R.reason _ (call_refused g (abs s b w) (call_at d (bits b) p) _ _ R.reason R.is) R.by_number
+      refuses s b w r x.bad R.reason _ (call_refused g (abs s b w) (call_at d (bits b) p) _ _ R.reason R.is) R.by_reason
 
-  module _ (z : x.bad ≡ 0) where
+  pub at_call : (n : Reason) → x.bad ≡ Some n → Is (failed c (Some n)) ent
+  at_call n q = subst (λ (k : RustOption Reason). Is (failed c k) ent) q (at_bad (not_none n q))
+
+  module _ (z : x.bad ≡ None) where
     abbrev pub FitsSo : Bool → Type 0
     FitsSo y = (g : Registry) (v : Bytes) → g.limits.indent ≡ 256 → length v ≡ c.writer.indent → y ≡ indent_fits g (join_indent (pick c.writer.has_indent (some v) none) (own (bits b) at))
 
@@ -288,16 +292,16 @@ module _ (s b : Bytes) (o : Options) (c : RenderContext) (ent : List ℕ) (p d :
       pub held : ExpandedHeld s b ent x
       held = record { used = top w; room = r.scopes.entries; name = worked.2.name_stands; first = worked.2.params.first; second = worked.2.params.second }
 
-    pub at_indent : FitsSo false → Is (failed c 21) ent
+    pub at_indent : FitsSo false → Is (failed c (Some IndentLimit)) ent
     at_indent f g page texts indent K r =
         let k = worked g page texts indent K r in
-        refuses s b (world c page texts indent ent) r 21 indent-limit _ (indent_refused g _ _ _ _ k.0 k.1 (fits_is g page texts indent K r false f)) refl
+        refuses s b (world c page texts indent ent) r (Some IndentLimit) indent-limit _ (indent_refused g _ _ _ _ k.0 k.1 (fits_is g page texts indent K r false f)) refl
 
     module _ (f : FitsSo true) where
-      pub at_name : NamedSo false → Is (failed c 16) ent
+      pub at_name : NamedSo false → Is (failed c (Some DecoratorNotFound)) ent
       at_name n g page texts indent K r =
           let k = worked g page texts indent K r in
-          refuses s b (world c page texts indent ent) r 16 decorator-not-found _
+          refuses s b (world c page texts indent ent) r (Some DecoratorNotFound) decorator-not-found _
           (name_refused g _ _ _ _ k.0 k.1 (fits_is g page texts indent K r true f) (name_is g page texts indent K r false n)) refl
 
       module _ (n : NamedSo true) where
@@ -308,10 +312,10 @@ module _ (s b : Bytes) (o : Options) (c : RenderContext) (ent : List ℕ) (p d :
             let k = worked g page texts indent K r in
             past g _ _ _ _ k.0 k.1 (fits_is g page texts indent K r true f) (name_is g page texts indent K r true n)
 
-        pub at_none : x.count ≡ 0 → Is (failed c 15) ent
+        pub at_none : x.count ≡ 0 → Is (failed c (Some ParamNotFoundForIndex)) ent
         at_none e g page texts indent K r =
             let k = worked g page texts indent K r in
-            refuses s b (world c page texts indent ent) r 15 param-not-found-for-index _
+            refuses s b (world c page texts indent ent) r (Some ParamNotFoundForIndex) param-not-found-for-index _
             (past_all g page texts indent K r ∙ no_params g _ _ k.0.params (sym e ∙ k.2.params.count)) refl
 
         module _ (there : x.count ≡ 0 → ⊥) (answers : answer s ≡ 0) (small : length b ≤ 65536) (few : d ≤ 16) (y : Inlined) (Y : Inlines s b ent (newest c.scopes c.used) c.total x (is_at m) y) where
@@ -338,16 +342,16 @@ module _ (s b : Bytes) (o : Options) (c : RenderContext) (ent : List ℕ) (p d :
 
 -- Answers
 
-pub leaves : (c r : RenderContext) (ent ent' : List ℕ) (d : ℕ) (m : Maybe) → c.bad ≡ 0 → (y : Inlined) → r ≡ context_after c y → ent' ≡ entries_after (newest c.scopes c.used) ent d (place_of m) y → Leaves c r ent ent' d m
+pub leaves : (c r : RenderContext) (ent ent' : List ℕ) (d : ℕ) (m : RustOption ℕ) → c.bad ≡ None → (y : Inlined) → r ≡ context_after c y → ent' ≡ entries_after (newest c.scopes c.used) ent d (place_of m) y → Leaves c r ent ent' d m
 leaves c r ent ent' d m z y e t = record { answer = y; context = e; table = t; refused = λ n. t ∙ same y (λ q. n (ap (λ (k : RenderContext). k.bad) e ∙ q)) }
   where
-    same : (y : Inlined) → ((context_after c y).bad ≡ 0 → ⊥) → entries_after (newest c.scopes c.used) ent d (place_of m) y ≡ ent
+    same : (y : Inlined) → ((context_after c y).bad ≡ None → ⊥) → entries_after (newest c.scopes c.used) ent d (place_of m) y ≡ ent
     same (Bad k) n = refl
     same (New v) n = absurd (n z)
     same (Again k v) n = absurd (n z)
 
-module _ (s b : Bytes) (o : Options) (c r : RenderContext) (ent : List ℕ) (p d : ℕ) (m at : Maybe) (z : c.bad ≡ 0) where
-  pub refused_so : (n : ℕ) → r ≡ failed c n → Decorates s b c (failed c n) ent ent o p m at d → Leaves c r ent ent d m × Decorates s b c r ent ent o p m at d
+module _ (s b : Bytes) (o : Options) (c r : RenderContext) (ent : List ℕ) (p d : ℕ) (m at : RustOption ℕ) (z : c.bad ≡ None) where
+  pub refused_so : (n : Reason) → r ≡ failed c (Some n) → Decorates s b c (failed c (Some n)) ent ent o p m at d → Leaves c r ent ent d m × Decorates s b c r ent ent o p m at d
   refused_so n e D = (leaves c r ent ent d m z (Bad n) e refl, subst (λ (k : RenderContext). Decorates s b c k ent ent o p m at d) (sym e) D)
 
   pub kept_so : (ent' : List ℕ) (q : ℕ) (y v : Inlined) → y ≡ v → q ≡ place_of m → r ≡ context_after c y → ent' ≡ entries_after (newest c.scopes c.used) ent d q y

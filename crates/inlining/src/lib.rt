@@ -15,28 +15,27 @@ ghost use Rattle.state.specs.Context.{whole, Front};
 ghost use Rattle.inlining.specs.Decorated.{is_at, place_of, with_body, one_more, NewFits, context_after, entries_after, Keepable, SomeReady, Leaves, Decorates};
 
 use decorators::Inlined;
-use error::{BLOCK_CONTENT_REQUIRED, DECORATOR_NOT_FOUND, INDENT_LIMIT, PARAM_NOT_FOUND_FOR_INDEX};
+use error::RenderErrorReason;
 use expand::Options;
-use parts::Maybe;
 use scope::Scope;
 use state::RenderContext;
 use value::Value;
 
-pub fn is_at(m: Maybe) -> bool
+pub fn is_at(m: Option<usize>) -> bool
     ensures { result ≡ is_at m }
 {
     match m {
-        Maybe::At(_) => true,
-        Maybe::Nothing => false,
+        Some(_) => true,
+        None => false,
     }
 }
 
-fn place_of(m: Maybe) -> usize
+fn place_of(m: Option<usize>) -> usize
     ensures { result ≡ place_of m }
 {
     match m {
-        Maybe::At(q) => q,
-        Maybe::Nothing => 0,
+        Some(q) => q,
+        None => 0,
     }
 }
 
@@ -48,9 +47,9 @@ fn with_body(x: Inlined, has_body: bool) -> Inlined
         return x;
     }
     match x {
-        Inlined::Bad(n) => Inlined::Bad(n),
-        Inlined::New(_) => Inlined::Bad(BLOCK_CONTENT_REQUIRED),
-        Inlined::Again(_, _) => Inlined::Bad(BLOCK_CONTENT_REQUIRED),
+        Inlined::Bad(e) => Inlined::Bad(e),
+        Inlined::New(_) => Inlined::Bad(RenderErrorReason::BlockContentRequired),
+        Inlined::Again(_, _) => Inlined::Bad(RenderErrorReason::BlockContentRequired),
     }
 }
 
@@ -88,7 +87,7 @@ fn keep_partial(
         × (ent.new ≡ entries_after c ent.old d q x) }
 {
     match x {
-        Inlined::Bad(n) => state::failed(rc, n),
+        Inlined::Bad(e) => state::failed(rc, e),
         Inlined::New(v) => add_partial(ent, c, rc, v, d, q),
         Inlined::Again(k, _) => {
             // the entry keeps its name
@@ -110,8 +109,8 @@ pub fn eval_decorator(
     front: Scope,
     options: Options,
     p: usize,
-    body: Maybe,
-    at: Maybe,
+    body: Option<usize>,
+    at: Option<usize>,
     d: usize,
     rc: RenderContext,
 ) -> RenderContext
@@ -124,19 +123,19 @@ pub fn eval_decorator(
         ent.old ent.new options p body at d }
 {
     let w = expand::try_from_template(s, tab, b, ent, scopes, rc.used, options, p, d);
-    if w.bad != 0 {
-        return state::failed(rc, w.bad);
+    if let Some(e) = w.bad {
+        return state::failed(rc, e);
     }
     let name = w.name;
     if !decorators::indent_fits(b, rc.writer.has_indent, rc.writer.indent, at) {
-        return state::failed(rc, INDENT_LIMIT);
+        return state::failed(rc, RenderErrorReason::IndentLimit);
     }
     if !decorators::is_inline(s, tab, b, name) {
-        return state::failed(rc, DECORATOR_NOT_FOUND);
+        return state::failed(rc, RenderErrorReason::DecoratorNotFound);
     }
     // it comes before the refusal of with_body
     if w.count == 0 {
-        return state::failed(rc, PARAM_NOT_FOUND_FOR_INDEX);
+        return state::failed(rc, RenderErrorReason::ParamNotFoundForIndex);
     }
     let has = is_at(body);
     let x = decorators::inline(s, tab, b, ent, front, rc.total, w, has);

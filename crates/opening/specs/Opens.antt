@@ -1,5 +1,5 @@
 -- What `open_scope` answers: s is the plan, b the bundle, ent the entries of open partials; front is the newest of so many scopes.
-use Rattle.std.specs.Prelude.{ℕ, ◌+◌, ◌-◌, ◌≤◌, ◌<◌, Bool, true, false, List, ◌≡◌, refl, eqb, length, get_or}
+use Rattle.std.specs.Prelude.{ℕ, ◌+◌, ◌-◌, ◌≤◌, ◌<◌, Bool, true, false, List, ◌≡◌, refl, eqb, length, get_or, Some, Result, Ok, Err}
 use Rattle.std.proofs.Common.{sym, ap, ap₂, ◌∙◌, subst, arith}
 use Rattle.rules.specs.Bytes.{Bytes, pick}
 use Rattle.rules.specs.Bits.{bits}
@@ -29,9 +29,9 @@ use Rattle.including.specs.Pairs.{PairsStand, with_pairs}
 use Rattle.including.specs.Included.{included, entries_of}
 use Rattle.state.specs.Context.{RenderContext}
 use Rattle.state.specs.Setters.{failed, counted, pushed}
-use Rattle.opening.specs.declared.Opened.{Opened}
-use Rattle.opening.specs.declared.Opened.TheVariants.{Bad, Is}
 use Rattle.opening.specs.Scoped.{Starts, SomeWorked, ScopeOpened, scope_base, scope_holds, scope_pairs, scope_parts, scope_full, scope_deep, scope_readable, scope_opened}
+use Rattle.error.specs.declared.RenderErrorReason.TheVariants.{EntriesLimit, ScopesLimit}
+use Rattle.error.specs.declared.RenderErrorReason.{RenderErrorReason as Reason}
 
 -- the context has this newest scope, so many scopes, and so many entries in use
 pub record Tops (c : RenderContext) (front : Scope) (used total : ℕ) : Type 0 where
@@ -68,21 +68,21 @@ pub record Fresh (b : Bytes) (ent : List ℕ) (used : ℕ) (x : Scope) : Type 0 
   pub empty : x.count ≡ 0
   pub readable : Readable b ent x
 
-abbrev pub Answers : Bytes → List ℕ → ℕ → Opened → Type 0
-Answers b ent used (Bad k) = k ≡ 0 → ⊥
-Answers b ent used (Is x t) = Fresh b ent used x
+abbrev pub Answers : Bytes → List ℕ → ℕ → Result (Scope × ℕ) Reason → Type 0
+Answers b ent used (Err k) = Unit {0}
+Answers b ent used (Ok (x, t)) = Fresh b ent used x
 
 -- what it makes of a context; the block names of the scope are in the set m
-abbrev pub opened_by : RenderContext → ℕ → Opened → RenderContext
-opened_by c m (Bad k) = failed c k
-opened_by c m (Is x t) = pushed (counted c t) x m
+abbrev pub opened_by : RenderContext → ℕ → Result (Scope × ℕ) Reason → RenderContext
+opened_by c m (Err k) = failed c (Some k)
+opened_by c m (Ok (x, t)) = pushed (counted c t) x m
 
-abbrev pub CoversOpened : ℕ → Bytes → List ℕ → Opened → Type 0
-CoversOpened m b ent (Bad k) = Unit {0}
-CoversOpened m b ent (Is x t) = Covers m b ent x
+abbrev pub CoversOpened : ℕ → Bytes → List ℕ → Result (Scope × ℕ) Reason → Type 0
+CoversOpened m b ent (Err k) = Unit {0}
+CoversOpened m b ent (Ok (x, t)) = Covers m b ent x
 
 -- for every context with this newest scope, and every such call
-pub record Opens (s b : Bytes) (ent ent' : List ℕ) (front : Scope) (base : Value) (d q n : ℕ) (l : List ℕ) (used total : ℕ) (r : Opened) : Type 0 where
+pub record Opens (s b : Bytes) (ent ent' : List ℕ) (front : Scope) (base : Value) (d q n : ℕ) (l : List ℕ) (used total : ℕ) (r : Result (Scope × ℕ) Reason) : Type 0 where
   pub well : Answers b ent' used r
   pub at : (c : RenderContext) (o : Options) (p : ℕ) (x : Expanded) (m : ℕ) → Tops c front used total → Given s b ent o c d p x base q n l → CoversOpened m b ent' r
       → ScopeOpened s b ent ent' o c (opened_by c m r) d p x
@@ -131,19 +131,19 @@ module _ (s b : Bytes) (ent : List ℕ) (base : Value) (d q n : ℕ) (l : List �
           moved (λ (f : Scope). behind f + n ≤ 4096 → 0 < n → Parts s b (merged f) (behind f) n)
           (λ few lt. scope_parts s b ent o c d p x ok small G.call v view base G.starts l G.values few O lt)
 
-      given_many : 4096 < behind f + n → ScopeOpened s b ent ent o c (failed c 22) d p x
+      given_many : 4096 < behind f + n → ScopeOpened s b ent ent o c (failed c (Some EntriesLimit)) d p x
       given_many =
-          moved (λ (f : Scope). 4096 < behind f + n → ScopeOpened s b ent ent o c (failed c 22) d p x)
+          moved (λ (f : Scope). 4096 < behind f + n → ScopeOpened s b ent ent o c (failed c (Some EntriesLimit)) d p x)
           (scope_pairs s b ent o c d p x ok small G.call v view base G.starts l G.values)
 
-      given_full : behind f + n ≤ 4096 → 4096 < c.total + taken f → ScopeOpened s b ent (merged f) o c (failed c 22) d p x
+      given_full : behind f + n ≤ 4096 → 4096 < c.total + taken f → ScopeOpened s b ent (merged f) o c (failed c (Some EntriesLimit)) d p x
       given_full =
-          moved (λ (f : Scope). behind f + n ≤ 4096 → 4096 < c.total + taken f → ScopeOpened s b ent (merged f) o c (failed c 22) d p x)
+          moved (λ (f : Scope). behind f + n ≤ 4096 → 4096 < c.total + taken f → ScopeOpened s b ent (merged f) o c (failed c (Some EntriesLimit)) d p x)
           (scope_full s b ent o c d p x ok small G.call v view base G.starts l G.values)
 
-      given_deep : behind f + n ≤ 4096 → c.total + taken f ≤ 4096 → 32 ≤ c.used → ScopeOpened s b ent (merged f) o c (failed c 23) d p x
+      given_deep : behind f + n ≤ 4096 → c.total + taken f ≤ 4096 → 32 ≤ c.used → ScopeOpened s b ent (merged f) o c (failed c (Some ScopesLimit)) d p x
       given_deep =
-          moved (λ (f : Scope). behind f + n ≤ 4096 → c.total + taken f ≤ 4096 → 32 ≤ c.used → ScopeOpened s b ent (merged f) o c (failed c 23) d p x)
+          moved (λ (f : Scope). behind f + n ≤ 4096 → c.total + taken f ≤ 4096 → 32 ≤ c.used → ScopeOpened s b ent (merged f) o c (failed c (Some ScopesLimit)) d p x)
           (scope_deep s b ent o c d p x ok small G.call v view base G.starts l G.values)
 
       given_readable : SomeWorked s b ent o c d p x → behind f + n ≤ 4096 → c.total + taken f ≤ 4096 → Readable b (merged f) (included base (behind f) n f)
@@ -181,9 +181,9 @@ module _ (s : Bytes) (tab : List ℕ) (b : Bytes) (ent : List ℕ) (front : Scop
   abbrev t : ℕ
   t = front.inline + front.count
 
-  pub open_many : 4096 < t + n → Opens s b ent ent front base d q n l used total (Bad 22)
+  pub open_many : 4096 < t + n → Opens s b ent ent front base d q n l used total (Err EntriesLimit)
   open_many lt = record {
-    well = λ z. omega arith;
+    well = tt;
     at = λ c o p x k T G y. given_many s b ent base d q n l o c p x ok P.small G front T.is lt;
   }
 
@@ -199,19 +199,19 @@ module _ (s : Bytes) (tab : List ℕ) (b : Bytes) (ent : List ℕ) (front : Scop
       so_many : m ≡ taken s b ent base d q n l front
       so_many = many ∙ ap (λ (k : List ℕ). entries_of n (json_of s b k (Merged t n))) is
 
-      pub open_full : 4096 < total + m → Opens s b ent ent' front base d q n l used total (Bad 22)
+      pub open_full : 4096 < total + m → Opens s b ent ent' front base d q n l used total (Err EntriesLimit)
       open_full lt = record {
-        well = λ z. omega arith;
+        well = tt;
         at = λ c o p x k T G y.
-            subst (λ (k : List ℕ). ScopeOpened s b ent k o c (failed c 22) d p x) (sym is)
+            subst (λ (k : List ℕ). ScopeOpened s b ent k o c (failed c (Some EntriesLimit)) d p x) (sym is)
             (given_full s b ent base d q n l o c p x ok P.small G front T.is few (omega (arith, lt, T.taken, so_many)));
       }
 
-      pub open_deep : total + m ≤ 4096 → 32 ≤ used → Opens s b ent ent' front base d q n l used total (Bad 23)
+      pub open_deep : total + m ≤ 4096 → 32 ≤ used → Opens s b ent ent' front base d q n l used total (Err ScopesLimit)
       open_deep le ge = record {
-        well = λ z. omega arith;
+        well = tt;
         at = λ c o p x k T G y.
-            subst (λ (k : List ℕ). ScopeOpened s b ent k o c (failed c 23) d p x) (sym is)
+            subst (λ (k : List ℕ). ScopeOpened s b ent k o c (failed c (Some ScopesLimit)) d p x) (sym is)
             (given_deep s b ent base d q n l o c p x ok P.small G front T.is few (omega (arith, le, T.taken, so_many)) (omega (arith, ge, T.deep)));
       }
 
@@ -224,10 +224,10 @@ module _ (s : Bytes) (tab : List ℕ) (b : Bytes) (ent : List ℕ) (front : Scop
             subst (λ (i : ℕ). ScopeOpened s b ent (with_pairs ent (bits b) t (encoded base) l d q n) o c (pushed (counted c i) (included base t n front) k) d p x) e
             (given_opened s b ent base d q n l o c p x ok P.small G front T.is few (omega (arith, le, T.taken, so_many)) (omega (arith, lt, T.deep)) k y)
 
-        pub open_done : Opens s b ent ent' front base d q n l used total (Is c' (total + m))
+        pub open_done : Opens s b ent ent' front base d q n l used total (Ok (c', total + m))
         open_done =
-            subst (λ (z : Scope). Opens s b ent ent' front base d q n l used total (Is z (total + m))) (sym made)
-            (subst (λ (j : List ℕ). Opens s b ent j front base d q n l used total (Is (included base t n front) (total + m))) (sym is)
+            subst (λ (z : Scope). Opens s b ent ent' front base d q n l used total (Ok (z, total + m))) (sym made)
+            (subst (λ (j : List ℕ). Opens s b ent j front base d q n l used total (Ok (included base t n front, total + m))) (sym is)
             (record {
               well = record {
                 room = lt;

@@ -1,6 +1,7 @@
 -- The scope of a partial: s is the plan, b the bundle.
-use Rattle.std.specs.Prelude.{ℕ, suc, ◌+◌, ◌-◌, ◌≤◌, ◌<◌, List, [], ◌≡◌, refl, length, get_or}
+use Rattle.std.specs.Prelude.{ℕ, suc, ◌+◌, ◌-◌, ◌≤◌, ◌<◌, List, [], ◌≡◌, refl, length, get_or, Option as RustOption, Some, None}
 use Rattle.std.proofs.Math.Option.{Option, some}
+use Rattle.std.proofs.lemmas.Option.{none-some}
 use Rattle.std.proofs.Common.{sym, ◌∙◌, subst, arith}
 use Rattle.std.proofs.Math.Path.{ap}
 use Rattle.rules.specs.Bytes.{Bytes}
@@ -16,7 +17,6 @@ use Rattle.rules.specs.BlockUtil.{Drawable}
 use Rattle.rules.specs.Context.{merge_json}
 use Rattle.rules.specs.Partial.{hash_ctx, merged_entries, partial_context, include, block_text_of, render_partial}
 use Rattle.rules.specs.Render.{render_body, render_template}
-use Rattle.parts.specs.declared.Maybe.{Maybe}
 use Rattle.parts.specs.Holds.{Holds}
 use Rattle.calls.specs.declared.Call.{Call}
 use Rattle.calls.specs.Calls.{call_view}
@@ -49,6 +49,9 @@ use Rattle.drawing.specs.Renders.{registry_of, Worked, joined, target, IncludeDr
 use Rattle.drawing.specs.Members.{setting}
 use Rattle.drawing.specs.Continues.{unless_refused}
 use Rattle.drawing.specs.Including.{too_many_pairs, too_many_entries, too_many_scopes, include_readable, include_within, include_no_block, include_no_text, include_drawn}
+use Rattle.error.specs.declared.RenderErrorReason.TheVariants.{EntriesLimit, ScopesLimit}
+use Rattle.error.specs.declared.RenderErrorReason.{RenderErrorReason as Reason}
+use Rattle.error.specs.Reasons.{refusal}
 
 -- where the entries in use end
 abbrev pub end_of : RenderContext → ℕ
@@ -70,16 +73,16 @@ pub record SomeWorked (s b : Bytes) (ent : List ℕ) (o : Options) (c : RenderCo
   pub worked : Worked s b o (world c page texts indent ent) d p x expanded
 
 -- the scope is open in w₁, or it was refused: what is drawn in it draws the partial, whose body is that of e depths at q under the name at n
-pub record Entered (s b : Bytes) (o : Options) (w w₁ : World) (d p : ℕ) (x : Expanded) (q e n : ℕ) (own at : Maybe) : Type 0 where
-  pub refused : (w₁.rc.bad ≡ 0 → ⊥) → IncludeDrawn s b o w w₁ d p x q e n own at
-  pub within : w₁.rc.bad ≡ 0 → Within s b [] w w₁
-  pub no_block : w₁.rc.bad ≡ 0 → (front w₁).block ≡ 0
-  pub no_text : w₁.rc.bad ≡ 0 → (front w₁).text ≡ 0
+pub record Entered (s b : Bytes) (o : Options) (w w₁ : World) (d p : ℕ) (x : Expanded) (q e n : ℕ) (own at : RustOption ℕ) : Type 0 where
+  pub refused : (w₁.rc.bad ≡ None → ⊥) → IncludeDrawn s b o w w₁ d p x q e n own at
+  pub within : w₁.rc.bad ≡ None → Within s b [] w w₁
+  pub no_block : w₁.rc.bad ≡ None → (front w₁).block ≡ 0
+  pub no_text : w₁.rc.bad ≡ None → (front w₁).text ≡ 0
   pub same_writer : w₁.rc.writer ≡ w.rc.writer
-  pub done : w₁.rc.bad ≡ 0 → (w₂ : World) → TextDrawn s b o w₁ w₂ d q e n own at → IncludeDrawn s b o w (over (unless_bad (λ c. cleaned c w.rc) w₂.rc) w₂) d p x q e n own at
+  pub done : w₁.rc.bad ≡ None → (w₂ : World) → TextDrawn s b o w₁ w₂ d q e n own at → IncludeDrawn s b o w (over (unless_bad (λ c. cleaned c w.rc) w₂.rc) w₂) d p x q e n own at
 
 pub record ScopeOpened (s b : Bytes) (ent ent' : List ℕ) (o : Options) (c r : RenderContext) (d p : ℕ) (x : Expanded) : Type 0 where
-  pub at : (page texts indent : Bytes) → Ready s b (world c page texts indent ent) → (y : block-util.Expanded) → Worked s b o (world c page texts indent ent) d p x y → (q e n : ℕ) (own ind : Maybe) → Entered s b o (world c page texts indent ent) (world r page texts indent ent') d p x q e n own ind
+  pub at : (page texts indent : Bytes) → Ready s b (world c page texts indent ent) → (y : block-util.Expanded) → Worked s b o (world c page texts indent ent) d p x y → (q e n : ℕ) (own ind : RustOption ℕ) → Entered s b o (world c page texts indent ent) (world r page texts indent ent') d p x q e n own ind
 
 -- Laws
 
@@ -123,25 +126,25 @@ module _ (s b : Bytes) (ent : List ℕ) (o : Options) (c : RenderContext) (d p :
       context_known F = ap (λ z. or_fail z F) given.is
 
   -- a refusal: r is the context that is left, and ent' the entries
-  module _ (ent' : List ℕ) (k : ℕ) (Some-number : k ≡ 0 → ⊥)
+  module _ (ent' : List ℕ) (k : Reason)
       (stops : (page texts indent : Bytes) (r : Ready s b (world c page texts indent ent)) (y : block-util.Expanded) (W : Worked s b o (world c page texts indent ent) d p x y) (F O : Drawable) (D : Draw) (ind : Option Bytes)
-      → Draws s b (world c page texts indent ent) (world (failed c k) page texts indent ent') (include (registry_of s b o (length page)) F O D (hash_ctx y.hash) ind (merge_json (given page texts indent r y W).json (hash_ctx y.hash)) (abs s b (world c page texts indent ent)))) where
-    scope_refused : ScopeOpened s b ent ent' o c (failed c k) d p x
+      → Draws s b (world c page texts indent ent) (world (failed c (Some k)) page texts indent ent') (include (registry_of s b o (length page)) F O D (hash_ctx y.hash) ind (merge_json (given page texts indent r y W).json (hash_ctx y.hash)) (abs s b (world c page texts indent ent)))) where
+    scope_refused : ScopeOpened s b ent ent' o c (failed c (Some k)) d p x
     scope_refused = record {
       at = λ page texts indent r z U q e n own ind.
           let w₀ : World = world c page texts indent ent in
-          let w₁ : World = world (failed c k) page texts indent ent' in
+          let w₁ : World = world (failed c (Some k)) page texts indent ent' in
           record {
             refused = λ z. record {
               at = λ f m le ge y W D eq.
                   subst (Draws s b w₀ w₁) (sym (context_known page texts indent r y W (λ j. include (registry_of s b o (length page)) (some D) (render_body (registry_of s b o (length page)) (render_template (registry_of s b o (length page)) f) (body_says 16 d (bits b) own)) D (hash_ctx y.hash) (joined s b w₀ ind) (merge_json j (hash_ctx y.hash)) (abs s b w₀))))
                   (stops page texts indent r y W (some D) (render_body (registry_of s b o (length page)) (render_template (registry_of s b o (length page)) f) (body_says 16 d (bits b) own)) D (joined s b w₀ ind));
             };
-            within = λ z. absurd (Some-number z);
-            no_block = λ z. absurd (Some-number z);
-            no_text = λ z. absurd (Some-number z);
+            within = λ z. absurd (none-some k (sym z));
+            no_block = λ z. absurd (none-some k (sym z));
+            no_text = λ z. absurd (none-some k (sym z));
             same_writer = refl;
-            done = λ z. absurd (Some-number z);
+            done = λ z. absurd (none-some k (sym z));
           };
     }
 
@@ -157,9 +160,9 @@ module _ (s b : Bytes) (ent : List ℕ) (o : Options) (c : RenderContext) (d p :
   scope_base O = stands_fits s b ent t ok small (omega (arith, O.ready.enough, O.ready.few)) base (given O.page O.texts O.indent O.ready O.expanded O.worked).value.stands
 
   -- the pairs alone are too many
-  pub scope_pairs : 4096 < t + v.pairs → ScopeOpened s b ent ent o c (failed c 22) d p x
+  pub scope_pairs : 4096 < t + v.pairs → ScopeOpened s b ent ent o c (failed c (Some EntriesLimit)) d p x
   scope_pairs lt =
-      scope_refused ent 22 (λ z. omega arith) (λ page texts indent r y W F O D ind.
+      scope_refused ent EntriesLimit (λ page texts indent r y W F O D ind.
       too_many_pairs s b o (w page texts indent r) r base l d v.pair v.pairs W.st (same_blocks page texts indent r y W) (j page texts indent r y W) (h page texts indent r y W) (pairs page texts indent r y W) F O D ind lt)
 
   module _ (few : t + v.pairs ≤ 4096) where
@@ -173,14 +176,14 @@ module _ (s b : Bytes) (ent : List ℕ) (o : Options) (c : RenderContext) (d p :
     counted_so : (page texts indent : Bytes) (r : Ready s b (world c page texts indent ent)) (y : block-util.Expanded) (W : Worked s b o (world c page texts indent ent) d p x y) → k ≡ m page texts indent r y W
     counted_so page texts indent r y W = (I page texts indent r y W few).entries
 
-    pub scope_full : 4096 < c.total + k → ScopeOpened s b ent after o c (failed c 22) d p x
+    pub scope_full : 4096 < c.total + k → ScopeOpened s b ent after o c (failed c (Some EntriesLimit)) d p x
     scope_full lt =
-        scope_refused after 22 (λ z. omega arith) (λ page texts indent r y W F O D ind.
+        scope_refused after EntriesLimit (λ page texts indent r y W F O D ind.
         too_many_entries s b o (w page texts indent r) r base l d v.pair v.pairs W.st (same_blocks page texts indent r y W) (j page texts indent r y W) (h page texts indent r y W) (pairs page texts indent r y W) F O D ind (I page texts indent r y W few) (omega (arith, counted_so page texts indent r y W)))
 
-    pub scope_deep : c.total + k ≤ 4096 → 32 ≤ c.used → ScopeOpened s b ent after o c (failed c 23) d p x
+    pub scope_deep : c.total + k ≤ 4096 → 32 ≤ c.used → ScopeOpened s b ent after o c (failed c (Some ScopesLimit)) d p x
     scope_deep le ge =
-        scope_refused after 23 (λ z. omega arith) (λ page texts indent r y W F O D ind.
+        scope_refused after ScopesLimit (λ page texts indent r y W F O D ind.
         too_many_scopes s b o (w page texts indent r) r base l d v.pair v.pairs W.st (same_blocks page texts indent r y W) (j page texts indent r y W) (h page texts indent r y W) (pairs page texts indent r y W) F O D ind (I page texts indent r y W few) (omega (arith, counted_so page texts indent r y W)) ge)
 
     -- what `merged_entries` asks for
@@ -225,7 +228,7 @@ module _ (s b : Bytes) (ent : List ℕ) (o : Options) (c : RenderContext) (d p :
               subst (λ (i : ℕ). Within s b [] (world c page texts indent ent) (world (pushed (counted c (c.total + i)) (included base t v.pairs (get_or c.scopes (c.used - 1) blank)) names) page texts indent after)) (sym eq)
               (include_within s b o (world c page texts indent ent) r base l d v.pair v.pairs U.st (same_blocks page texts indent r y U) (j page texts indent r y U) (h page texts indent r y U) (pairs page texts indent r y U) (some (λ u. rules.ok u [])) (some (λ u. rules.ok u [])) (λ u. rules.ok u []) (some []) (I page texts indent r y U few) (omega (arith, eq)) lt names covers)
 
-          finished : (page texts indent : Bytes) (r : Ready s b (world c page texts indent ent)) {z : block-util.Expanded} (U : Worked s b o (world c page texts indent ent) d p x z) (q e n : ℕ) (own ind : Maybe) (w₂ : World) → TextDrawn s b o (world opened page texts indent after) w₂ d q e n own ind
+          finished : (page texts indent : Bytes) (r : Ready s b (world c page texts indent ent)) {z : block-util.Expanded} (U : Worked s b o (world c page texts indent ent) d p x z) (q e n : ℕ) (own ind : RustOption ℕ) (w₂ : World) → TextDrawn s b o (world opened page texts indent after) w₂ d q e n own ind
               → (f i : ℕ) → 32 ≤ f + suc c.used → 32 ≤ i + suc c.used → (y : block-util.Expanded) (W : Worked s b o (world c page texts indent ent) d p x y) (D : Draw) → D ≡ target (registry_of s b o (length page)) i b q e n
               → Draws s b (world c page texts indent ent) (over (unless_bad (λ u. cleaned u c) w₂.rc) w₂) (or_fail (partial_context (registry_of s b o (length page)) (abs s b (world c page texts indent ent)) y.params) (λ j.
               include (registry_of s b o (length page)) (some D) (render_body (registry_of s b o (length page)) (render_template (registry_of s b o (length page)) f) (body_says 16 d (bits b) own)) D (hash_ctx y.hash) (joined s b (world c page texts indent ent) ind) (merge_json j (hash_ctx y.hash)) (abs s b (world c page texts indent ent))))

@@ -4,19 +4,11 @@
 
 ghost use Rattle.opening.specs.Opens.{Openable, Opens};
 
-use error::{ENTRIES_LIMIT, SCOPES_LIMIT};
+use error::RenderErrorReason;
 use scope::Scope;
 use value::Value;
 
-#[derive(Clone, Copy)]
-pub enum Opened {
-    // the paper's number of the refusal
-    Bad(u8),
-    // the scope, and the entries that are in use together with it
-    Is(Scope, usize),
-}
-
-// The scope of a partial inside front, which is the newest of used scopes; total entries are in use.
+// The scope of a partial inside front, which is the newest of used scopes, and the entries that are in use together with it; total are in use.
 // The n hash pairs at q are merged into the base; values are the numbers of theirs.
 pub fn open_scope(
     s: &[u8],
@@ -31,22 +23,22 @@ pub fn open_scope(
     d: usize,
     used: usize,
     total: usize,
-) -> Opened
+) -> Result<(Scope, usize), RenderErrorReason>
     requires { Openable s.now tab.now b.now ent.old front base d q n values.now used total }
     ensures { Opens s.now b.now ent.old ent.new
         front base d q n values.now used total result }
 {
     let t = front.inline as usize + front.count as usize;
     if 4096 < t + n {
-        return Opened::Bad(ENTRIES_LIMIT);
+        return Err(RenderErrorReason::EntriesLimit);
     }
     including::merge(ent, b, t, base, values, q, n, d);
     let m = including::merged_entries(s, tab, b, ent, t, n);
     if 4096 - total < m {
-        return Opened::Bad(ENTRIES_LIMIT);
+        return Err(RenderErrorReason::EntriesLimit);
     }
     if 32 <= used {
-        return Opened::Bad(SCOPES_LIMIT);
+        return Err(RenderErrorReason::ScopesLimit);
     }
-    Opened::Is(including::scope_of(base, t, n, front), total + m)
+    Ok((including::scope_of(base, t, n, front), total + m))
 }

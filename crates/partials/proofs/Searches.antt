@@ -1,4 +1,5 @@
 -- Searches among inline partials and among templates.
+use Rattle.std.specs.Prelude.{Option as RustOption, Some, None}
 use Prim.Native.Nat.{ℕ, suc, ◌+◌, ◌-◌, ◌*◌, ◌≤◌, ◌<◌}
 use mathlib.Core.Bool.{Bool, true, false}
 use mathlib.Core.List.{List}
@@ -16,16 +17,12 @@ use Rattle.rules.specs.Partial.{get_partial, is_current_template}
 use Rattle.layout.specs.Text.{text_at}
 use Rattle.parts.specs.Holds.{Holds, value}
 use Rattle.registry.specs.declared.Template.{Template}
-use Rattle.registry.specs.declared.Found.{Found}
-use Rattle.registry.specs.declared.Found.TheVariants.{Template as Is, Missing}
 use Rattle.registry.specs.Templates.{templates_at, found_view, FoundStands, found_stands}
 use Rattle.meaning.specs.Entries.{high, place}
 use Rattle.scope.specs.declared.Scope.{Scope}
 use Rattle.scope.specs.Scopes.{inline_body, blocks_of}
 use Rattle.scope.specs.Standing.{InlineStands, ScopeStands, ScopesStand}
 use Rattle.scope.proofs.InlineLaws.{find_none, find_here}
-use Rattle.decorators.specs.declared.Local.{Local}
-use Rattle.decorators.specs.declared.Local.TheVariants.{At, Nothing}
 use Rattle.decorators.specs.Inlined.{newest, Unnamed, Named, LocalIs, same_swap}
 use Rattle.partials.specs.Finding.{EntryFound, EntryIs, InlineFound, TemplateFound, template_name}
 
@@ -65,7 +62,7 @@ module _ (s b : Bytes) (ent : List ℕ) (l : List Scope) (used t : ℕ) (st : Sc
       let f : d.inline + d.count ≤ t = subst (λ (c : Scope). c.inline + c.count ≤ t) (sym here) (st.within (i - 1) (omega arith)) in
       (omega (arith, st.entries), (subst (ScopeStands s b ent) (sym here) (st.each (i - 1) (omega arith))).inlines)
 
-  pub turn_is : (m : Bytes) (r q : Local) → r ≡ q → LocalIs s b ent d.inline d.count m r → LocalIs s b ent (newest l i).inline (newest l i).count m q
+  pub turn_is : (m : Bytes) (r q : RustOption ℕ) → r ≡ q → LocalIs s b ent d.inline d.count m r → LocalIs s b ent (newest l i).inline (newest l i).count m q
   turn_is m r q e h = subst (λ (c : Scope). LocalIs s b ent c.inline c.count m q) here (subst (LocalIs s b ent d.inline d.count m) e h)
 
 -- Templates, by their places
@@ -75,10 +72,10 @@ named_so x m l k h q = h ∙ ap (same m) q ∙ same_swap m k
 
 -- What was found
 
-pub entry_found : (s b : Bytes) (ent : List ℕ) (o : Option rule.Template) (r : Local) (k : ℕ) → EntryIs s b ent o r → r ≡ At k → EntryFound s b ent o k
+pub entry_found : (s b : Bytes) (ent : List ℕ) (o : Option rule.Template) (r : RustOption ℕ) (k : ℕ) → EntryIs s b ent o r → r ≡ Some k → EntryFound s b ent o k
 entry_found s b ent o r k h e = subst (EntryIs s b ent o) e h
 
-pub entry_none : (s b : Bytes) (ent : List ℕ) (o : Option rule.Template) (r : Local) → EntryIs s b ent o r → r ≡ Nothing → o ≡ none
+pub entry_none : (s b : Bytes) (ent : List ℕ) (o : Option rule.Template) (r : RustOption ℕ) → EntryIs s b ent o r → r ≡ None → o ≡ none
 entry_none s b ent o r h e = subst (EntryIs s b ent o) e h
 
 pub inline_found : (s b : Bytes) (ent : List ℕ) (o : Option rule.Template) (k p e : ℕ) → EntryFound s b ent o k → p ≡ place ent k → e ≡ high ent k → InlineFound (bits b) o p e
@@ -89,19 +86,19 @@ inline_found s b ent o k p e f h g =
       inside = subst (λ (p : ℕ). Holds (body 16 e) (bits b) p) (sym h) (subst (λ (e : ℕ). Holds (body 16 e) (bits b) (place ent k)) (sym g) f.stands.inside);
     }
 
-module _ (b : Bits) (H : Holds (templates 16) b 8) (m : Bytes) (o : Option rule.Template) (none-inline : o ≡ none) (r : Found)
+module _ (b : Bits) (H : Holds (templates 16) b 8) (m : Bytes) (o : Option rule.Template) (none-inline : o ≡ none) (r : RustOption (ℕ × ℕ × ℕ))
     (is : r ≡ found_view (body 16 16) b (find_template (templates_at 16 b) m)) where
   said : FoundStands (body 16 16) b (field b 8 8) m (templates_at 16 b) r
   said = subst (FoundStands (body 16 16) b (field b 8 8) m (templates_at 16 b)) (sym is) (found_stands 16 b H m)
 
-  pub template_found : (k p q : ℕ) → r ≡ Is k p q → TemplateFound b m o (get_template (templates_at 16 b) m) p q
+  pub template_found : (k p q : ℕ) → r ≡ Some (k, p, q) → TemplateFound b m o (get_template (templates_at 16 b) m) p q
   template_found k p q e =
-      let S : FoundStands (body 16 16) b (field b 8 8) m (templates_at 16 b) (Is k p q) = subst (FoundStands (body 16 16) b (field b 8 8) m (templates_at 16 b)) e said in
+      let S : FoundStands (body 16 16) b (field b 8 8) m (templates_at 16 b) (Some (k, p, q)) = subst (FoundStands (body 16 16) b (field b 8 8) m (templates_at 16 b)) e said in
       record { no_inline = none-inline; is = S.is; name = S.parts.1; named = S.parts.2; inside = S.parts.3 }
 
-  pub nothing_found : r ≡ Missing → (o ≡ none) × (get_template (templates_at 16 b) m ≡ none)
+  pub nothing_found : r ≡ None → (o ≡ none) × (get_template (templates_at 16 b) m ≡ none)
   nothing_found e =
-      let S : FoundStands (body 16 16) b (field b 8 8) m (templates_at 16 b) Missing = subst (FoundStands (body 16 16) b (field b 8 8) m (templates_at 16 b)) e said in
+      let S : FoundStands (body 16 16) b (field b 8 8) m (templates_at 16 b) None = subst (FoundStands (body 16 16) b (field b 8 8) m (templates_at 16 b)) e said in
       (none-inline, S.is)
 
 -- The current template

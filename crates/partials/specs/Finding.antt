@@ -1,5 +1,5 @@
 -- partial.rs: which partial a name stands for. s is the plan, b the bundle, ent the entries of open partials.
-use Rattle.std.specs.Prelude.{ℕ, zero, suc, ◌+◌, ◌*◌, ◌≤◌, ◌<◌, List, ◌≡◌, length}
+use Rattle.std.specs.Prelude.{ℕ, zero, suc, ◌+◌, ◌*◌, ◌≤◌, ◌<◌, List, ◌≡◌, length, Option as RustOption, Some, None}
 use Rattle.std.proofs.Math.Option.{Option, none, some}
 use Rattle.std.proofs.Common.{sym, ap, ap₂, ◌∙◌}
 use Rattle.rules.specs.Bytes.{Bytes}
@@ -14,8 +14,6 @@ use Rattle.layout.specs.Text.{text_at}
 use Rattle.parts.specs.Holds.{Holds, value}
 use Rattle.scope.specs.Scopes.{inline_body}
 use Rattle.scope.specs.Standing.{InlineStands}
-use Rattle.decorators.specs.declared.Local.{Local}
-use Rattle.decorators.specs.declared.Local.TheVariants.{At, Nothing as Lacking}
 use Rattle.partials.specs.declared.Found.{Found}
 use Rattle.partials.specs.declared.Found.TheVariants.{Inline, Template as Named, Nothing}
 
@@ -25,9 +23,9 @@ pub record EntryFound (s b : Bytes) (ent : List ℕ) (o : Option Template) (k : 
   pub stands : InlineStands s b ent k
   pub within : 2 * k + 1 < length ent
 
-abbrev pub EntryIs : Bytes → Bytes → List ℕ → Option Template → Local → Type 0
-EntryIs s b ent o (At k) = EntryFound s b ent o k
-EntryIs s b ent o Lacking = o ≡ none
+abbrev pub EntryIs : Bytes → Bytes → List ℕ → Option Template → RustOption ℕ → Type 0
+EntryIs s b ent o (Some k) = EntryFound s b ent o k
+EntryIs s b ent o None = o ≡ none
 
 -- a body of so many depths at a place
 pub record InlineFound (b : Bits) (o : Option Template) (p e : ℕ) : Type 0 where

@@ -21,7 +21,6 @@ ghost use Rattle.scope.specs.Standing.{ScopesStand};
 ghost use Rattle.expand.specs.Answers.{name_of};
 ghost use Rattle.partials.specs.Finding.{EntryIs, FoundIs, template_name};
 
-use decorators::Local;
 use scope::Scope;
 use value::Value;
 
@@ -43,7 +42,7 @@ fn get_partial(
     scopes: [Scope; 32],
     used: usize,
     v: Value,
-) -> Local
+) -> Option<usize>
     requires { Accepted s.now tab.now × (length b.now ≤ 65536)
         × (used ≤ 32) × ((t : ℕ) × ScopesStand s.now b.now ent.now scopes used t)
         × Known s.now b.now v }
@@ -52,9 +51,7 @@ fn get_partial(
         (get_partial (blocks_of s.now b.now ent.now scopes used)
         (name_of s.now b.now ent.now v)) result }
 {
-    let mut i = used;
-    while 0 < i {
-        i -= 1;
+    for i in (0..used).rev() {
         let c = scopes[i];
         // most have none
         if c.count != 0 {
@@ -67,16 +64,22 @@ fn get_partial(
                 c.count as usize,
                 v,
             );
-            if let Local::At(k) = found {
-                return Local::At(k);
+            if let Some(k) = found {
+                return Some(k);
             }
         }
     }
-    Local::Nothing
+    None
 }
 
 // Among the templates of the bundle, whatever v is.
-fn get_printed(s: &[u8], tab: &[u64], b: &[u8], places: &[u32], v: Value) -> registry::Found
+fn get_printed(
+    s: &[u8],
+    tab: &[u64],
+    b: &[u8],
+    places: &[u32],
+    v: Value,
+) -> Option<(usize, usize, usize)>
     requires { Accepted s.now tab.now × (length b.now ≤ 65536) × Holds (templates 16) (bits b.now) 8
         × (field (bits b.now) 8 8 ≤ length places.now)
         × Indexed (body 16 16) (bits b.now) (field (bits b.now) 8 8) places.now × Known s.now b.now v }
@@ -85,19 +88,23 @@ fn get_printed(s: &[u8], tab: &[u64], b: &[u8], places: &[u32], v: Value) -> reg
         (find_template (templates_at 16 (bits b.now)) (render j))) }
 {
     let n = registry::template_count(b);
-    let mut i: usize = 0;
-    while i < n {
+    for i in 0..n {
         let t = registry::indexed_at(b, places, i);
         if print::text_same(s, tab, b, v, lookup::text_of(s, b, t.name)) {
-            return registry::Found::Template(i, t.name, t.body);
+            return Some((i, t.name, t.body));
         }
-        i += 1;
     }
-    registry::Found::Missing
+    None
 }
 
 // Among the templates of the bundle: mostly v is a string of it.
-fn get_template(s: &[u8], tab: &[u64], b: &[u8], places: &[u32], v: Value) -> registry::Found
+fn get_template(
+    s: &[u8],
+    tab: &[u64],
+    b: &[u8],
+    places: &[u32],
+    v: Value,
+) -> Option<(usize, usize, usize)>
     requires { Accepted s.now tab.now × (length b.now ≤ 65536) × Holds (templates 16) (bits b.now) 8
         × (field (bits b.now) 8 8 ≤ length places.now)
         × Indexed (body 16 16) (bits b.now) (field (bits b.now) 8 8) places.now × Known s.now b.now v }
@@ -134,13 +141,13 @@ pub fn find_partial(
         (name_of s.now b.now ent.now v)) result }
 {
     let inner = get_partial(s, tab, b, ent, scopes, used, v);
-    if let Local::At(k) = inner {
+    if let Some(k) = inner {
         return Found::Inline(entries::place(ent, k), entries::high(ent, k) as usize);
     }
     let t = get_template(s, tab, b, places, v);
     match t {
-        registry::Found::Template(_, name, body) => Found::Template(name, body),
-        registry::Found::Missing => Found::Nothing,
+        Some((_, name, body)) => Found::Template(name, body),
+        None => Found::Nothing,
     }
 }
 

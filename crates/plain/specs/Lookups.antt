@@ -1,5 +1,6 @@
 -- Laws of lookups.
-use Rattle.std.specs.Prelude.{ℕ, zero, suc, ◌+◌, ◌-◌, ◌≤◌, Bool, not, ◌||◌, List, ◌≡◌, ltb}
+use Rattle.std.proofs.lemmas.Option.{none-some}
+use Rattle.std.specs.Prelude.{ℕ, zero, suc, ◌+◌, ◌-◌, ◌≤◌, Bool, not, ◌||◌, List, ◌≡◌, ltb, None, Some, Ok, Option as RustOption}
 use Rattle.std.proofs.Math.Bool.{true, false}
 use Rattle.std.proofs.Math.Option.{Option, none}
 use Rattle.std.proofs.Math.Path.{refl, subst}
@@ -22,7 +23,6 @@ use Rattle.output.specs.declared.Writer.{Writer}
 use Rattle.output.specs.Outputs.{outputs}
 use Rattle.support.specs.Feed.{escaped, fed}
 use Rattle.layout.specs.Text.{text_at}
-use Rattle.parts.specs.declared.Maybe.TheVariants.{Nothing}
 use Rattle.parts.specs.Holds.{Holds}
 use Rattle.parts.specs.Says.{path_at, literal_at}
 use Rattle.calls.specs.Calls.{call_at, param_view}
@@ -37,14 +37,12 @@ use Rattle.meaning.specs.Forms.{Known}
 use Rattle.meaning.specs.Means.{Means}
 use Rattle.meaning.specs.Standing.{plain}
 use Rattle.scope.specs.declared.Scope.{Scope}
-use Rattle.lookup.specs.declared.Found.TheVariants as found
 use Rattle.lookup.specs.Answers.{IsFound, Finds}
 use Rattle.lookup.specs.Numbers.{numbered_found}
 use Rattle.lookup.proofs.Leading.{finds_eq}
 use Rattle.context.specs.Start.{Newest}
 use Rattle.expand.specs.declared.Options.{Options}
 use Rattle.expand.specs.declared.Expanded.{Expanded}
-use Rattle.expand.specs.declared.Got.TheVariants.{Is}
 use Rattle.expand.specs.declared.HelperDef.TheVariants as helper
 use Rattle.expand.specs.Answers.{Setting, Expands, IsTemplate, helper_of, joined, gathered}
 use Rattle.expand.proofs.Parts.{no_params_given, joined_given, no_hash_given, gathered_given, string_given}
@@ -73,30 +71,32 @@ use Rattle.plain.specs.Looked.{lookup_view, CallIs, LookedAt, PathsAre, LiteralI
 use Rattle.plain.specs.Plain.{expression_of, ExpressionIs, is_alone, OneDrawn, LookupAt, unfound, ShownIs}
 use Rattle.plain.specs.Drawn.{marks_in, left_by, HelperWrote}
 use Rattle.plain.specs.Laws.{value_prints}
+use Rattle.error.specs.declared.RenderErrorReason.TheVariants.{BlockTextsLimit, PageLimit}
+use Rattle.error.specs.declared.RenderErrorReason.{RenderErrorReason as Reason}
 
 -- What the helper does: it writes the value that is found
 
 -- the string at q as the name, and two values
 abbrev both : ℕ → Value → Value → Expanded
-both q v w = gathered (Is (value.Text q)) 2 (joined (Is v) (joined (Is w) (record { first = value.Missing; second = value.Missing; bad = 0 }))) (record { zero = false; bad = 0 })
+both q v w = gathered (Ok (value.Text q)) 2 (joined (Ok v) (joined (Ok w) (record { first = value.Missing; second = value.Missing; bad = None }))) (record { zero = false; bad = None })
 
 module _ (s b : Bytes) (ent : List ℕ) (front : Scope) (names : ℕ) (o : Options) (d p : ℕ) where
   module _ (l : List Scope) (used : ℕ) (N : Newest b ent front names l used) where
     -- y is what the second parameter says
-    worked_both : (v : ℕ) (y : template.Parameter) → CallIs d (bits b) p v y → Holds string (bits b) (p + 2) → (u w : Value) → Gets s b ent l used o v (Is u)
-        → ((g : Registry) (st : rules.RenderContext) (t : ℕ) → Setting s b ent l used o g st t → Expands s b ent t (expand g st y) (Is w)) → CallWorked s b ent l used o d p (both (p + 2) u w)
+    worked_both : (v : ℕ) (y : template.Parameter) → CallIs d (bits b) p v y → Holds string (bits b) (p + 2) → (u w : Value) → Gets s b ent l used o v (Ok u)
+        → ((g : Registry) (st : rules.RenderContext) (t : ℕ) → Setting s b ent l used o g st t → Expands s b ent t (expand g st y) (Ok w)) → CallWorked s b ent l used o d p (both (p + 2) u w)
     worked_both v y F H u w h k g st t S =
         subst (λ (y : template.Call). IsTemplate s b ent t (try_from_template g st y) (both (p + 2) u w)) (sym F)
-        (gathered_given s b ent t _ _ _ (Is (value.Text (p + 2))) 2 _ _ (string_given s b ent t (p + 2) H g st _ refl)
-        (joined_given s b ent t _ _ (Is u) _ 1 (h g st t S) (joined_given s b ent t _ _ (Is w) _ 0 (k g st t S) (no_params_given s b ent t)))
+        (gathered_given s b ent t _ _ _ (Ok (value.Text (p + 2))) 2 _ _ (string_given s b ent t (p + 2) H g st _ refl)
+        (joined_given s b ent t _ _ (Ok u) _ 1 (h g st t S) (joined_given s b ent t _ _ (Ok w) _ 0 (k g st t S) (no_params_given s b ent t)))
         (no_hash_given s b ent t))
 
     writes : (u w : Value) → CallWorked s b ent l used o d p (both (p + 2) u w) → helper.Lookup ≡ helper_of (get_helper (text_at (bits b) (p + 2)))
         → (x : Value) → IsFound s b ent u (looked_up (json_of s b ent u) (json_of s b ent w)) x → DecidedBy s b ent l used o d p false false (does.Write x)
     writes u w worked named x is_found =
         by_text s b ent l used o d p false false (both (p + 2) u w) worked (p + 2) refl refl helper.Lookup (does.Write x) named
-        (by_lookup s b ent used o helper.Lookup (given (value.Text (p + 2)) 2 u w false 0) false false refl (does.Write x)
-        (λ g st t e ns T I G E _ _. lookup_found s b ent t used o (given (value.Text (p + 2)) 2 u w false 0) g st e ns T I G E (omega arith) x is_found))
+        (by_lookup s b ent used o helper.Lookup (given (value.Text (p + 2)) 2 u w false None) false false refl (does.Write x)
+        (λ g st t e ns T I G E _ _. lookup_found s b ent t used o (given (value.Text (p + 2)) 2 u w false None) g st e ns T I G E (omega arith) x is_found))
 
     -- two more than the number of a value
     module _ (n : ℕ) (two : 2 ≤ n) where
@@ -128,7 +128,7 @@ module _ (s b : Bytes) (ent : List ℕ) (front : Scope) (names : ℕ) (o : Optio
           (gets_value s b ent l used o v K.value m (decoded (K.value - 1)) refl (K.led.some m l used N))
           (λ g st t S. (ap (λ (j : Json). got (derived j)) (sym (plain_is s b ent (value.Literal k) refl)), plain refl X.few.3)))
           X.at.named (decoded (n - 2))
-          (finds_eq s b ent (decoded (K.value - 1)) _ _ (found.Is (decoded (n - 2))) (ap (looked_up (json_of s b ent (decoded (K.value - 1)))) (plain_is s b ent (value.Literal k) refl))
+          (finds_eq s b ent (decoded (K.value - 1)) _ _ (Some (decoded (n - 2))) (ap (looked_up (json_of s b ent (decoded (K.value - 1)))) (plain_is s b ent (value.Literal k) refl))
           (numbered _ _ (U.told (λ z. omega (arith, z, two)))))
 
   -- what the reader of the call and the numbers tell, of the element at q whose call stands at p
@@ -189,8 +189,8 @@ module _ (s b : Bytes) (o : Options) (d p : ℕ) (c : RenderContext) (page texts
   abbrev here : World
   here = world c page texts indent ent
 
-  decided : (k : RenderContext) → k.scopes ≡ c.scopes → k.used ≡ c.used → Decided s b ent o k d q Nothing Nothing (does.Write (decoded v))
-  decided k el eu = A.writes l c.used N k Nothing Nothing (el ∙ same) eu refl refl
+  decided : (k : RenderContext) → k.scopes ≡ c.scopes → k.used ≡ c.used → Decided s b ent o k d q None None (does.Write (decoded v))
+  decided k el eu = A.writes l c.used N k None None (el ∙ same) eu refl refl
 
   -- the value that is written is one of the plan or the bundle
   pub lookup_known : Known s b (decoded v)
@@ -215,28 +215,24 @@ module _ (s b : Bytes) (o : Options) (d p : ℕ) (c : RenderContext) (page texts
     abbrev inside : RenderContext
     inside = with_escape c true
 
-    abbrev number : ℕ
-    number = pick u.block_text 24 25
+    abbrev refusal_of : RustOption Reason
+    refusal_of = Some (pick u.block_text BlockTextsLimit PageLimit)
 
-    some_number : number ≡ 0 → ⊥
-    some_number = by u.block_text
-      where
-        by : (t : Bool) → ◌≡◌ {A = ℕ} (pick t 24 25) 0 → ⊥
-        by true h = omega (arith, h)
-        by false h = omega (arith, h)
+    some_refusal : refusal_of ≡ None → ⊥
+    some_refusal h = none-some (pick u.block_text BlockTextsLimit PageLimit) (sym h)
 
     -- the context k behind the value, written whole or not
     abbrev unsettled : RenderContext → RenderContext
     unsettled k = with_writer (marked k (before_helper c.writer before)) u
 
     abbrev left : RenderContext → Bool → RenderContext
-    left k t = finished c.writer (pick t (failed (unsettled k) number) (unsettled k))
+    left k t = finished c.writer (pick t (failed (unsettled k) refusal_of) (unsettled k))
 
-    left_whole : (k : RenderContext) → k.bad ≡ 0 → left k false ≡ settled (unsettled k) c.writer
+    left_whole : (k : RenderContext) → k.bad ≡ None → left k false ≡ settled (unsettled k) c.writer
     left_whole k e = unless_fine (λ z. settled z c.writer) (unsettled k) e
 
-    left_part : (k : RenderContext) → left k true ≡ failed (unsettled k) number
-    left_part k = ap (λ (t : Bool). pick t (settled (failed (unsettled k) number) c.writer) (failed (unsettled k) number)) (ne_eqb number 0 some_number)
+    left_part : (k : RenderContext) → left k true ≡ failed (unsettled k) refusal_of
+    left_part k = refl
 
     outside : c.disable_escape ≡ false → (t : Bool) → Renders s b o (world inside page texts indent ent) (world (left inside t) page' texts' indent ent) (λ g R. render_expression g call before)
         → Renders s b o here (world (left c t) page' texts' indent ent) (λ g R. render_html_expression g call before)
@@ -250,11 +246,11 @@ module _ (s b : Bytes) (o : Options) (d p : ℕ) (c : RenderContext) (page texts
         r.fine (x c) (ap (with_escape (x c)) off))
     outside off true D =
         let w : RenderContext → World = λ k. world k page' texts' indent ent in
-        let x : RenderContext → RenderContext = λ k. failed (unsettled k) number in
+        let x : RenderContext → RenderContext = λ k. failed (unsettled k) refusal_of in
         let R = html_refused s b o here r call before inside refl (w (x inside))
-        (subst (λ (k : RenderContext). Renders s b o (world inside page texts indent ent) (w k) (λ g R. render_expression g call before)) (left_part inside) D) some_number in
+        (subst (λ (k : RenderContext). Renders s b o (world inside page texts indent ent) (w k) (λ g R. render_expression g call before)) (left_part inside) D) some_refusal in
         subst (λ (k : RenderContext). Renders s b o here (w k) (λ g R. render_html_expression g call before)) (sym (left_part c))
-        (record { at = λ f le. let z = R.at f le in record { fine = λ e. absurd (some_number e); refused = λ e. z.refused e } })
+        (record { at = λ f le. let z = R.at f le in record { fine = λ e. absurd (some_refusal e); refused = λ e. z.refused e } })
 
     -- the element
     pub lookup_drawn : Means s b (decoded v) (λ j. outputs u page' texts' ≡ fed indent (escaped (not (html || c.disable_escape)) (render j)) (outputs (marks_in c.writer before) page texts))

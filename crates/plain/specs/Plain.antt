@@ -1,5 +1,5 @@
 -- Raw texts, expressions that are a path alone, and lookups: s is the plan, b the bundle.
-use Rattle.std.specs.Prelude.{ℕ, ◌+◌, ◌*◌, ◌<◌, Bool, true, false, List, ◌≡◌, eqb}
+use Rattle.std.specs.Prelude.{ℕ, ◌+◌, ◌*◌, ◌<◌, Bool, true, false, List, ◌≡◌, eqb, Option as RustOption, Some, None}
 use Rattle.rules.specs.Bytes.{Bytes, pick}
 use Rattle.rules.specs.Bits.{Bits, bits}
 use Rattle.rules.specs.Layout.{field}
@@ -32,14 +32,17 @@ use Rattle.plain.specs.declared.Plain.TheVariants.{Text, Path, Call, Other}
 use Rattle.plain.specs.declared.Shown.{Shown}
 use Rattle.plain.specs.declared.Shown.TheVariants as shown
 use Rattle.plain.specs.Looked.{lookup_view, Numbered}
+use Rattle.error.specs.Reasons.{refusal}
+use Rattle.error.specs.declared.RenderErrorReason.TheVariants.{BlockTextsLimit, PageLimit}
+use Rattle.error.specs.declared.RenderErrorReason.{RenderErrorReason as Reason}
 
 -- a context with another writer, and the number of a refusal
-abbrev pub kept : RenderContext → Writer → ℕ → RenderContext
+abbrev pub kept : RenderContext → Writer → RustOption Reason → RenderContext
 kept c w n = failed (with_writer c w) n
 
 -- what does not fit is 24 in a block text and 25 on the page
-abbrev pub full_number : Writer → ℕ
-full_number w = pick w.full (pick w.block_text 24 25) 0
+abbrev pub full_refusal : Writer → RustOption Reason
+full_refusal w = pick w.full (Some (pick w.block_text BlockTextsLimit PageLimit)) None
 
 -- What few reads tell of the element whose kind stands at p
 
@@ -149,5 +152,5 @@ module _ (s b : Bytes) (ent : List ℕ) (front : Scope) (names : ℕ) (off : Boo
   ShownIs (shown.Value v html next) = ShowsAt html next (shows.Value (decoded v))
   ShownIs (shown.Lookup v html before next) = LookupAt v html before next
   ShownIs (shown.Nothing next) = (html : Bool) × ShowsAt html next shows.Nothing
-  ShownIs (shown.Bad n) = (html : Bool) × (next : ℕ) × ShowsAt html next (shows.Bad n)
+  ShownIs (shown.Bad e) = (html : Bool) × (next : ℕ) × ShowsAt html next (shows.Bad e)
   ShownIs shown.Other = Untold

@@ -29,8 +29,8 @@ ghost use Rattle.plain.specs.Put.{Put, PutPlain, PutNumber};
 ghost use Rattle.plain.specs.Drawn.{HelperWrote};
 
 use calls::Parameter;
+use error::RenderErrorReason;
 use expand::{HelperDef, Options};
-use lookup::Found;
 use output::Writer;
 use scope::Scope;
 use state::RenderContext;
@@ -115,7 +115,7 @@ pub enum Shown {
     // an expression that writes nothing, and the place behind it
     Nothing(usize),
     // the number of the refusal
-    Bad(u8),
+    Bad(RenderErrorReason),
     Other,
 }
 
@@ -235,8 +235,8 @@ fn keyed_paths(
     let of = value::decode((found - 1) as u32);
     let under = value::decode((key - 1) as u32);
     match lookup::looked_up(s, tab, b, ent, of, under) {
-        Found::Is(w) => 2 + (value::encode(w) as u64),
-        Found::Nothing => 1,
+        Some(w) => 2 + (value::encode(w) as u64),
+        None => 1,
     }
 }
 
@@ -342,8 +342,11 @@ pub fn shown_at(
             if r == helpers::FAR {
                 return Shown::Other;
             }
+            if r == helpers::MISSING {
+                return Shown::Bad(RenderErrorReason::MissingVariable);
+            }
             if r < helpers::NOTHING {
-                return Shown::Bad(r as u8);
+                return Shown::Bad(RenderErrorReason::InvalidJsonIndex);
             }
             if r == helpers::NOTHING {
                 return Shown::Nothing(next);

@@ -1,5 +1,6 @@
 -- The array and its newest scope while a body is drawn: O is the array in which x₀ was put at k, the place of the newest, when the body began.
 use Rattle.std.specs.Prelude.{ℕ, zero, suc, ◌-◌, ◌≤◌, ◌<◌, Bool, true, false, List, [], ◌∷◌, ◌≡◌, refl, eqb, length, get_or, set}
+use Rattle.std.specs.Option.{is_some}
 use Rattle.std.proofs.Common.{sym, ap, ◌∙◌, subst, arith, length-set, get_or-set_same}
 use Rattle.rules.specs.Bytes.{Bytes}
 use Rattle.rules.specs.State.{Draw}
@@ -95,9 +96,9 @@ wrote_kept c w = go w.full refl
     go false e = (rw e refl, rw e refl)
 
 finished_kept : (w : Writer) (c : RenderContext) → ((finished w c).used ≡ c.used) × ((finished w c).scopes ≡ c.scopes)
-finished_kept w c = go (eqb c.bad 0) refl
+finished_kept w c = go (is_some c.bad) refl
   where
-    go : (t : Bool) → eqb c.bad 0 ≡ t → ((finished w c).used ≡ c.used) × ((finished w c).scopes ≡ c.scopes)
+    go : (t : Bool) → is_some c.bad ≡ t → ((finished w c).used ≡ c.used) × ((finished w c).scopes ≡ c.scopes)
     go true e = (rw e refl, rw e refl)
     go false e = (rw e refl, rw e refl)
 

@@ -1,5 +1,7 @@
 -- What the members of the drawing cite.
-use Rattle.std.specs.Prelude.{ℕ, ◌+◌, ◌-◌, ◌≤◌, Bool, true, false, List, ◌∷◌, [], ◌≡◌, refl, eqb, length, get_or, set}
+use Rattle.std.specs.Prelude.{ℕ, ◌+◌, ◌-◌, ◌≤◌, Bool, true, false, List, ◌∷◌, [], ◌≡◌, refl, eqb, length, get_or, set, Option as RustOption, None, Some}
+use Rattle.error.specs.Reasons.{not_none}
+use Rattle.std.specs.Option.{is_some}
 use Rattle.std.proofs.Common.{sym, ap, ◌∙◌, subst, arith, eqb-true}
 use Rattle.std.proofs.lemmas.Bool.{eqb-false}
 use types.Run.{OneOf, miss}
@@ -9,8 +11,6 @@ use Rattle.rules.specs.Bits.{bits}
 use Rattle.rules.specs.State.{Draw}
 use Rattle.rules.specs.Registry.{Registry}
 use Rattle.rules.specs.Partial.{Rendering}
-use Rattle.parts.specs.declared.Maybe.{Maybe}
-use Rattle.parts.specs.declared.Maybe.TheVariants.{Nothing}
 use Rattle.expand.specs.declared.Options.{Options}
 use Rattle.scope.specs.declared.Scope.{Scope}
 use Rattle.scope.specs.Scopes.{blank}
@@ -31,14 +31,15 @@ use Rattle.beginning.specs.declared.Next.TheVariants.{Done, Fallback, Body, Text
 use Rattle.beginning.specs.contracts.Next.{the_type as next-type}
 use Rattle.helping.specs.Begun.{TopIs, opened}
 use Rattle.helping.specs.declared.Begun.{Begun}
+use Rattle.error.specs.declared.RenderErrorReason.{RenderErrorReason as Reason}
 
 -- A block text is finished: c is the context in front of the element and l its array, rc and x what its beginning left, q what the body of the
 -- text left of rc; u, ts and ind are what `end_text` made of q, and y is the newest scope with the text.
-module _ (s b : Bytes) (o : Options) (c : code.RenderContext) (l : List Scope) (sized : length l ≡ 32) (d t z e n : ℕ) (at : Maybe)
+module _ (s b : Bytes) (o : Options) (c : code.RenderContext) (l : List Scope) (sized : length l ≡ 32) (d t z e n : ℕ) (at : RustOption ℕ)
     (rc : code.RenderContext) (x : Scope) (page₁ texts₁ indent₁ : Bytes) (ent₁ : List ℕ)
     (q : code.RenderContext) (page₂ texts₂ indent₂ : Bytes) (ent₂ : List ℕ)
     (D : Renders s b o (world (topped rc l x) page₁ texts₁ indent₁ ent₁) (world (whole q (set l (rc.used - 1) x)) page₂ texts₂ indent₂ ent₂) (body_rule b d t 0))
-    (fine : q.bad ≡ 0) where
+    (fine : q.bad ≡ None) where
   abbrev w₁ : World
   w₁ = world (topped rc l x) page₁ texts₁ indent₁ ent₁
 
@@ -104,14 +105,13 @@ module _ (s b : Bytes) (o : Options) (c : code.RenderContext) (l : List Scope) (
 
   module _ (r : code.RenderContext) (k : ℕ) (x : Scope) (page' texts' indent' : Bytes) (ent' : List ℕ) where
     -- the array is as it was, but for what the newest scope gained
-    pub left_drawn : (r.bad ≡ 0 → k ≡ r.used) → Renders s b o w (world (whole r (set l (k - 1) x)) page' texts' indent' ent') rule
+    pub left_drawn : (r.bad ≡ None → k ≡ r.used) → Renders s b o w (world (whole r (set l (k - 1) x)) page' texts' indent' ent') rule
         → Renders s b o w (world (whole r l) page' texts' indent' ent') rule
-    left_drawn h R = go (eqb r.bad 0) refl
+    left_drawn h R = go r.bad refl
       where
-        go : (t : Bool) → eqb r.bad 0 ≡ t → Renders s b o w (world (whole r l) page' texts' indent' ent') rule
-        go false e = refused_any s b o w r l (set l (k - 1) x) page' texts' indent' ent' rule (eqb-false r.bad 0 e) R
-        go true e =
-            let f : r.bad ≡ 0 = eqb-true r.bad 0 e in
+        go : (t : RustOption Reason) → r.bad ≡ t → Renders s b o w (world (whole r l) page' texts' indent' ent') rule
+        go (Some y) e = refused_any s b o w r l (set l (k - 1) x) page' texts' indent' ent' rule (not_none y e) R
+        go None f =
             let G = ((R.at 32 (omega arith)).fine f).goes in
             let u : r.used ≡ c.used = G.used in
             let one' : 1 ≤ r.used = omega (arith, u, one) in
@@ -131,15 +131,15 @@ module _ (s b : Bytes) (o : Options) (c : code.RenderContext) (l : List Scope) (
 -- what is done unless there is an error keeps the number of scopes and the error
 pub unless_keeps : (f : RenderContext → RenderContext) (c : RenderContext) → (f c).used ≡ c.used → (f c).bad ≡ c.bad
     → ((unless_bad f c).used ≡ c.used) × ((unless_bad f c).bad ≡ c.bad)
-unless_keeps f c e g = go (eqb c.bad 0) refl
+unless_keeps f c e g = go (is_some c.bad) refl
   where
-    go : (t : Bool) → eqb c.bad 0 ≡ t → ((unless_bad f c).used ≡ c.used) × ((unless_bad f c).bad ≡ c.bad)
-    go true h = (rw h e, rw h g)
-    go false h = (rw h refl, rw h refl)
+    go : (t : Bool) → is_some c.bad ≡ t → ((unless_bad f c).used ≡ c.used) × ((unless_bad f c).bad ≡ c.bad)
+    go true h = (rw h refl, rw h refl)
+    go false h = (rw h e, rw h g)
 
 -- Without an own body there is no fallback and no block text: where no other body is drawn, nothing is left.
-pub no_own : (s b : Bytes) (o : Options) (w w₁ : World) (d : ℕ) (rule : Registry → Rendering → Draw) (at : Maybe) (n : Next) → OneOf (0 ∷ 1 ∷ 3 ∷ []) (tag_of next-type n)
-    → PartialBegun s b o w w₁ d rule Nothing at n → Renders s b o w w₁ rule
+pub no_own : (s b : Bytes) (o : Options) (w w₁ : World) (d : ℕ) (rule : Registry → Rendering → Draw) (at : RustOption ℕ) (n : Next) → OneOf (0 ∷ 1 ∷ 3 ∷ []) (tag_of next-type n)
+    → PartialBegun s b o w w₁ d rule None at n → Renders s b o w w₁ rule
 no_own s b o w w₁ d rule at Done k B = B
 no_own s b o w w₁ d rule at (Fallback q) k B = nothing_at q B.1
 no_own s b o w w₁ d rule at (Body q e n) k B = absurd (miss (0 ∷ 1 ∷ 3 ∷ []) 2 tt k)

@@ -1,10 +1,9 @@
 -- A partial with a block text, from the body of that text on: s is the plan, b the bundle.
-use Rattle.std.specs.Prelude.{ℕ, List}
+use Rattle.std.specs.Prelude.{ℕ, List, Option as RustOption}
 use Rattle.rules.specs.Bytes.{Bytes}
 use Rattle.rules.specs.State.{Draw}
 use Rattle.rules.specs.Registry.{Registry}
 use Rattle.rules.specs.Partial.{Rendering}
-use Rattle.parts.specs.declared.Maybe.{Maybe}
 use Rattle.expand.specs.declared.Options.{Options}
 use Rattle.scope.specs.declared.Scope.{Scope}
 use Rattle.state.specs.declared.RenderContext as code
@@ -14,7 +13,7 @@ use Rattle.drawing.specs.Renders.{Renders}
 use Rattle.beginning.specs.Opened.{TextBegun}
 
 -- c is the context in front of some element, l the array of its scopes; w₁ is what the beginning of the element left
-pub record TextReady (s b : Bytes) (o : Options) (w₁ : World) (l : List Scope) (c : code.RenderContext) (d t q e n : ℕ) (at : Maybe) : Type 0 where
+pub record TextReady (s b : Bytes) (o : Options) (w₁ : World) (l : List Scope) (c : code.RenderContext) (d t q e n : ℕ) (at : RustOption ℕ) : Type 0 where
   pub page : Bytes
   pub texts : Bytes
   pub indent : Bytes
@@ -23,7 +22,7 @@ pub record TextReady (s b : Bytes) (o : Options) (w₁ : World) (l : List Scope)
   pub begun : TextBegun s b o (world (whole c l) page texts indent ent) w₁ d rule t q e n at
 
 -- every such element is drawn
-pub record TextDrawn (s b : Bytes) (o : Options) (w₁ w₂ : World) (l : List Scope) (c : code.RenderContext) (d t q e n : ℕ) (ind : Maybe) : Type 0 where
+pub record TextDrawn (s b : Bytes) (o : Options) (w₁ w₂ : World) (l : List Scope) (c : code.RenderContext) (d t q e n : ℕ) (ind : RustOption ℕ) : Type 0 where
   pub at : (page texts indent : Bytes) (ent : List ℕ) (rule : Registry → Rendering → Draw)
       → TextBegun s b o (world (whole c l) page texts indent ent) w₁ d rule t q e n ind
       → Renders s b o (world (whole c l) page texts indent ent) w₂ rule

@@ -14,7 +14,6 @@ ghost use Rattle.rules.specs.Registry.{paper_limits};
 ghost use Rattle.rules.specs.Render as rule;
 ghost use Rattle.rules.specs.Render.{render_element};
 ghost use Rattle.layout.specs.Text.{text_at};
-ghost use Rattle.parts.specs.declared.Maybe.TheVariants.{At, Nothing};
 ghost use Rattle.parts.specs.Holds.{Holds};
 ghost use Rattle.parts.specs.Says.{MaybeHolds, names_at};
 ghost use Rattle.template.specs.Views.{template_at, element_says, ElementHolds};
@@ -33,8 +32,7 @@ ghost use Rattle.beginning.specs.Opened.{partial_rule};
 ghost use Rattle.render.specs.Texts.{TextDrawn, TextReady};
 
 use expand::Options;
-use helping::{Begun, Near};
-use parts::Maybe;
+use helping::Begun;
 use plain::Shown;
 use scope::Scope;
 use state::RenderContext;
@@ -110,7 +108,7 @@ fn render_elements(
                 if put == 0 {
                     let w = writing::write_packed(page, texts, indent, q.writer, b, at + 20, n);
                     q = state::wrote(q, w);
-                    if q.bad != 0 {
+                    if q.bad.is_some() {
                         return stopped(b, name, cur, q);
                     }
                 } else {
@@ -130,7 +128,7 @@ fn render_elements(
                         page, texts, indent, q.writer, s, tab, b, u, escape,
                     );
                     q = state::wrote(q, w);
-                    if q.bad != 0 {
+                    if q.bad.is_some() {
                         return stopped(b, name, cur, q);
                     }
                 } else {
@@ -143,7 +141,7 @@ fn render_elements(
             }
             Shown::Lookup(v, html, before, next) => {
                 q = plain::draw_lookup(page, texts, indent, s, tab, b, v, html, before, q);
-                if q.bad != 0 {
+                if q.bad.is_some() {
                     return stopped(b, name, cur, q);
                 }
                 cur = next;
@@ -155,8 +153,8 @@ fn render_elements(
                 i += 1;
                 continue;
             }
-            Shown::Bad(n) => {
-                return stopped(b, name, cur, state::failed(q, n));
+            Shown::Bad(reason) => {
+                return stopped(b, name, cur, state::failed(q, reason));
             }
             Shown::Other => {}
         }
@@ -178,7 +176,7 @@ fn render_elements(
             d - 1,
             q,
         );
-        if q.bad != 0 {
+        if q.bad.is_some() {
             return stopped(b, name, cur, q);
         }
         cur = e.next;
@@ -238,20 +236,7 @@ fn render_element(
             )
         }
         Element::DecoratorExpression(p, at, _) => {
-            inlining::eval_decorator(
-                s,
-                tab,
-                b,
-                ent,
-                scopes,
-                front,
-                options,
-                p,
-                Maybe::Nothing,
-                at,
-                d,
-                rc,
-            )
+            inlining::eval_decorator(s, tab, b, ent, scopes, front, options, p, None, at, d, rc)
         }
         Element::DecoratorBlock(p, body, at, _) => {
             inlining::eval_decorator(
@@ -263,7 +248,7 @@ fn render_element(
                 front,
                 options,
                 p,
-                Maybe::At(body),
+                Some(body),
                 at,
                 d,
                 rc,
@@ -299,8 +284,8 @@ fn begin_helper(
     options: Options,
     p: usize,
     at: usize,
-    template: Maybe,
-    inverse: Maybe,
+    template: Option<usize>,
+    inverse: Option<usize>,
     before: bool,
     d: usize,
     rc: RenderContext,
@@ -323,7 +308,7 @@ fn begin_helper(
     let near = helping::decide_near(
         s, tab, b, ent, front, rc.names, rc.used, options, p, template, inverse, d,
     );
-    let Near::Is(does) = near else {
+    let Some(does) = near else {
         let w = expand::try_from_template(s, tab, b, ent, scopes, rc.used, options, p, d);
         let far = helping::decide(s, tab, b, ent, rc.used, options, w, template, inverse);
         return helping::begin(
@@ -351,8 +336,8 @@ fn render_helper(
     options: Options,
     p: usize,
     at: usize,
-    template: Maybe,
-    inverse: Maybe,
+    template: Option<usize>,
+    inverse: Option<usize>,
     before: bool,
     d: usize,
     rc: RenderContext,
@@ -449,7 +434,7 @@ fn render_turns(
         q = render_elements(
             s, tab, b, index, ent, page, texts, indent, scopes, c, options, p, d, 0, q,
         );
-        if q.bad != 0 {
+        if q.bad.is_some() {
             return q;
         }
         k += 1;
@@ -472,7 +457,7 @@ fn render_partial(
     front: Scope,
     options: Options,
     p: usize,
-    at: Maybe,
+    at: Option<usize>,
     before: bool,
     d: usize,
     rc: RenderContext,
@@ -486,25 +471,10 @@ fn render_partial(
     ensures { Renders s.now b.now options
         (world (whole rc scopes) page.old texts.old indent.old ent.old)
         (world (whole result scopes) page.new texts.new indent.new ent.new)
-        (partial_rule b.now d p Nothing at before) }
+        (partial_rule b.now d p None at before) }
 {
     let begun = beginning::begin(
-        s,
-        tab,
-        b,
-        index,
-        ent,
-        page,
-        texts,
-        indent,
-        scopes,
-        front,
-        options,
-        p,
-        Maybe::Nothing,
-        at,
-        before,
-        d,
+        s, tab, b, index, ent, page, texts, indent, scopes, front, options, p, None, at, before, d,
         rc,
     );
     let next = begun.next;
@@ -536,7 +506,7 @@ fn render_partial_block(
     options: Options,
     p: usize,
     own: usize,
-    at: Maybe,
+    at: Option<usize>,
     before: bool,
     d: usize,
     rc: RenderContext,
@@ -551,7 +521,7 @@ fn render_partial_block(
     ensures { Renders s.now b.now options
         (world (whole rc scopes) page.old texts.old indent.old ent.old)
         (world (whole result scopes) page.new texts.new indent.new ent.new)
-        (partial_rule b.now d p (At own) at before) }
+        (partial_rule b.now d p (Some own) at before) }
 {
     let begun = beginning::begin(
         s,
@@ -566,7 +536,7 @@ fn render_partial_block(
         front,
         options,
         p,
-        Maybe::At(own),
+        Some(own),
         at,
         before,
         d,
@@ -617,7 +587,7 @@ fn render_text(
     p: usize,
     e: usize,
     name: usize,
-    at: Maybe,
+    at: Option<usize>,
     d: usize,
     rc: RenderContext,
     around: RenderContext,
@@ -635,7 +605,7 @@ fn render_text(
     let q = render_elements(
         s, tab, b, index, ent, page, texts, indent, scopes, top, options, o, d, 0, rc,
     );
-    if q.bad != 0 {
+    if q.bad.is_some() {
         return q;
     }
     let w = around.writer;

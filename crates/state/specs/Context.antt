@@ -1,10 +1,11 @@
 -- The code's context together with its scopes, which go beside it as an array: what the laws speak of.
-use Rattle.std.specs.Prelude.{ℕ, ◌-◌, Bool, List, ◌≡◌, set, get_or}
+use Rattle.std.specs.Prelude.{ℕ, ◌-◌, Bool, List, ◌≡◌, set, get_or, Option as RustOption}
 use Rattle.output.specs.declared.Writer.{Writer}
 use Rattle.scope.specs.declared.Scope.{Scope}
 use Rattle.scope.specs.Scopes.{blank}
 use Rattle.scope.specs.Made.{with_count}
 use Rattle.state.specs.declared.RenderContext as code
+use Rattle.error.specs.declared.RenderErrorReason.{RenderErrorReason as Reason}
 
 pub record RenderContext : Type 0 where
   pub scopes : List Scope
@@ -17,7 +18,7 @@ pub record RenderContext : Type 0 where
   pub column : ℕ
   -- a set in which the block names of the open scopes are
   pub names : ℕ
-  pub bad : ℕ
+  pub bad : RustOption Reason
   pub placed : Bool
   pub disable_escape : Bool
 

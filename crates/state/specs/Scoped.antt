@@ -1,6 +1,6 @@
 -- The newest scope is changed or closed.
 use Prim.Native.Nat.{ℕ, zero, suc, ◌+◌, ◌-◌, ◌*◌, ◌≤◌, ◌<◌}
-use Rattle.std.specs.Prelude.{Bool, true, false, ◌≡◌, refl, eqb, length, get_or, take, drop, set}
+use Rattle.std.specs.Prelude.{Bool, true, false, ◌≡◌, refl, eqb, length, get_or, take, drop, set, None}
 use mathlib.Core.List.{List, [], ◌∷◌, ◌++◌, append-nil}
 use Rattle.std.proofs.Math.Option.{Option, none, some}
 use Rattle.std.proofs.Common.{sym, ◌∙◌, subst, eqb-true, length-set, get_or-set_same, get_or-set_other}
@@ -126,7 +126,7 @@ module _ (s b v : Bytes) (w w' : World) (le : 1 ≤ w.rc.used) (r : Ready s b w)
       }
 
 -- x is drawn inside a scope that was opened, and the scope is closed
-pub draws_close : (s b : Bytes) (w w₁ w₂ : World) (x : Res) → Ready s b w → Within s b [] w w₁ → (front w₁).block ≡ 0 → (front w₁).text ≡ 0 → Draws s b w₁ w₂ x → w₂.rc.bad ≡ 0
+pub draws_close : (s b : Bytes) (w w₁ w₂ : World) (x : Res) → Ready s b w → Within s b [] w w₁ → (front w₁).block ≡ 0 → (front w₁).text ≡ 0 → Draws s b w₁ w₂ x → w₂.rc.bad ≡ None
     → Draws s b w (over (closed w.rc w₂.rc) w₂) (pop_block after x)
 unfolding ◌after◌
 draws_close s b w w₁ w₂ x r h nb nt d e =

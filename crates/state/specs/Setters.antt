@@ -1,5 +1,6 @@
 -- What the setters of a context make.
-use Rattle.std.specs.Prelude.{ℕ, zero, suc, ◌+◌, ◌-◌, Bool, true, false, List, eqb, set, replicate}
+use Rattle.std.specs.Prelude.{ℕ, zero, suc, ◌+◌, ◌-◌, Bool, true, false, List, eqb, set, replicate, Option as RustOption, Some, None}
+use Rattle.std.specs.Option.{is_some}
 use Rattle.std.specs.Int.Bits.{bit_or}
 use Rattle.rules.specs.Bytes.{Bytes, pick}
 use Rattle.output.specs.declared.Writer.{Writer}
@@ -7,11 +8,13 @@ use Rattle.output.specs.Writer as writer
 use Rattle.scope.specs.declared.Scope.{Scope}
 use Rattle.scope.specs.Scopes.{blank}
 use Rattle.state.specs.Context.{RenderContext}
+use Rattle.error.specs.declared.RenderErrorReason.TheVariants.{BlockTextsLimit, PageLimit}
+use Rattle.error.specs.declared.RenderErrorReason.{RenderErrorReason as Reason}
 
 abbrev pub fresh : RenderContext
-fresh = record { scopes = replicate 32 blank; used = 1; writer = writer.fresh; total = 0; template = 0; named = 0; line = 0; column = 0; names = 0; bad = 0; placed = false; disable_escape = false }
+fresh = record { scopes = replicate 32 blank; used = 1; writer = writer.fresh; total = 0; template = 0; named = 0; line = 0; column = 0; names = 0; bad = None; placed = false; disable_escape = false }
 
-abbrev pub failed : RenderContext → ℕ → RenderContext
+abbrev pub failed : RenderContext → RustOption Reason → RenderContext
 failed c n = record { scopes = c.scopes; used = c.used; writer = c.writer; total = c.total; template = c.template; named = c.named; line = c.line; column = c.column; names = c.names; bad = n; placed = c.placed; disable_escape = c.disable_escape }
 
 abbrev pub located : RenderContext → ℕ → ℕ → ℕ → RenderContext
@@ -41,7 +44,7 @@ with_writer c w = record { scopes = c.scopes; used = c.used; writer = w; total =
 
 -- a writer that has written: what does not fit is 24 in a block text and 25 on the page
 abbrev pub wrote : RenderContext → Writer → RenderContext
-wrote c w = pick w.full (failed (with_writer c w) (pick w.block_text 24 25)) (with_writer c w)
+wrote c w = pick w.full (failed (with_writer c w) (Some (pick w.block_text BlockTextsLimit PageLimit))) (with_writer c w)
 
 abbrev pub with_marks : Writer → Bool → Bool → Writer
 with_marks w produced before = record { written = w.written; low = w.low; high = w.high; indent = w.indent; pen = w.pen; has_indent = w.has_indent; block_text = w.block_text; full = w.full; trailing_newline = w.trailing_newline; content_produced = produced; indent_before_write = before }
@@ -81,7 +84,7 @@ closed o c = with_names (with_scopes c o.scopes o.used o.total) o.names
 
 -- f, unless there is an error
 abbrev pub unless_bad : (RenderContext → RenderContext) → RenderContext → RenderContext
-unless_bad f c = pick (eqb c.bad 0) (f c) c
+unless_bad f c = pick (is_some c.bad) c (f c)
 
 abbrev pub finished : Writer → RenderContext → RenderContext
 finished w = unless_bad (λ c. settled c w)

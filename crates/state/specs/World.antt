@@ -1,11 +1,12 @@
 -- A context of the code with the lent buffers, and the rules' state that it stands for: s is the plan, b the bundle.
-use Rattle.std.specs.Prelude.{ℕ, zero, suc, ◌+◌, ◌-◌, ◌≤◌, ◌<◌, Bool, true, false, List, [], ◌∷◌, ◌++◌, ◌≡◌, eqb, length, get_or, take, drop}
+use Rattle.std.specs.Prelude.{ℕ, zero, suc, ◌+◌, ◌-◌, ◌≤◌, ◌<◌, Bool, true, false, List, [], ◌∷◌, ◌++◌, ◌≡◌, eqb, length, get_or, take, drop, Option as RustOption, Some, None}
 use Rattle.std.proofs.Math.Option.{Option, none, some}
 use Rattle.rules.specs.Bytes.{Bytes, pick}
 use Rattle.rules.specs.Bits.{bits}
 use Rattle.rules.specs.Bundle.{string}
 use Rattle.rules.specs.Template.{TemplateMapping}
-use Rattle.rules.specs.Error.{RenderErrorReason, RenderError, missing-variable, partial-not-found, partial-block-not-found, helper-not-found, param-not-found-for-index, decorator-not-found, cannot-include-self, invalid-param-type, block-content-required, invalid-json-index, indent-limit, entries-limit, scopes-limit, block-texts-limit, page-limit}
+use Rattle.rules.specs.Error.{RenderErrorReason, RenderError, page-limit}
+use Rattle.error.specs.Reasons.{reason}
 use Rattle.rules.specs.State as rules
 use Rattle.rules.specs.State.{entries, Res, ok, err}
 use Rattle.output.specs.Outputs.{Outputs, outputs, marks_of, indent_of, out_of, room_of, Sound, so_far}
@@ -18,6 +19,7 @@ use Rattle.scope.specs.Standing.{ScopesStand}
 use Rattle.scope.specs.NameBits.{AllCovered}
 use Rattle.scope.specs.Made.{with_count}
 use Rattle.state.specs.Context.{RenderContext}
+use Rattle.error.specs.declared.RenderErrorReason.{RenderErrorReason as Reason}
 
 pub record World : Type 0 where
   pub rc : RenderContext
@@ -89,22 +91,9 @@ abs s b w = record {
 
 -- The error that a context holds
 
-abbrev pub reason_of : ℕ → RenderErrorReason
-reason_of n =
-    pick (eqb n 11) missing-variable
-    (pick (eqb n 12) partial-not-found
-    (pick (eqb n 13) partial-block-not-found
-    (pick (eqb n 14) helper-not-found
-    (pick (eqb n 15) param-not-found-for-index
-    (pick (eqb n 16) decorator-not-found
-    (pick (eqb n 17) cannot-include-self
-    (pick (eqb n 18) invalid-param-type
-    (pick (eqb n 19) block-content-required
-    (pick (eqb n 20) invalid-json-index
-    (pick (eqb n 21) indent-limit
-    (pick (eqb n 22) entries-limit
-    (pick (eqb n 23) scopes-limit
-    (pick (eqb n 24) block-texts-limit page-limit)))))))))))))
+abbrev pub reason_of : RustOption Reason → RenderErrorReason
+reason_of None = page-limit
+reason_of (Some e) = reason e
 
 abbrev pub position_of : RenderContext → Option TemplateMapping
 position_of c = pick c.placed (some (record { line = c.line; column = c.column })) none
@@ -118,7 +107,7 @@ pub record Ready (s b : Bytes) (w : World) : Type 0 where
   pub sized : length w.rc.scopes ≡ 32
   pub one : 1 ≤ w.rc.used
   pub most : w.rc.used ≤ 32
-  pub fine : w.rc.bad ≡ 0
+  pub fine : w.rc.bad ≡ None
   pub nowhere : w.rc.placed ≡ false
   pub nameless : w.rc.named ≡ 0
   pub sound : Sound (outputs_of w)
@@ -179,5 +168,5 @@ pub record Drawn (s b : Bytes) (w w' : World) (x : Res) : Type 0 where
 
 -- w' is what drawing x makes of w
 pub record Draws (s b : Bytes) (w w' : World) (x : Res) : Type 0 where
-  pub fine : w'.rc.bad ≡ 0 → Drawn s b w w' x
-  pub refused : (w'.rc.bad ≡ 0 → ⊥) → x ≡ err (error_of b w'.rc)
+  pub fine : w'.rc.bad ≡ None → Drawn s b w w' x
+  pub refused : (w'.rc.bad ≡ None → ⊥) → x ≡ err (error_of b w'.rc)

@@ -8,7 +8,7 @@ ghost use Rattle.scope.specs.declared.Scope.{Scope};
 ghost use Rattle.state.specs.Context.{whole, Current};
 ghost use Rattle.state.specs.Setters.{fresh, failed, located, with_escape, with_template, with_writer, wrote, with_marks, marked, settled_marks, settled, pushed, counted, closed, finished, finished_within, finished_named};
 
-use error::{BLOCK_TEXTS_LIMIT, PAGE_LIMIT};
+use error::RenderErrorReason;
 use output::Writer;
 
 #[derive(Clone, Copy)]
@@ -21,7 +21,7 @@ pub struct RenderContext {
     pub total: usize,
     // the current template's name by one more than its place; 0 where there is none
     pub template: usize,
-    // 0, or the number of the refusal, with its template's name in the same way, and its position if it has one
+    // of a refusal its template's name in the same way, and its position if it has one
     pub named: usize,
     pub line: u64,
     pub column: u64,
@@ -29,7 +29,8 @@ pub struct RenderContext {
     pub names: u64,
     // how many inline partials the newest scope has
     pub count: usize,
-    pub bad: u8,
+    // why the drawing ends, if it does
+    pub bad: Option<RenderErrorReason>,
     pub placed: bool,
     pub disable_escape: bool,
 }
@@ -48,17 +49,18 @@ pub fn new() -> RenderContext
         column: 0,
         names: 0,
         count: 0,
-        bad: 0,
+        bad: None,
         placed: false,
         disable_escape: false,
     }
 }
 
-pub fn failed(rc: RenderContext, n: u8) -> RenderContext
-    ensures { (l : List Scope) → whole result l ≡ failed (whole rc l) n }
+// The drawing ends for that reason.
+pub fn failed(rc: RenderContext, reason: RenderErrorReason) -> RenderContext
+    ensures { (l : List Scope) → whole result l ≡ failed (whole rc l) (Some reason) }
 {
     let mut q = rc;
-    q.bad = n;
+    q.bad = Some(reason);
     q
 }
 
@@ -116,13 +118,14 @@ pub fn set_writer(rc: RenderContext, w: Writer) -> RenderContext
     q
 }
 
-fn full_number(block_text: bool) -> u8
-    ensures { result ≡ pick block_text 24 25 }
+fn full_reason(block_text: bool) -> RenderErrorReason
+    ensures { result ≡ pick block_text RenderErrorReason.BlockTextsLimit
+        RenderErrorReason.PageLimit }
 {
     if block_text {
-        return BLOCK_TEXTS_LIMIT;
+        return RenderErrorReason::BlockTextsLimit;
     }
-    PAGE_LIMIT
+    RenderErrorReason::PageLimit
 }
 
 // A writer that has written; what does not fit is 24 in a block text and 25 on the page.
@@ -132,7 +135,7 @@ pub fn wrote(rc: RenderContext, w: Writer) -> RenderContext
     let mut q = rc;
     q.writer = w;
     if w.full {
-        q.bad = full_number(w.block_text);
+        q.bad = Some(full_reason(w.block_text));
     }
     q
 }
@@ -210,7 +213,7 @@ pub fn finish(rc: RenderContext, before: Writer) -> RenderContext
     ensures { (l : List Scope) → whole result l ≡ finished before (whole rc l) }
 {
     let mut q = rc;
-    if q.bad == 0 {
+    if q.bad.is_none() {
         q.writer = settle_marks(q.writer, before);
     }
     q
@@ -221,7 +224,7 @@ pub fn finish_within(rc: RenderContext, before: RenderContext) -> RenderContext
     ensures { (l : List Scope) → whole result l ≡ finished_within (whole before l) (whole rc l) }
 {
     let mut q = rc;
-    if q.bad == 0 {
+    if q.bad.is_none() {
         q.used = before.used;
         q.total = before.total;
         q.names = before.names;
@@ -236,7 +239,7 @@ pub fn finish_named(rc: RenderContext, name: usize, before: Writer) -> RenderCon
     ensures { (l : List Scope) → whole result l ≡ finished_named name before (whole rc l) }
 {
     let mut q = rc;
-    if q.bad == 0 {
+    if q.bad.is_none() {
         q.template = name;
         q.writer = settle_marks(q.writer, before);
     }

@@ -1,5 +1,5 @@
 -- Laws of what a partial's name stands for.
-use Rattle.std.specs.Prelude.{ℕ, suc, ◌+◌, ◌-◌, ◌≤◌, ◌<◌, Bool, true, false, List, ◌≡◌, length, take, drop}
+use Rattle.std.specs.Prelude.{ℕ, suc, ◌+◌, ◌-◌, ◌≤◌, ◌<◌, Bool, true, false, List, ◌≡◌, length, take, drop, Option as RustOption, Some, None}
 use Rattle.std.proofs.Math.Option.{Option, none, some}
 use Rattle.std.proofs.Math.Path.{refl, sym, ap, ap₂, subst}
 use Rattle.std.proofs.Common.{◌∙◌, arith}
@@ -15,8 +15,6 @@ use Rattle.rules.specs.BlockUtil as block-util
 use Rattle.rules.specs.Value.{render}
 use Rattle.rules.specs.Partial.{Rendering, get_partial, is_current_template, render_partial_block}
 use Rattle.rules.specs.Render.{render_body, render_elements, render_template}
-use Rattle.parts.specs.declared.Maybe.{Maybe}
-use Rattle.parts.specs.declared.Maybe.TheVariants.{At, Nothing}
 use Rattle.parts.specs.Holds.{Holds, value}
 use Rattle.parts.specs.Says.{MaybeHolds}
 use Rattle.registry.specs.Templates.{templates_at}
@@ -48,10 +46,11 @@ use Rattle.targets.specs.declared.Target.{Target}
 use Rattle.targets.specs.declared.Target.TheVariants.{Bad, Text, Fallback, Body}
 use Rattle.targets.specs.Target.{fallback, by_peek, block_target, own_target, nothing_at, Leads, Decided}
 use Rattle.drawing.specs.Renders.{body_rule}
+use Rattle.error.specs.declared.RenderErrorReason.TheVariants.{CannotIncludeSelf, PartialBlockNotFound}
 
 -- `@partial-block`: what is drawn for its target
 
-module _ (s b : Bytes) (o : Options) (w : World) (d : ℕ) (own : Maybe) (r : Ready s b w) where
+module _ (s b : Bytes) (o : Options) (w : World) (d : ℕ) (own : RustOption ℕ) (r : Ready s b w) where
   abbrev rule : Registry → Rendering → Draw
   rule g R st = render_partial_block (peek_partial_block st.kept.partial_block_stack) (render_body g R (body_says 16 d (bits b) own)) st
 
@@ -71,16 +70,16 @@ module _ (s b : Bytes) (o : Options) (w : World) (d : ℕ) (own : Maybe) (r : Re
 
   -- no text is there
   module _ (e : text_of w.texts P ≡ none) where
-    without : own ≡ Nothing → Renders s b o w (over (failed w.rc 13) w) rule
+    without : own ≡ None → Renders s b o w (over (failed w.rc (Some PartialBlockNotFound)) w) rule
     unfolding render_partial_block render_body
     without q = record {
       at = λ f le.
           let g : Registry = registry_of s b o (length w.page) in
-          subst (Draws s b w (over (failed w.rc 13) w)) (sym (by g (render_template g f) ∙ ap₂ (λ (x : Option Bytes) (m : Maybe). render_partial_block x (render_body g (render_template g f) (body_says 16 d (bits b) m)) (abs s b w)) e q))
-          (draws_fail s b w (over (failed w.rc 13) w) partial-block-not-found refl r.nowhere r.nameless);
+          subst (Draws s b w (over (failed w.rc (Some PartialBlockNotFound)) w)) (sym (by g (render_template g f) ∙ ap₂ (λ (x : Option Bytes) (m : RustOption ℕ). render_partial_block x (render_body g (render_template g f) (body_says 16 d (bits b) m)) (abs s b w)) e q))
+          (draws_fail s b w (over (failed w.rc (Some PartialBlockNotFound)) w) partial-block-not-found refl r.nowhere r.nameless);
     }
 
-    fallback_drawn : (p : ℕ) → own ≡ At p → (w₂ : World) → Renders s b o (over (with_template w.rc 0) w) w₂ (body_rule b d p 0) → (u : World) → ((x : Res) → Draws s b w w₂ x → Draws s b w u ((λ c. set_indent_string (abs s b w).kept.indent_string (set_current_template_name (abs s b w).seen.current_template c)) after x)) → Renders s b o w u rule
+    fallback_drawn : (p : ℕ) → own ≡ Some p → (w₂ : World) → Renders s b o (over (with_template w.rc 0) w) w₂ (body_rule b d p 0) → (u : World) → ((x : Res) → Draws s b w w₂ x → Draws s b w u ((λ c. set_indent_string (abs s b w).kept.indent_string (set_current_template_name (abs s b w).seen.current_template c)) after x)) → Renders s b o w u rule
     unfolding render_partial_block render_body
     fallback_drawn p q w₂ D u k = record {
       at = λ f le.
@@ -88,10 +87,10 @@ module _ (s b : Bytes) (o : Options) (w : World) (d : ℕ) (own : Maybe) (r : Re
           let x : Draws s b w w₂ (render_elements g (render_template g f) none (template_at 16 d (bits b) p) (set_current_template_name none (abs s b w))) =
           draws_from s b w (over (with_template w.rc 0) w) w₂ _ (goes_template s b w r 0 (λ z. absurd (z refl)))
           (subst (λ (c : rules.RenderContext). Draws s b (over (with_template w.rc 0) w) w₂ (render_elements g (render_template g f) none (template_at 16 d (bits b) p) c)) (abs_template s b w 0) (D.at f le)) in
-          subst (Draws s b w u) (sym (by g (render_template g f) ∙ ap₂ (λ (y : Option Bytes) (m : Maybe). render_partial_block y (render_body g (render_template g f) (body_says 16 d (bits b) m)) (abs s b w)) e q)) (k _ x);
+          subst (Draws s b w u) (sym (by g (render_template g f) ∙ ap₂ (λ (y : Option Bytes) (m : RustOption ℕ). render_partial_block y (render_body g (render_template g f) (body_says 16 d (bits b) m)) (abs s b w)) e q)) (k _ x);
     }
 
-    pub fallback_done : (p : ℕ) → own ≡ At p → (w₂ : World) → Renders s b o (over (with_template w.rc 0) w) w₂ (body_rule b d p 0) → Renders s b o w (over (unless_bad (λ c. with_template c w.rc.template) w₂.rc) w₂) rule
+    pub fallback_done : (p : ℕ) → own ≡ Some p → (w₂ : World) → Renders s b o (over (with_template w.rc 0) w) w₂ (body_rule b d p 0) → Renders s b o w (over (unless_bad (λ c. with_template c w.rc.template) w₂.rc) w₂) rule
     fallback_done p q w₂ D =
         unless_refused (λ u. Renders s b o w u rule) (λ c. with_template c w.rc.template) w₂
         (λ z. fallback_drawn p q w₂ D _ (λ x y. draws_fallback s b w w₂ x r y z))
@@ -99,9 +98,9 @@ module _ (s b : Bytes) (o : Options) (w : World) (d : ℕ) (own : Maybe) (r : Re
 
 -- `expand_partial`
 
-module _ (s b : Bytes) (ent : List ℕ) (c : RenderContext) (d : ℕ) (name : Value) (own : Maybe) (y : Bool) (self : Means s b name (λ j. y ≡ is_current_template (template_name (bits b) c.template) (render j))) where
+module _ (s b : Bytes) (ent : List ℕ) (c : RenderContext) (d : ℕ) (name : Value) (own : RustOption ℕ) (y : Bool) (self : Means s b name (λ j. y ≡ is_current_template (template_name (bits b) c.template) (render j))) where
   -- a call that has the name
-  module _ (page texts indent : Bytes) (o : Options) (p : ℕ) (x : Expanded) (ind : Maybe) (named : x.name ≡ name) (r : Ready s b (world c page texts indent ent)) where
+  module _ (page texts indent : Bytes) (o : Options) (p : ℕ) (x : Expanded) (ind : RustOption ℕ) (named : x.name ≡ name) (r : Ready s b (world c page texts indent ent)) where
     abbrev w : World
     w = world c page texts indent ent
 
@@ -116,13 +115,13 @@ module _ (s b : Bytes) (ent : List ℕ) (c : RenderContext) (d : ℕ) (name : Va
       unfolding abs
       current = ap₂ is_current_template (sym (names_agree b c.template)) name_is ∙ sym (self.at ent (top w) stands)
 
-  pub decided_self : y ≡ true → Decided s b ent c d name own (Bad 17)
+  pub decided_self : y ≡ true → Decided s b ent c d name own (Bad CannotIncludeSelf)
   decided_self q = record {
-    at = λ page texts indent o p x ind named r. (λ z. omega arith, includes_self s b o (w page texts indent o p x ind named r) r d p x own ind (λ e k. current page texts indent o p x ind named r e k ∙ q));
+    at = λ page texts indent o p x ind named r. includes_self s b o (w page texts indent o p x ind named r) r d p x own ind (λ e k. current page texts indent o p x ind named r e k ∙ q);
   }
 
   module _ (other : y ≡ false) (z : Bool) (block : Means s b name (λ j. z ≡ same (render j) (ascii "@partial-block"))) where
-    module _ (page texts indent : Bytes) (o : Options) (p : ℕ) (x : Expanded) (ind : Maybe) (named : x.name ≡ name) (r : Ready s b (world c page texts indent ent)) (e : block-util.Expanded) (k : Worked s b o (world c page texts indent ent) d p x e) where
+    module _ (page texts indent : Bytes) (o : Options) (p : ℕ) (x : Expanded) (ind : RustOption ℕ) (named : x.name ≡ name) (r : Ready s b (world c page texts indent ent)) (e : block-util.Expanded) (k : Worked s b o (world c page texts indent ent) d p x e) where
       not_self : is_current_template (abs s b (world c page texts indent ent)).seen.current_template e.name ≡ false
       not_self = current page texts indent o p x ind named r e k ∙ other
 
@@ -132,16 +131,16 @@ module _ (s b : Bytes) (ent : List ℕ) (c : RenderContext) (d : ℕ) (name : Va
     pub decided_block : z ≡ true → MaybeHolds (body 16 d) (bits b) own → Decided s b ent c d name own (block_target own c)
     decided_block q h = record { at = λ page texts indent o p x ind named r. go page texts indent o p x ind named r (peeked c.scopes c.used c.writer.high) refl }
       where
-        drawn_so : (page texts indent : Bytes) (o : Options) (p : ℕ) (x : Expanded) (ind : Maybe) (named : x.name ≡ name) (r : Ready s b (world c page texts indent ent)) (u : World) → Renders s b o (world c page texts indent ent) u (rule s b o (world c page texts indent ent) d own r) → PartialDrawn s b o (world c page texts indent ent) u d p x own ind
+        drawn_so : (page texts indent : Bytes) (o : Options) (p : ℕ) (x : Expanded) (ind : RustOption ℕ) (named : x.name ≡ name) (r : Ready s b (world c page texts indent ent)) (u : World) → Renders s b o (world c page texts indent ent) u (rule s b o (world c page texts indent ent) d own r) → PartialDrawn s b o (world c page texts indent ent) u d p x own ind
         drawn_so page texts indent o p x ind named r u R =
             is_block s b o (world c page texts indent ent) r d p x own ind (λ e k. not_self page texts indent o p x ind named r e k) (λ e k. is_name page texts indent o p x ind named r e k ∙ q) u (record { at = R.at })
 
-        by_own : (page texts indent : Bytes) (o : Options) (p : ℕ) (x : Expanded) (ind : Maybe) (named : x.name ≡ name) (r : Ready s b (world c page texts indent ent)) → text_of texts (peeked c.scopes c.used c.writer.high) ≡ none
-            → (m : Maybe) → own ≡ m → MaybeHolds (body 16 d) (bits b) m → Leads s b o (world c page texts indent ent) d p x own ind (fallback m)
-        by_own page texts indent o p x ind named r n (At t) e hm = (hm, e, λ w₂ R. drawn_so page texts indent o p x ind named r _ (fallback_done s b o (world c page texts indent ent) d own r n t e w₂ R))
-        by_own page texts indent o p x ind named r n Nothing e hm = (λ v. omega arith, drawn_so page texts indent o p x ind named r _ (without s b o (world c page texts indent ent) d own r n e))
+        by_own : (page texts indent : Bytes) (o : Options) (p : ℕ) (x : Expanded) (ind : RustOption ℕ) (named : x.name ≡ name) (r : Ready s b (world c page texts indent ent)) → text_of texts (peeked c.scopes c.used c.writer.high) ≡ none
+            → (m : RustOption ℕ) → own ≡ m → MaybeHolds (body 16 d) (bits b) m → Leads s b o (world c page texts indent ent) d p x own ind (fallback m)
+        by_own page texts indent o p x ind named r n (Some t) e hm = (hm, e, λ w₂ R. drawn_so page texts indent o p x ind named r _ (fallback_done s b o (world c page texts indent ent) d own r n t e w₂ R))
+        by_own page texts indent o p x ind named r n None e hm = drawn_so page texts indent o p x ind named r _ (without s b o (world c page texts indent ent) d own r n e)
 
-        go : (page texts indent : Bytes) (o : Options) (p : ℕ) (x : Expanded) (ind : Maybe) (named : x.name ≡ name) (r : Ready s b (world c page texts indent ent)) (k : Peek) → peeked c.scopes c.used c.writer.high ≡ k → Leads s b o (world c page texts indent ent) d p x own ind (by_peek own k)
+        go : (page texts indent : Bytes) (o : Options) (p : ℕ) (x : Expanded) (ind : RustOption ℕ) (named : x.name ≡ name) (r : Ready s b (world c page texts indent ent)) (k : Peek) → peeked c.scopes c.used c.writer.high ≡ k → Leads s b o (world c page texts indent ent) d p x own ind (by_peek own k)
         go page texts indent o p x ind named r peek.Absent e = by_own page texts indent o p x ind named r (ap (text_of texts) e) own refl h
         go page texts indent o p x ind named r peek.Nothing e = by_own page texts indent o p x ind named r (ap (text_of texts) e) own refl h
         go page texts indent o p x ind named r (peek.Text f n) e =
@@ -150,7 +149,7 @@ module _ (s b : Bytes) (ent : List ℕ) (c : RenderContext) (d : ℕ) (name : Va
 
     module _ (plain : z ≡ false) (v : Found) (is : FoundIs (bits b) (name_of s b ent name) (get_partial (blocks_of s b ent c.scopes c.used) (name_of s b ent name)) (get_template (templates_at 16 (bits b)) (name_of s b ent name)) v)
         (h : MaybeHolds (body 16 d) (bits b) own) (below : d ≤ 16) where
-      module _ (page texts indent : Bytes) (o : Options) (p : ℕ) (x : Expanded) (ind : Maybe) (named : x.name ≡ name) (r : Ready s b (world c page texts indent ent)) (e : block-util.Expanded) (k : Worked s b o (world c page texts indent ent) d p x e) where
+      module _ (page texts indent : Bytes) (o : Options) (p : ℕ) (x : Expanded) (ind : RustOption ℕ) (named : x.name ≡ name) (r : Ready s b (world c page texts indent ent)) (e : block-util.Expanded) (k : Worked s b o (world c page texts indent ent) d p x e) where
         not_block : same e.name (ascii "@partial-block") ≡ false
         not_block = is_name page texts indent o p x ind named r e k ∙ plain
 
@@ -196,8 +195,8 @@ module _ (s b : Bytes) (ent : List ℕ) (c : RenderContext) (d : ℕ) (name : Va
       pub decided_nothing : v ≡ found.Nothing → Decided s b ent c d name own (own_target own d)
       decided_nothing i = record { at = λ page texts indent o p x ind named r. go page texts indent o p x ind named r own refl h }
         where
-          go : (page texts indent : Bytes) (o : Options) (p : ℕ) (x : Expanded) (ind : Maybe) (named : x.name ≡ name) (r : Ready s b (world c page texts indent ent)) (m : Maybe) → own ≡ m → MaybeHolds (body 16 d) (bits b) m → Leads s b o (world c page texts indent ent) d p x own ind (own_target m d)
-          go page texts indent o p x ind named r (At t) e hm =
+          go : (page texts indent : Bytes) (o : Options) (p : ℕ) (x : Expanded) (ind : RustOption ℕ) (named : x.name ≡ name) (r : Ready s b (world c page texts indent ent)) (m : RustOption ℕ) → own ≡ m → MaybeHolds (body 16 d) (bits b) m → Leads s b o (world c page texts indent ent) d p x own ind (own_target m d)
+          go page texts indent o p x ind named r (Some t) e hm =
               (below, hm, (λ n. absurd (n refl)), tt, λ w₂ I. found_own s b o (world c page texts indent ent) r d p x own ind (λ e k. not_self page texts indent o p x ind named r e k) (λ e k. not_block page texts indent o p x ind named r e k) v (λ e k. found_is page texts indent o p x ind named r e k) i t e w₂ I, λ j m. nothing_at j m)
-          go page texts indent o p x ind named r Nothing e hm =
-              (λ n. omega arith, found_nothing s b o (world c page texts indent ent) r d p x own ind (λ e k. not_self page texts indent o p x ind named r e k) (λ e k. not_block page texts indent o p x ind named r e k) v (λ e k. found_is page texts indent o p x ind named r e k) i e)
+          go page texts indent o p x ind named r None e hm =
+              found_nothing s b o (world c page texts indent ent) r d p x own ind (λ e k. not_self page texts indent o p x ind named r e k) (λ e k. not_block page texts indent o p x ind named r e k) v (λ e k. found_is page texts indent o p x ind named r e k) i e

@@ -14,9 +14,8 @@ ghost use Rattle.inlining.specs.Decorated.{SomeReady};
 ghost use Rattle.drawing.specs.Renders.{Checked};
 ghost use Rattle.targets.specs.Target.{fallback, by_peek, own_target, Decided};
 
-use error::{CANNOT_INCLUDE_SELF, PARTIAL_BLOCK_NOT_FOUND, PARTIAL_NOT_FOUND};
+use error::RenderErrorReason;
 use partials::Found;
-use parts::Maybe;
 use scope::Scope;
 use state::RenderContext;
 use texts::Peek;
@@ -26,27 +25,27 @@ use value::Value;
 #[derive(Clone, Copy)]
 pub enum Target {
     // the paper's number of the refusal
-    Bad(u8),
+    Bad(RenderErrorReason),
     // a finished block text, by its place in the buffer and its length
     Text(usize, usize),
     // the own body at that place, as the fallback of `@partial-block`
     Fallback(usize),
     // the body at that place with its depths, one more than the place of its name (0 where it has none), and the body of its block text
-    Body(usize, usize, usize, Maybe),
+    Body(usize, usize, usize, Option<usize>),
 }
 
 // The own body of a `@partial-block` that has no text.
-fn fallback(own: Maybe) -> Target
+fn fallback(own: Option<usize>) -> Target
     ensures { result ≡ fallback own }
 {
     match own {
-        Maybe::At(p) => Target::Fallback(p),
-        Maybe::Nothing => Target::Bad(PARTIAL_BLOCK_NOT_FOUND),
+        Some(p) => Target::Fallback(p),
+        None => Target::Bad(RenderErrorReason::PartialBlockNotFound),
     }
 }
 
 // `@partial-block`: its text, or the fallback.
-fn block_target(peek: Peek, own: Maybe) -> Target
+fn block_target(peek: Peek, own: Option<usize>) -> Target
     ensures { result ≡ by_peek own peek }
 {
     match peek {
@@ -57,12 +56,12 @@ fn block_target(peek: Peek, own: Maybe) -> Target
 }
 
 // Where nothing is found, the own body, which then is no block text.
-fn own_target(own: Maybe, d: usize) -> Target
+fn own_target(own: Option<usize>, d: usize) -> Target
     ensures { result ≡ own_target own d }
 {
     match own {
-        Maybe::At(p) => Target::Body(p, d, 0, Maybe::Nothing),
-        Maybe::Nothing => Target::Bad(PARTIAL_NOT_FOUND),
+        Some(p) => Target::Body(p, d, 0, None),
+        None => Target::Bad(RenderErrorReason::PartialNotFound),
     }
 }
 
@@ -75,7 +74,7 @@ pub fn expand_partial(
     ent: &[u64],
     scopes: [Scope; 32],
     name: Value,
-    own: Maybe,
+    own: Option<usize>,
     d: usize,
     rc: RenderContext,
 ) -> Target
@@ -86,7 +85,7 @@ pub fn expand_partial(
     ensures { Decided s.now b.now ent.now (whole rc scopes) d name own result }
 {
     if partials::is_current_template(s, tab, b, rc.template, name) {
-        return Target::Bad(CANNOT_INCLUDE_SELF);
+        return Target::Bad(RenderErrorReason::CannotIncludeSelf);
     }
     if print::text_is(s, tab, b, name, b"@partial-block") {
         return block_target(texts::peek_partial_block(scopes, rc), own);

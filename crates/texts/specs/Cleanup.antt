@@ -2,7 +2,7 @@
 use Prim.Native.Nat.{ℕ, zero, suc, ◌+◌, ◌-◌, ◌≤◌, ◌<◌}
 use mathlib.Core.List.{List, ◌++◌}
 use Rattle.std.proofs.Math.Option.{Option, none, some}
-use Rattle.std.specs.Prelude.{◌≡◌, refl, length, get_or, take, drop}
+use Rattle.std.specs.Prelude.{◌≡◌, refl, length, get_or, take, drop, None}
 use Rattle.std.proofs.Common.{sym, ◌∙◌, subst, arith, length-drop, length-take-le, take-take, drop-drop}
 use Rattle.std.proofs.Math.Path.{ap, ap₂}
 use Rattle.rules.specs.Bytes.{Bytes, pick}
@@ -191,7 +191,7 @@ module _ (s b u : Bytes) (w w₅ w₆ : World) (r : Ready s b w) (h : Included s
       }
 
 -- x is drawn inside the partial
-pub draws_cleanup : (s b : Bytes) (w w₅ w₆ : World) (x : Res) → Ready s b w → Included s b w w₅ → Draws s b w₅ w₆ x → w₆.rc.bad ≡ 0
+pub draws_cleanup : (s b : Bytes) (w w₅ w₆ : World) (x : Res) → Ready s b w → Included s b w w₅ → Draws s b w₅ w₆ x → w₆.rc.bad ≡ None
     → Draws s b w (cleaned_up w w₆) (cleanup (abs s b w).seen.current_template (abs s b w).kept.indent_string after x)
 unfolding ◌after◌
 draws_cleanup s b w w₅ w₆ x r h d e =
@@ -207,6 +207,6 @@ draws_cleanup s b w w₅ w₆ x r h d e =
     }
 
 -- and refused; f is what would have come behind it
-pub draws_cleanup_stop : (s b : Bytes) (w w₅ w₆ : World) (x : Res) (f : rules.RenderContext → rules.RenderContext) → Draws s b w₅ w₆ x → (w₆.rc.bad ≡ 0 → ⊥) → Draws s b w w₆ (f after x)
+pub draws_cleanup_stop : (s b : Bytes) (w w₅ w₆ : World) (x : Res) (f : rules.RenderContext → rules.RenderContext) → Draws s b w₅ w₆ x → (w₆.rc.bad ≡ None → ⊥) → Draws s b w w₆ (f after x)
 unfolding ◌after◌
 draws_cleanup_stop s b w w₅ w₆ x f d n = record { fine = λ e. absurd (n e); refused = λ z. ap (λ (q : Res). f after q) (d.refused n) }

@@ -85,7 +85,7 @@ pub fn finish_partial(rc: RenderContext, before: RenderContext) -> RenderContext
     ensures { (l : List Scope) → whole result l ≡ concluded (whole before l) (whole rc l) }
 {
     let mut q = rc;
-    if q.bad == 0 {
+    if q.bad.is_none() {
         q.used = before.used;
         q.total = before.total;
         q.names = before.names;
@@ -112,9 +112,7 @@ pub fn peek_partial_block(scopes: [Scope; 32], rc: RenderContext) -> Peek
     ensures { result ≡ peeked scopes rc.used rc.writer.high }
 {
     let mut from = rc.writer.high;
-    let mut i = rc.used;
-    while 0 < i {
-        i -= 1;
+    for i in (0..rc.used).rev() {
         let c = scopes[i];
         let n = c.text as usize;
         if c.block == NO_TEXT {

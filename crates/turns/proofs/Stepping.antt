@@ -1,4 +1,5 @@
 -- The turns, one by one.
+use Rattle.std.specs.Prelude.{Option as RustOption, Some, None}
 use Prim.Native.Nat.{ℕ, suc, ◌+◌, ◌<◌, ◌≤◌}
 use mathlib.Core.Bool.{Bool, true, false}
 use mathlib.Core.List.{List, []}
@@ -30,8 +31,6 @@ use Rattle.places.proofs.MemberLaws.{member_latest, live_item}
 use Rattle.places.proofs.Paths.{item_path, member_path}
 use Rattle.places.specs.Ascending.{at_fits, next_is_member}
 use Rattle.places.proofs.Texts.{name_says}
-use Rattle.places.specs.declared.Found.{Found}
-use Rattle.places.specs.declared.Found.TheVariants.{At, Nothing}
 use Rattle.places.specs.declared.Kind.{Kind}
 use Rattle.places.specs.declared.Kind.TheVariants as kind
 use Rattle.value.specs.declared.Value.{Value}
@@ -43,8 +42,6 @@ use Rattle.meaning.specs.Standing.{Stands}
 use Rattle.lookup.specs.Answers.{Held}
 use Rattle.members.specs.Turns.{each_turns}
 use Rattle.members.specs.Next.{key_name, KeyHeld, shown, MemberHeld}
-use Rattle.members.specs.declared.Member.{Member}
-use Rattle.members.specs.declared.Member.TheVariants as member
 use Rattle.members.proofs.Counting.{stands_ascends}
 use Rattle.members.proofs.Stepping.{object_first}
 use Rattle.turns.proofs.Places.{place_json, inner_place, inner_json, inner_present, inner_stands, inner_leads}
@@ -101,14 +98,14 @@ module _ (s : Bytes) (tab : List ℕ) (a : Accepted s tab) (i : ℕ) (lt : i < p
         ap (λ (j : Json). is_end (get_elem? (each_turns j) n)) (list_json b ent) ∙ list_ends 0 (items_of (json_at s i)) n
         ∙ ap is_end (list_item s a.answers i lt (items_of (json_at s i)) e n) ∙ end_value s (get_elem? (children s i) n)
 
-    pub list_past : (at : Found) → found at ≡ get_elem? (children s i) k → at ≡ Nothing → PlaceTurn s v k End
+    pub list_past : (at : RustOption ℕ) → found at ≡ get_elem? (children s i) k → at ≡ None → PlaceTurn s v k End
     list_past at f g b ent t st = past_end (each_turns (json_of s b ent v)) k (item_ends b ent k ∙ ap is_end (sym f ∙ ap found g))
 
-    module _ (at : Found) (f : found at ≡ get_elem? (children s i) k) (c : ℕ) (g : at ≡ At c) where
+    module _ (at : RustOption ℕ) (f : found at ≡ get_elem? (children s i) k) (c : ℕ) (g : at ≡ Some c) where
       pub list_child : Child s i k c
       list_child = is_child s i k c a.answers lt (sym f ∙ ap found g)
 
-      pub list_is : (next : Found) → ((j : ℕ) → get_elem? (children s i) j ≡ some c → found next ≡ get_elem? (children s i) (suc j)) → (last : Bool) → last ≡ is_end (found next)
+      pub list_is : (next : RustOption ℕ) → ((j : ℕ) → get_elem? (children s i) j ≡ some c → found next ≡ get_elem? (children s i) (suc j)) → (last : Bool) → last ≡ is_end (found next)
           → (w : Value) → w ≡ inner v c → PlaceTurn s v k (Item w (Index k) false last)
       list_is next h last q w z b ent t st = subst (λ (x : Value). TurnIs s b ent t v k x (Index k) false last) (sym z) (record {
         turn = list_turn k (json_at s c) last;
@@ -149,20 +146,20 @@ module _ (s : Bytes) (tab : List ℕ) (a : Accepted s tab) (i : ℕ) (lt : i < p
     ascends : Ascends (members_of (json_at s i))
     ascends = fits_ascends (members_of (json_at s i)) (subst Fits e (at_fits s a.answers i lt))
 
-    module _ (after : Found) (w : Behind s i k after) (at : Found) (f : found at ≡ next_member s i (found_name s after)) where
+    module _ (after : RustOption ℕ) (w : Behind s i k after) (at : RustOption ℕ) (f : found at ≡ next_member s i (found_name s after)) where
       nth_is : (o : Option ℕ) → found at ≡ o → member_nth (members_of (json_at s i)) k ≡ maybe o none (λ c. some (name_at s c, json_at s c))
       nth_is o g = sym (w.name (members_of (json_at s i)) e) ∙ object_first s [] tab a i lt (found_name s after) e o (sym f ∙ g)
 
-      pub object_past : at ≡ Nothing → PlaceTurn s v k End
+      pub object_past : at ≡ None → PlaceTurn s v k End
       object_past g b ent t st =
           past_end (each_turns (json_of s b ent v)) k
           (ap (λ (j : Json). is_end (get_elem? (each_turns j) k)) (map_json b ent) ∙ map_ends 0 (members_of (json_at s i)) k ∙ ap is_end (nth_is none (ap found g)))
 
-      module _ (c : ℕ) (g : at ≡ At c) where
+      module _ (c : ℕ) (g : at ≡ Some c) where
         pub object_latest : Latest s i (name_at s c) c
         object_latest = member_latest s i (name_at s c) a.answers lt c (next_is_member s i (found_name s after) c (sym f ∙ ap found g))
 
-        pub object_is : (next : Found) → found next ≡ next_member s i (some (name_at s c)) → (last : Bool) → last ≡ is_end (found next)
+        pub object_is : (next : RustOption ℕ) → found next ≡ next_member s i (some (name_at s c)) → (last : Bool) → last ≡ is_end (found next)
             → (x : Value) → x ≡ inner v c → (o : ℕ) → o ≡ name_of (tree_at s c) → o < length s → PlaceTurn s v k (Item x (Name o) true last)
         unfolding name_at
         object_is next h last q x z o y near b ent t st = subst (λ (u : Value). TurnIs s b ent t v k u (Name o) true last) (sym z) (record {
@@ -199,15 +196,15 @@ module _ (s : Bytes) (tab : List ℕ) (a : Accepted s tab) (i : ℕ) (lt : i < p
 
 -- one step in a list
 
-pub following_next : (s : Bytes) (i k c : ℕ) → ItemBefore s i k (At c) → (r : Found) → ((j : ℕ) → get_elem? (children s i) j ≡ some c → found r ≡ get_elem? (children s i) (suc j)) → found r ≡ get_elem? (children s i) k
+pub following_next : (s : Bytes) (i k c : ℕ) → ItemBefore s i k (Some c) → (r : RustOption ℕ) → ((j : ℕ) → get_elem? (children s i) j ≡ some c → found r ≡ get_elem? (children s i) (suc j)) → found r ≡ get_elem? (children s i) k
 following_next s i k c w r f = f w.0 w.2 ∙ ap (get_elem? (children s i)) (sym w.1)
 
-pub following_first : (s : Bytes) (i k : ℕ) → ItemBefore s i k Nothing → (r : Found) → found r ≡ get_elem? (children s i) 0 → found r ≡ get_elem? (children s i) k
+pub following_first : (s : Bytes) (i k : ℕ) → ItemBefore s i k None → (r : RustOption ℕ) → found r ≡ get_elem? (children s i) 0 → found r ≡ get_elem? (children s i) k
 following_first s i k w r f = f ∙ ap (get_elem? (children s i)) (sym w)
 
 -- The first turn
 
-pub first_behind : (s : Bytes) (i : ℕ) → Behind s i 0 Nothing
+pub first_behind : (s : Bytes) (i : ℕ) → Behind s i 0 None
 first_behind s i = record { within = tt; item = λ l e. refl; name = λ m e. first_member m }
 
 -- A merged object
@@ -227,11 +224,11 @@ module _ (s b : Bytes) (ent : List ℕ) (tab : List ℕ) (a : Accepted s tab) (v
       merged_ends : (c : ℕ) → is_end (get_elem? (each_turns (json_of s b ent v)) c) ≡ is_end (member_nth (base_map (json_of s b ent v)) c)
       merged_ends c = ap (λ (j : Json). is_end (get_elem? (each_turns j) c)) merged_json ∙ map_ends 0 (base_map (json_of s b ent v)) c
 
-      pub merged_past : (r : Member) → shown s b (json_of s b ent) r ≡ o → r ≡ member.Nothing → (t : ℕ) → Stands s b ent t v → TurnAt s b ent t v k End
+      pub merged_past : (r : RustOption (Value × Value)) → shown s b (json_of s b ent) r ≡ o → r ≡ None → (t : ℕ) → Stands s b ent t v → TurnAt s b ent t v k End
       merged_past r q z t st = past_end (each_turns (json_of s b ent v)) k (merged_ends k ∙ ap is_end (sym f ∙ sym q ∙ ap (shown s b (json_of s b ent)) z))
 
-      module _ (r : Member) (q : shown s b (json_of s b ent) r ≡ o) (m : MemberHeld s b ent v r) (key item : Value) (z : r ≡ member.Is key item) where
-        merged_held : MemberHeld s b ent v (member.Is key item)
+      module _ (r : RustOption (Value × Value)) (q : shown s b (json_of s b ent) r ≡ o) (m : MemberHeld s b ent v r) (key item : Value) (z : r ≡ Some (key, item)) where
+        merged_held : MemberHeld s b ent v (Some (key, item))
         merged_held = subst (MemberHeld s b ent v) z m
 
         pub merged_key : KeyHeld s b key
@@ -240,7 +237,7 @@ module _ (s b : Bytes) (ent : List ℕ) (tab : List ℕ) (a : Accepted s tab) (v
         merged_nth : member_nth (base_map (json_of s b ent v)) k ≡ some (key_name s b key, json_of s b ent item)
         merged_nth = sym f ∙ sym q ∙ ap (shown s b (json_of s b ent)) z
 
-        pub merged_is : (d : Member) → shown s b (json_of s b ent) d ≡ first_of (above (some (key_name s b key)) (base_map (json_of s b ent v))) → (last : Bool)
+        pub merged_is : (d : RustOption (Value × Value)) → shown s b (json_of s b ent) d ≡ first_of (above (some (key_name s b key)) (base_map (json_of s b ent v))) → (last : Bool)
             → last ≡ is_end (shown s b (json_of s b ent) d) → (t : ℕ) → Stands s b ent t v → TurnAt s b ent t v k (Item item key true last)
         merged_is d y last x t st = record {
           turn = map_turn k (key_name s b key) (json_of s b ent item) last;
@@ -274,9 +271,9 @@ module _ (s b : Bytes) (ent : List ℕ) (tab : List ℕ) (a : Accepted s tab) (t
       let c : Ascends m = subst Ascends (ap base_map e) (stands_ascends s b tab a ent t v st) in
       ap (λ (x : Bytes). first_of (above (some x) m)) f ∙ next_nth m c j u.turn.relative_path u.turn.item w.0 ∙ ap (member_nth m) (sym z)
 
-  pub next_behind : (i : ℕ) → place_of v ≡ some i → (r : Found) → found r ≡ place_of item → Behind s i k r
-  next_behind i p Nothing f = absurd (subst (Placed s i j u.turn.relative_path) (sym f) (u.placed i p))
-  next_behind i p (At c) f =
+  pub next_behind : (i : ℕ) → place_of v ≡ some i → (r : RustOption ℕ) → found r ≡ place_of item → Behind s i k r
+  next_behind i p None f = absurd (subst (Placed s i j u.turn.relative_path) (sym f) (u.placed i p))
+  next_behind i p (Some c) f =
       let w = subst (Placed s i j u.turn.relative_path) (sym f) (u.placed i p) in
       record { within = w.within; item = λ l e. (j, z, w.item l e); name = λ m e. next_of m (place_json s b ent i v p ∙ e) (name_at s c) (w.name m e) }
 

@@ -1,5 +1,5 @@
 -- What a turn says: s is the plan, b the bundle, ent the entries of open partials, t is behind those in use.
-use Rattle.std.specs.Prelude.{ℕ, suc, ◌+◌, ◌*◌, ◌≤◌, ◌<◌, Bool, true, false, List, [], ◌∷◌, ◌++◌, ◌≡◌, eqb, length}
+use Rattle.std.specs.Prelude.{ℕ, suc, ◌+◌, ◌*◌, ◌≤◌, ◌<◌, Bool, true, false, List, [], ◌∷◌, ◌++◌, ◌≡◌, eqb, length, Option as RustOption, Some, None}
 use Rattle.std.proofs.Math.Option.{Option, none, some}
 use Rattle.std.proofs.Math.ListN.{get_elem?}
 use Rattle.rules.specs.Bytes.{Bytes, maybe}
@@ -9,8 +9,6 @@ use Rattle.rules.specs.HelperEach.{Turn}
 use Rattle.merging.specs.Order.{above, first_of}
 use Rattle.places.specs.Places.{places, path_at, json_at, name_at, children}
 use Rattle.places.specs.Kinds.{found_name, FoundIn}
-use Rattle.places.specs.declared.Found.{Found}
-use Rattle.places.specs.declared.Found.TheVariants.{At, Nothing}
 use Rattle.value.specs.declared.Value.{Value}
 use Rattle.value.specs.declared.Value.TheVariants.{Missing, Null, False, True, Empty, Context, Place, Literal, Index, IndexText, Name, Text, SaidChar, PackedChar, Merged}
 use Rattle.meaning.specs.Meaning.{merged_of, context_place, is_missing, json_of}
@@ -99,11 +97,11 @@ pub record TurnBefore (s b : Bytes) (ent : List ℕ) (v : Value) (k : ℕ) (u : 
 
 -- Where the walk over the value at i is: the turn k comes behind that of the place `after`, or is the first
 
-abbrev pub ItemBefore : Bytes → ℕ → ℕ → Found → Type 0
-ItemBefore s i k (At c) = (j : ℕ) × (k ≡ suc j) × (get_elem? (children s i) j ≡ some c)
-ItemBefore s i k Nothing = k ≡ 0
+abbrev pub ItemBefore : Bytes → ℕ → ℕ → RustOption ℕ → Type 0
+ItemBefore s i k (Some c) = (j : ℕ) × (k ≡ suc j) × (get_elem? (children s i) j ≡ some c)
+ItemBefore s i k None = k ≡ 0
 
-pub record Behind (s : Bytes) (i k : ℕ) (after : Found) : Type 0 where
+pub record Behind (s : Bytes) (i k : ℕ) (after : RustOption ℕ) : Type 0 where
   pub within : FoundIn s after
   pub item : (l : Jsons) → json_at s i ≡ jarr l → ItemBefore s i k after
   pub name : (m : Map) → json_at s i ≡ jobj m → first_of (above (found_name s after) m) ≡ member_nth m k

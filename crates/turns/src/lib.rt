@@ -17,8 +17,7 @@ ghost use Rattle.members.specs.Next.{Keyed, after_name};
 ghost use Rattle.turns.specs.Listed.{is_end, member_nth};
 ghost use Rattle.turns.specs.Turning.{place_of, inner, ItemBefore, TurnAt, TurnBefore, Behind, PlaceTurn};
 
-use members::Member;
-use places::{Found, Kind};
+use places::Kind;
 use value::Value;
 
 #[derive(Clone, Copy)]
@@ -29,13 +28,13 @@ pub enum Turn {
 }
 
 // The place of a value of the plan.
-fn place_of(v: Value) -> Found
+fn place_of(v: Value) -> Option<usize>
     ensures { found result ≡ place_of v }
 {
     match v {
-        Value::Context(i) => Found::At(i),
-        Value::Place(i) => Found::At(i),
-        _ => Found::Nothing,
+        Value::Context(i) => Some(i),
+        Value::Place(i) => Some(i),
+        _ => None,
     }
 }
 
@@ -49,32 +48,32 @@ fn inner(v: Value, c: usize) -> Value
     Value::Context(c)
 }
 
-fn is_end(at: Found) -> bool
+fn is_end(at: Option<usize>) -> bool
     ensures { result ≡ is_end (found at) }
 {
     match at {
-        Found::At(_) => false,
-        Found::Nothing => true,
+        Some(_) => false,
+        None => true,
     }
 }
 
 // The value in the list at i behind the one at `after`, or the first one.
-fn following(s: &[u8], tab: &[u64], i: usize, k: usize, after: Found) -> Found
+fn following(s: &[u8], tab: &[u64], i: usize, k: usize, after: Option<usize>) -> Option<usize>
     requires { Accepted s.now tab.now × (i < places s.now) × FoundIn s.now after × ItemBefore s.now i k after }
     ensures { found result ≡ get_elem? (children s.now i) k }
 {
     match after {
-        Found::At(c) => places::next(s, tab, i, c),
-        Found::Nothing => places::first(s, tab, i),
+        Some(c) => places::next(s, tab, i, c),
+        None => places::first(s, tab, i),
     }
 }
 
 // The turn k over the list v at i: its item stands at `at`.
-fn list_turn(s: &[u8], tab: &[u64], v: Value, i: usize, k: usize, at: Found) -> Turn
+fn list_turn(s: &[u8], tab: &[u64], v: Value, i: usize, k: usize, at: Option<usize>) -> Turn
     requires { Accepted s.now tab.now × (i < places s.now) × (place_of v ≡ some i) × (json_at s.now i ≡ jarr (items_of (json_at s.now i))) × (found at ≡ get_elem? (children s.now i) k) }
     ensures { PlaceTurn s.now v k result }
 {
-    let Found::At(c) = at else {
+    let Some(c) = at else {
         return Turn::End;
     };
     let last = is_end(places::next(s, tab, i, c));
@@ -82,15 +81,15 @@ fn list_turn(s: &[u8], tab: &[u64], v: Value, i: usize, k: usize, at: Found) -> 
 }
 
 // The turn k over the object v at i, behind the turn of the place `after`.
-fn object_turn(s: &[u8], tab: &[u64], v: Value, i: usize, k: usize, after: Found) -> Turn
+fn object_turn(s: &[u8], tab: &[u64], v: Value, i: usize, k: usize, after: Option<usize>) -> Turn
     requires { Accepted s.now tab.now × (i < places s.now) × (place_of v ≡ some i) × (json_at s.now i ≡ jobj (members_of (json_at s.now i))) × Behind s.now i k after }
     ensures { PlaceTurn s.now v k result }
 {
     let at = places::next_member(s, tab, i, after);
-    let Found::At(c) = at else {
+    let Some(c) = at else {
         return Turn::End;
     };
-    let last = is_end(places::next_member(s, tab, i, Found::At(c)));
+    let last = is_end(places::next_member(s, tab, i, Some(c)));
     Turn::Item(
         inner(v, c),
         Value::Name(places::name(s, tab, c)),
@@ -100,7 +99,7 @@ fn object_turn(s: &[u8], tab: &[u64], v: Value, i: usize, k: usize, after: Found
 }
 
 // The turn k over the value v at i, behind the turn of the place `after`.
-fn place_turn(s: &[u8], tab: &[u64], v: Value, i: usize, k: usize, after: Found) -> Turn
+fn place_turn(s: &[u8], tab: &[u64], v: Value, i: usize, k: usize, after: Option<usize>) -> Turn
     requires { Accepted s.now tab.now × (i < places s.now) × (place_of v ≡ some i) × Behind s.now i k after }
     ensures { PlaceTurn s.now v k result }
 {
@@ -124,17 +123,17 @@ fn merged_turn(
     ent: &[u64],
     v: Value,
     k: usize,
-    after: Member,
+    after: Option<(Value, Value)>,
 ) -> Turn
     requires { Accepted s.now tab.now × (length b.now ≤ 65536) × Held s.now b.now ent.now v × (merged_of v ≡ none → ⊥) × Keyed s.now b.now after × (first_of (above (after_name s.now b.now after) (base_map (json_of s.now b.now ent.now v))) ≡ member_nth (base_map (json_of s.now b.now ent.now v)) k) }
     ensures { (t : ℕ) → Stands s.now b.now ent.now t v → TurnAt s.now b.now ent.now t v k result }
 {
-    let Member::Is(key, item) = members::next_member(s, tab, b, ent, v, after) else {
+    let Some((key, item)) = members::next_member(s, tab, b, ent, v, after) else {
         return Turn::End;
     };
-    let last = match members::next_member(s, tab, b, ent, v, Member::Is(key, item)) {
-        Member::Is(_, _) => false,
-        Member::Nothing => true,
+    let last = match members::next_member(s, tab, b, ent, v, Some((key, item))) {
+        Some((_, _)) => false,
+        None => true,
     };
     Turn::Item(item, key, true, last)
 }
@@ -144,12 +143,12 @@ pub fn first_turn(s: &[u8], tab: &[u64], b: &[u8], ent: &[u64], v: Value) -> Tur
     ensures { (t : ℕ) → Stands s.now b.now ent.now t v → TurnAt s.now b.now ent.now t v 0 result }
 {
     if let Value::Merged(_, _) = v {
-        return merged_turn(s, tab, b, ent, v, 0, Member::Nothing);
+        return merged_turn(s, tab, b, ent, v, 0, None);
     }
-    let Found::At(i) = place_of(v) else {
+    let Some(i) = place_of(v) else {
         return Turn::End;
     };
-    place_turn(s, tab, v, i, 0, Found::Nothing)
+    place_turn(s, tab, v, i, 0, None)
 }
 
 // The turn k over v; `before` is the one in front of it. (Each turn over an object is a scan of its members; over a list it takes constant time.)
@@ -169,9 +168,9 @@ pub fn next_turn(
         return Turn::End;
     };
     if let Value::Merged(_, _) = v {
-        return merged_turn(s, tab, b, ent, v, k, Member::Is(key, item));
+        return merged_turn(s, tab, b, ent, v, k, Some((key, item)));
     }
-    let Found::At(i) = place_of(v) else {
+    let Some(i) = place_of(v) else {
         return Turn::End;
     };
     place_turn(s, tab, v, i, k, place_of(item))

@@ -1,12 +1,11 @@
 -- Laws of writes: the world goes on by the text that was written, and the rules draw the same.
-use Rattle.std.specs.Prelude.{ℕ, zero, suc, ◌+◌, ◌-◌, ◌≤◌, Bool, not, List, [], ◌∷◌, ◌++◌, ◌≡◌, refl, ltb, length, get_or, take, drop}
+use Rattle.std.specs.Prelude.{ℕ, zero, suc, ◌+◌, ◌-◌, ◌≤◌, Bool, not, List, [], ◌∷◌, ◌++◌, ◌≡◌, refl, ltb, length, get_or, take, drop, Some}
 use Rattle.std.proofs.Math.Bool.{true, false}
 use Rattle.std.proofs.Math.Option.{Option, none, some}
 use Rattle.std.proofs.Common.{sym, ap₂, ◌∙◌, subst, arith, length-append, length-drop, drop-drop}
 use Rattle.std.proofs.Math.Path.{ap}
 use Rattle.std.proofs.Math.Seq.{slice, length-slice, length-sets}
 use Rattle.rules.specs.Bytes.{Bytes, pick}
-use Rattle.rules.specs.Error.{number}
 use Rattle.rules.specs.Json.{Json, jpos}
 use Rattle.rules.specs.State as rules
 use Rattle.rules.specs.State.{Out, entries, Res, ok, fail, choose}
@@ -30,6 +29,8 @@ use Rattle.state.specs.Setters.{failed, with_writer, wrote}
 use Rattle.state.specs.World.{World, world, outputs_of, text_on, stack_of, abs, Ready, Grows, Goes, Draws}
 use Rattle.state.specs.Laws.{draws_fail}
 use Rattle.writing.specs.Writes.{Wrote}
+use Rattle.error.specs.declared.RenderErrorReason.TheVariants.{BlockTextsLimit, PageLimit}
+use Rattle.error.specs.Reasons.{refusal}
 
 -- Growing
 
@@ -144,9 +145,9 @@ goes_written s b v w o r g m = record {
 
 -- Drawing
 
-full_number : (t : Bool) → pick t 24 25 ≡ number (full (pick t Out.block_text Out.page))
-full_number true = refl
-full_number false = refl
+full_refusal : (t : Bool) → Some (pick t BlockTextsLimit PageLimit) ≡ refusal (full (pick t Out.block_text Out.page))
+full_refusal true = refl
+full_refusal false = refl
 
 -- the world that a write leaves, refused or not
 abbrev pub wrote_world : World → Outputs → World
@@ -154,7 +155,7 @@ wrote_world w o = world (wrote w.rc o.writer) o.page o.texts w.indent w.ent
 
 module _ (s b v : Bytes) (w : World) (o : Outputs) (r : Ready s b w) (m : length o.page ≡ length w.page) where
   over_limit : RenderContext
-  over_limit = failed (with_writer w.rc o.writer) (pick o.writer.block_text 24 25)
+  over_limit = failed (with_writer w.rc o.writer) (Some (pick o.writer.block_text BlockTextsLimit PageLimit))
 
   -- what is to be shown, where the writer is full or not
   Shown : Bool → Type 0
@@ -162,7 +163,7 @@ module _ (s b v : Bytes) (w : World) (o : Outputs) (r : Ready s b w) (m : length
 
   shown : (t : Bool) → (t ≡ false → Grown v (outputs_of w) o) → Shown t
   unfolding choose Shown over_limit
-  shown true g = draws_fail s b w (world over_limit o.page o.texts w.indent w.ent) (full (out_of o.writer)) (full_number o.writer.block_text) r.nowhere r.nameless
+  shown true g = draws_fail s b w (world over_limit o.page o.texts w.indent w.ent) (full (out_of o.writer)) (full_refusal o.writer.block_text) r.nowhere r.nameless
   shown false g = record {
     fine = λ z. record { text = v; is = ap (λ (c : rules.RenderContext). ok c v) (sym (abs_written s b v w o (g refl))); goes = goes_written s b v w o r (g refl) m };
     refused = λ z. absurd (z r.fine);

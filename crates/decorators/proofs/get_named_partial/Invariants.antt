@@ -9,7 +9,4 @@ use borrow.Author.Rules.{rules}
 use Rattle.decorators.proofs.get_named_partial.Given as goal
 
 abbrev pub invariant-loop-i : goal.invariant-loop-i
-invariant-loop-i l = (l.i ≤ l.n) × Unnamed l.s l.b l.ent l.e l.i (text_at (bits l.b) l.q)
-
-abbrev pub decreases-loop-i : goal.decreases-loop-i
-decreases-loop-i l = l.n - l.i
+invariant-loop-i l = Unnamed l.s l.b l.ent l.e l.i (text_at (bits l.b) l.q)

@@ -11,7 +11,7 @@ use borrow.Author.Rules.{rules}
 use Rattle.decorators.proofs.get_printed_partial.Goals as goal
 
 pub loop-i-init : goal.loop-i-init
-loop-i-init c = (omega arith, λ t st i lt. absurd (omega arith))
+loop-i-init c = λ t st i lt. absurd (omega arith)
 
 pub overflow_add-e : goal.overflow_add-e
 overflow_add-e c = omega (arith, c.requires.3, c.loop-i-test.true)
@@ -26,10 +26,10 @@ pub overflow_add-result : goal.overflow_add-result
 overflow_add-result c = omega (arith, c.requires.3, c.loop-i-test.true)
 
 pub returns-then-text_same : goal.returns-then-text_same
-returns-then-text_same c = let z = c in λ t st. record { turn = c.loop-i.i; within = c.loop-i-test.true; at = refl; is = one_compared z.args.s.now z.args.b.now z.args.ent.now (z.args.e + c.loop-i.i) z.args.v _ _ (c.text_same.ensures.at z.args.ent.now t st) c.inline_name-name.ensures.0 true c.if-text_same.true; first = c.loop-i.invariant.1 t st }
+returns-then-text_same c = let z = c in λ t st. record { turn = c.loop-i.i; within = c.loop-i-test.true; at = refl; is = one_compared z.args.s.now z.args.b.now z.args.ent.now (z.args.e + c.loop-i.i) z.args.v _ _ (c.text_same.ensures.at z.args.ent.now t st) c.inline_name-name.ensures.0 true c.if-text_same.true; first = c.loop-i.invariant t st }
 
 pub loop-i-preserved : goal.loop-i-preserved
-loop-i-preserved c = let z = c in (omega (arith, c.loop-i-test.true), λ t st. one_more_unnamed z.args.s.now z.args.b.now z.args.ent.now z.args.e c.loop-i.i (name_of z.args.s.now z.args.b.now z.args.ent.now z.args.v) (c.loop-i.invariant.1 t st) (one_compared z.args.s.now z.args.b.now z.args.ent.now (z.args.e + c.loop-i.i) z.args.v _ _ (c.text_same.ensures.at z.args.ent.now t st) c.inline_name-name.ensures.0 false c.if-text_same.false))
+loop-i-preserved c = let z = c in λ t st. one_more_unnamed z.args.s.now z.args.b.now z.args.ent.now z.args.e c.loop-i.i (name_of z.args.s.now z.args.b.now z.args.ent.now z.args.v) (c.loop-i.invariant t st) (one_compared z.args.s.now z.args.b.now z.args.ent.now (z.args.e + c.loop-i.i) z.args.v _ _ (c.text_same.ensures.at z.args.ent.now t st) c.inline_name-name.ensures.0 false c.if-text_same.false)
 
 pub returns : goal.returns
-returns c = let z = c in let e : c.loop-i.i ≡ z.args.n = omega (arith, c.loop-i-test.false, c.loop-i.invariant.0) in λ t st. subst (λ (k : ℕ). Unnamed z.args.s.now z.args.b.now z.args.ent.now z.args.e k (name_of z.args.s.now z.args.b.now z.args.ent.now z.args.v)) e (c.loop-i.invariant.1 t st)
+returns c = let z = c in let e : c.loop-i.i ≡ z.args.n = omega (arith, c.loop-i-test.false) in λ t st. subst (λ (k : ℕ). Unnamed z.args.s.now z.args.b.now z.args.ent.now z.args.e k (name_of z.args.s.now z.args.b.now z.args.ent.now z.args.v)) e (c.loop-i.invariant t st)

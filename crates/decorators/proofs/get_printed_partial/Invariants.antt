@@ -11,7 +11,4 @@ use borrow.Author.Rules.{rules}
 use Rattle.decorators.proofs.get_printed_partial.Given as goal
 
 abbrev pub invariant-loop-i : goal.invariant-loop-i
-invariant-loop-i l = (l.i ≤ l.n) × ((t : ℕ) → Stands l.s l.b l.ent t l.v → Unnamed l.s l.b l.ent l.e l.i (name_of l.s l.b l.ent l.v))
-
-abbrev pub decreases-loop-i : goal.decreases-loop-i
-decreases-loop-i l = l.n - l.i
+invariant-loop-i l = (t : ℕ) → Stands l.s l.b l.ent t l.v → Unnamed l.s l.b l.ent l.e l.i (name_of l.s l.b l.ent l.v)

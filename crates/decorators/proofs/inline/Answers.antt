@@ -28,12 +28,12 @@ pub get_local_partial-found-requires : goal.get_local_partial-found-requires
 get_local_partial-found-requires c = let z = c in
     (z.requires.0, z.requires.1, stands_known z.args.s.now z.args.b.now z.args.ent.now _ _ z.requires.4.first, z.requires.3, z.requires.2.inlines)
 
-pub returns-in-At : goal.returns-in-At
-returns-in-At c = let z = c in
+pub returns-in-Some : goal.returns-in-Some
+returns-in-Some c = let z = c in
     let a = z.args in
     λ g st t e T I. again a.s.now a.b.now a.ent.now a.c a.total a.w _ g st t e T I c.if-w-eq0.false
     (sym (c.if-not-is_string.false) ∙ c.is_string.ensures.at a.ent.now t I.expanded.params.first) _ z.requires.2
-    (subst (LocalIs a.s.now a.b.now a.ent.now a.c.inline a.c.count (name_of a.s.now a.b.now a.ent.now a.w.first)) c.in-At.is
+    (subst (LocalIs a.s.now a.b.now a.ent.now a.c.inline a.c.count (name_of a.s.now a.b.now a.ent.now a.w.first)) c.in-Some.is
     (c.get_local_partial-found.ensures t I.expanded.params.first))
 
 pub returns-then-total-lt4096 : goal.returns-then-total-lt4096

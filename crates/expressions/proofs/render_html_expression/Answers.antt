@@ -1,5 +1,6 @@
+use Rattle.error.specs.Reasons.{some_of, none_of}
 use mathlib.Core.Bool.{true}
-use mathlib.Core.Path.{refl}
+use mathlib.Core.Path.{refl, sym, ◌∙◌}
 use Rattle.rules.specs.Bits.{bits}
 use Rattle.calls.specs.Calls.{call_at}
 use Rattle.state.specs.Context.{whole}
@@ -17,13 +18,13 @@ render_expression-u-requires c = let z = c in
     let r = z.requires.2 in
     (z.requires.0, z.requires.1, html_ready a.s.now a.b.now a.options w r (call_at a.d (bits a.b.now) a.p) a.before (whole c.set_disable_escape-q.result a.scopes) (c.set_disable_escape-q.ensures a.scopes), z.requires.3, current_kept a.rc a.scopes (array_sized a.s.now a.b.now a.rc a.scopes a.page.now a.texts.now a.indent.now a.ent.now r) r.one r.most c.set_disable_escape-q.result (with_escape (whole a.rc a.scopes) true) (c.set_disable_escape-q.ensures a.scopes) refl refl z.requires.4)
 
-pub returns-then-u-ne0 : goal.returns-then-u-ne0
-returns-then-u-ne0 c = let z = c in
+pub returns-then-is_some : goal.returns-then-is_some
+returns-then-is_some c = let z = c in
     let a = z.args in
     let w : World = world (whole a.rc a.scopes) a.page.now a.texts.now a.indent.now a.ent.now in
     let r = z.requires.2 in
     let u = c.render_expression-u in
-    html_refused a.s.now a.b.now a.options w r (call_at a.d (bits a.b.now) a.p) a.before (whole c.set_disable_escape-q.result a.scopes) (c.set_disable_escape-q.ensures a.scopes) (world (whole u.result a.scopes) u.new.page u.new.texts a.indent.now a.ent.now) u.ensures c.if-u-ne0.true
+    html_refused a.s.now a.b.now a.options w r (call_at a.d (bits a.b.now) a.p) a.before (whole c.set_disable_escape-q.result a.scopes) (c.set_disable_escape-q.ensures a.scopes) (world (whole u.result a.scopes) u.new.page u.new.texts a.indent.now a.ent.now) u.ensures (some_of u.result.bad (sym c.is_some.ensures ∙ c.if-is_some.true))
 
 pub returns : goal.returns
 returns c = let z = c in
@@ -31,4 +32,4 @@ returns c = let z = c in
     let w : World = world (whole a.rc a.scopes) a.page.now a.texts.now a.indent.now a.ent.now in
     let r = z.requires.2 in
     let u = c.render_expression-u in
-    html_drawn a.s.now a.b.now a.options w r (call_at a.d (bits a.b.now) a.p) a.before (whole c.set_disable_escape-q.result a.scopes) (c.set_disable_escape-q.ensures a.scopes) (world (whole u.result a.scopes) u.new.page u.new.texts a.indent.now a.ent.now) u.ensures c.if-u-ne0.false (whole c.set_disable_escape.result a.scopes) (c.set_disable_escape.ensures a.scopes)
+    html_drawn a.s.now a.b.now a.options w r (call_at a.d (bits a.b.now) a.p) a.before (whole c.set_disable_escape-q.result a.scopes) (c.set_disable_escape-q.ensures a.scopes) (world (whole u.result a.scopes) u.new.page u.new.texts a.indent.now a.ent.now) u.ensures (none_of u.result.bad (sym c.is_some.ensures ∙ c.if-is_some.false)) (whole c.set_disable_escape.result a.scopes) (c.set_disable_escape.ensures a.scopes)

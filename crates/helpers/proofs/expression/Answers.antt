@@ -34,16 +34,16 @@ pub expand_as_name-name-requires : goal.expand_as_name-name-requires
 expand_as_name-name-requires c = let z = c in (z.requires.0, z.requires.1, z.requires.2, z.requires.3, z.requires.4, (call_stands z.args.d (bits z.args.b.now) z.args.p z.requires.5).name)
 
 pub is_helper-requires : goal.is_helper-requires
-is_helper-requires c = let z = c in let w = some_setting z.args.s.now z.args.b.now z.args.ent.now z.args.scopes z.args.used z.args.options z.requires.2 z.requires.4 in (z.requires.0, z.requires.1, stands_known z.args.s.now z.args.b.now z.args.ent.now w.t _ (subst (Names z.args.s.now z.args.b.now z.args.ent.now w.t _) c.in-Is.is (c.expand_as_name-name.ensures w.g w.st w.t w.setting)).1)
+is_helper-requires c = let z = c in let w = some_setting z.args.s.now z.args.b.now z.args.ent.now z.args.scopes z.args.used z.args.options z.requires.2 z.requires.4 in (z.requires.0, z.requires.1, stands_known z.args.s.now z.args.b.now z.args.ent.now w.t _ (subst (Names z.args.s.now z.args.b.now z.args.ent.now w.t _) c.in-Ok.is (c.expand_as_name-name.ensures w.g w.st w.t w.setting)).1)
 
 pub returns-then-is_helper : goal.returns-then-is_helper
-returns-then-is_helper c = let z = c in λ g st t ibw h. let n = subst (Names z.args.s.now z.args.b.now z.args.ent.now t _) c.in-Is.is (c.expand_as_name-name.ensures g st t h) in named_helper z.args.s.now z.args.b.now z.args.ent.now t g st (call_at z.args.d (bits z.args.b.now) z.args.p) ibw (param_at z.args.d (bits z.args.b.now) z.args.p) (c.name_only.ensures ∙ ap (λ (x : Bool). pick x (some (param_at z.args.d (bits z.args.b.now) z.args.p)) none) (c.if-not-name_only.false)) _ n.0 (sym (c.is_helper.ensures.at z.args.ent.now t n.1) ∙ c.if-is_helper.true)
+returns-then-is_helper c = let z = c in λ g st t ibw h. let n = subst (Names z.args.s.now z.args.b.now z.args.ent.now t _) c.in-Ok.is (c.expand_as_name-name.ensures g st t h) in named_helper z.args.s.now z.args.b.now z.args.ent.now t g st (call_at z.args.d (bits z.args.b.now) z.args.p) ibw (param_at z.args.d (bits z.args.b.now) z.args.p) (c.name_only.ensures ∙ ap (λ (x : Bool). pick x (some (param_at z.args.d (bits z.args.b.now) z.args.p)) none) (c.if-not-name_only.false)) _ n.0 (sym (c.is_helper.ensures.at z.args.ent.now t n.1) ∙ c.if-is_helper.true)
 
 pub expand-requires : goal.expand-requires
 expand-requires c = let z = c in (z.requires.0, z.requires.1, z.requires.2, z.requires.3, z.requires.4, (call_stands z.args.d (bits z.args.b.now) z.args.p z.requires.5).name)
 
-pub returns-in-Bad : goal.returns-in-Bad
-returns-in-Bad c = let z = c in λ g st t ibw h. bad_name z.args.s.now z.args.b.now z.args.ent.now t g st (call_at z.args.d (bits z.args.b.now) z.args.p) ibw (param_at z.args.d (bits z.args.b.now) z.args.p) (c.name_only.ensures ∙ ap (λ (x : Bool). pick x (some (param_at z.args.d (bits z.args.b.now) z.args.p)) none) (c.if-not-name_only.false)) _ (subst (Names z.args.s.now z.args.b.now z.args.ent.now t _) c.in-Bad.is (c.expand_as_name-name.ensures g st t h))
+pub returns-in-Err : goal.returns-in-Err
+returns-in-Err c = let z = c in λ g st t ibw h. bad_name z.args.s.now z.args.b.now z.args.ent.now t g st (call_at z.args.d (bits z.args.b.now) z.args.p) ibw (param_at z.args.d (bits z.args.b.now) z.args.p) (c.name_only.ensures ∙ ap (λ (x : Bool). pick x (some (param_at z.args.d (bits z.args.b.now) z.args.p)) none) (c.if-not-name_only.false)) _ (subst (Names z.args.s.now z.args.b.now z.args.ent.now t _) c.in-Err.is (c.expand_as_name-name.ensures g st t h))
 
 pub returns-else-is_helper : goal.returns-else-is_helper
-returns-else-is_helper c = let z = c in λ g st t ibw h. let n = subst (Names z.args.s.now z.args.b.now z.args.ent.now t _) c.in-Is.is (c.expand_as_name-name.ensures g st t h) in named_value z.args.s.now z.args.b.now z.args.ent.now t g st (call_at z.args.d (bits z.args.b.now) z.args.p) ibw (param_at z.args.d (bits z.args.b.now) z.args.p) (c.name_only.ensures ∙ ap (λ (x : Bool). pick x (some (param_at z.args.d (bits z.args.b.now) z.args.p)) none) (c.if-not-name_only.false)) z.args.options.strict h.alike.strict _ n.0 (sym (c.is_helper.ensures.at z.args.ent.now t n.1) ∙ c.if-is_helper.false) c.expand.result (c.expand.ensures g st t h) c.rendered.result c.rendered.ensures
+returns-else-is_helper c = let z = c in λ g st t ibw h. let n = subst (Names z.args.s.now z.args.b.now z.args.ent.now t _) c.in-Ok.is (c.expand_as_name-name.ensures g st t h) in named_value z.args.s.now z.args.b.now z.args.ent.now t g st (call_at z.args.d (bits z.args.b.now) z.args.p) ibw (param_at z.args.d (bits z.args.b.now) z.args.p) (c.name_only.ensures ∙ ap (λ (x : Bool). pick x (some (param_at z.args.d (bits z.args.b.now) z.args.p)) none) (c.if-not-name_only.false)) z.args.options.strict h.alike.strict _ n.0 (sym (c.is_helper.ensures.at z.args.ent.now t n.1) ∙ c.if-is_helper.false) c.expand.result (c.expand.ensures g st t h) c.rendered.result c.rendered.ensures

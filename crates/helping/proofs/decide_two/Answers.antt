@@ -1,19 +1,20 @@
+use Rattle.std.specs.Prelude.{Ok, Err}
 use Prim.Native.Nat.{◌+◌}
 use native.Mathlib.Omega.{arith}
 use mathlib.Core.Path.{refl, sym, subst}
 use Rattle.value.specs.declared.Value.TheVariants.{Text}
 use Rattle.lookup.specs.Answers.{Held}
 use Rattle.scope.proofs.NamesLaws.{string_near}
-use Rattle.expand.specs.declared.Got.TheVariants.{Is, Bad}
 use Rattle.helping.proofs.Deciding.{with_two, gets_bad, gets_value, worked_two, by_refused, by_text}
 use borrow.Author.Rules.{rules}
 use Rattle.helping.proofs.decide_two.Goals as goal
+use Rattle.error.specs.declared.RenderErrorReason.TheVariants.{InvalidJsonIndex}
 
 pub returns-then-found-eq0 : goal.returns-then-found-eq0
 returns-then-found-eq0 c = let a = c.args in
     λ k d v F h.
-    by_refused a.s.now a.b.now a.ent.now k a.used a.options d a.p a.has_template a.has_inverse (with_two (a.p + 2) (Bad 20) a.l)
-    (worked_two a.s.now a.b.now a.ent.now k a.used a.options d a.p v a.l F (Bad 20) (gets_bad a.s.now a.b.now a.ent.now k a.used a.options v a.found c.if-found-eq0.true h)) (λ e. omega (arith, e))
+    by_refused a.s.now a.b.now a.ent.now k a.used a.options d a.p a.has_template a.has_inverse (with_two (a.p + 2) (Err InvalidJsonIndex) a.l)
+    (worked_two a.s.now a.b.now a.ent.now k a.used a.options d a.p v a.l F (Err InvalidJsonIndex) (gets_bad a.s.now a.b.now a.ent.now k a.used a.options v a.found c.if-found-eq0.true h)) InvalidJsonIndex refl
 
 pub overflow_sub-found : goal.overflow_sub-found
 overflow_sub-found c = omega (arith, c.if-found-eq0.false)
@@ -34,6 +35,6 @@ call_two-requires c = let z = c in
 pub returns : goal.returns
 returns c = let a = c.args in
     λ k d v F h.
-    by_text a.s.now a.b.now a.ent.now k a.used a.options d a.p a.has_template a.has_inverse (with_two (a.p + 2) (Is c.decode-w.result) a.l)
-    (worked_two a.s.now a.b.now a.ent.now k a.used a.options d a.p v a.l F (Is c.decode-w.result) (gets_value a.s.now a.b.now a.ent.now k a.used a.options v a.found c.if-found-eq0.false c.decode-w.result c.decode-w.ensures h))
+    by_text a.s.now a.b.now a.ent.now k a.used a.options d a.p a.has_template a.has_inverse (with_two (a.p + 2) (Ok c.decode-w.result) a.l)
+    (worked_two a.s.now a.b.now a.ent.now k a.used a.options d a.p v a.l F (Ok c.decode-w.result) (gets_value a.s.now a.b.now a.ent.now k a.used a.options v a.found c.if-found-eq0.false c.decode-w.result c.decode-w.ensures h))
     (a.p + 2) refl refl c.helper_at-h.result c.call_two.result c.helper_at-h.ensures (c.call_two.ensures (Text (a.p + 2)))

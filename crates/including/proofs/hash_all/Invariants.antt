@@ -13,8 +13,6 @@ use Rattle.rules.specs.Registry.{Registry}
 use Rattle.rules.specs.Expand as rules
 use Rattle.parts.specs.Holds.{Holds, end}
 use Rattle.calls.specs.Calls.{param_at, pair_content}
-use Rattle.expand.specs.declared.Got.{Got}
-use Rattle.expand.specs.declared.Got.TheVariants.{Bad}
 use Rattle.expand.specs.Answers.{Setting, Expands}
 use Rattle.expand.proofs.Parts.{some_setting, some_used}
 use Rattle.including.specs.Values.{pair_place, content_place, GotFits, Numbered, HashValuesIn}
@@ -24,8 +22,5 @@ use Rattle.including.specs.Hashing.{next_place, WorkedOut, none_worked, one_work
 use Rattle.including.proofs.hash_all.Given as goal
 
 abbrev pub invariant-loop-i : goal.invariant-loop-i
-invariant-loop-i l = (length l.values ≡ length l.initial.values) × (l.at ≡ pair_place l.d (bits l.b) l.p (l.i - 1)) × (l.i ≤ l.n)
+invariant-loop-i l = (length l.values ≡ length l.initial.values) × (l.at ≡ pair_place l.d (bits l.b) l.p (l.i - 1))
     × ((g : Registry) (st : RenderContext) (t : ℕ) → Setting l.s l.b l.ent l.scopes l.used l.options g st t → HashValuesIn l.s l.b l.ent t l.d l.p l.i g st l.initial.values l.values × WorkedOut l.b l.d l.p g st l.i)
-
-abbrev pub decreases-loop-i : goal.decreases-loop-i
-decreases-loop-i l = l.n - l.i

@@ -1,3 +1,4 @@
+use Rattle.std.specs.Prelude.{Ok, Err}
 use mathlib.Core.Path.{refl, sym, ◌∙◌, subst}
 use native.Mathlib.Omega.{arith}
 use Rattle.rules.specs.Bits.{bits}
@@ -10,11 +11,11 @@ use Rattle.calls.specs.declared.Parameter.TheVariants.{Path}
 use Rattle.context.specs.Evaluated.{Evaluates}
 use Rattle.meaning.specs.Standing.{plain}
 use Rattle.value.specs.declared.Value.TheVariants.{Missing}
-use Rattle.expand.specs.declared.Got.TheVariants.{Is, Bad}
 use Rattle.expand.specs.Answers.{Expands}
 use Rattle.expand.proofs.Calling.{refuse_is}
 use borrow.Author.Rules.{rules}
 use Rattle.including.proofs.hash_value.Goals as goal
+use Rattle.error.specs.declared.RenderErrorReason.TheVariants.{InvalidJsonIndex}
 
 pub param_at-x-requires : goal.param_at-x-requires
 param_at-x-requires c = let z = c in
@@ -42,7 +43,7 @@ returns-in-Is c = let m = c in
     let p = param_read a.d (bits a.b.now) a.q z.requires.6 (Path c.in-Path.p) (sym c.in-Path.is ∙ m.param_at-x.ensures) in
     λ g st t h.
     let e = subst (Evaluates a.s.now a.b.now a.ent.now t _) (sym c.answer_of-found.ensures ∙ c.in-Is.is) (c.path_number-r.ensures.1 g st t h.plan h.recursive h.open_scopes h.stand) in
-    subst (λ (x : template.Parameter). Expands a.s.now a.b.now a.ent.now t (rules.expand g st x) (Is c.in-Is.v)) (sym p.is) (e.0, e.1)
+    subst (λ (x : template.Parameter). Expands a.s.now a.b.now a.ent.now t (rules.expand g st x) (Ok c.in-Is.v)) (sym p.is) (e.0, e.1)
 
 pub returns-in-Nothing : goal.returns-in-Nothing
 returns-in-Nothing c = let m = c in
@@ -51,7 +52,7 @@ returns-in-Nothing c = let m = c in
     let p = param_read a.d (bits a.b.now) a.q z.requires.6 (Path c.in-Path.p) (sym c.in-Path.is ∙ m.param_at-x.ensures) in
     λ g st t h.
     let e = subst (Evaluates a.s.now a.b.now a.ent.now t _) (sym c.answer_of-found.ensures ∙ c.in-Nothing.is) (c.path_number-r.ensures.1 g st t h.plan h.recursive h.open_scopes h.stand) in
-    subst (λ (x : template.Parameter). Expands a.s.now a.b.now a.ent.now t (rules.expand g st x) (Is Missing)) (sym p.is) ((e, plain refl tt))
+    subst (λ (x : template.Parameter). Expands a.s.now a.b.now a.ent.now t (rules.expand g st x) (Ok Missing)) (sym p.is) ((e, plain refl tt))
 
 pub returns-in-BadIndex : goal.returns-in-BadIndex
 returns-in-BadIndex c = let m = c in
@@ -60,4 +61,4 @@ returns-in-BadIndex c = let m = c in
     let p = param_read a.d (bits a.b.now) a.q z.requires.6 (Path c.in-Path.p) (sym c.in-Path.is ∙ m.param_at-x.ensures) in
     λ g st t h.
     let e = subst (Evaluates a.s.now a.b.now a.ent.now t _) (sym c.answer_of-found.ensures ∙ c.in-BadIndex.is) (c.path_number-r.ensures.1 g st t h.plan h.recursive h.open_scopes h.stand) in
-    subst (λ (x : template.Parameter). Expands a.s.now a.b.now a.ent.now t (rules.expand g st x) (Bad 20)) (sym p.is) (refuse_is invalid-json-index _ e)
+    subst (λ (x : template.Parameter). Expands a.s.now a.b.now a.ent.now t (rules.expand g st x) (Err InvalidJsonIndex)) (sym p.is) (refuse_is invalid-json-index _ e)

@@ -19,7 +19,7 @@ use Rattle.including.specs.Hashing.{next_place}
 use Rattle.including.proofs.merge.Goals as goal
 
 pub loop-i-init : goal.loop-i-init
-loop-i-init c = (refl, refl, omega arith)
+loop-i-init c = (refl, refl)
 
 pub next_pair-at-requires : goal.next_pair-at-requires
 next_pair-at-requires c = let z = c in
@@ -41,12 +41,6 @@ store-requires c = let z = c in
     let m = c.loop-i in
     omega (arith, z.requires.4, c.loop-i-test.true, ap length m.invariant.0, pairs_length z.args.ent.now (bits z.args.b.now) z.args.t c.encode-k.result z.args.values.now z.args.d z.args.p m.i)
 
-pub overflow_add-i : goal.overflow_add-i
-overflow_add-i c = let z = c in omega (arith, c.loop-i-test.true, z.requires.2)
-
-pub loop-i-smaller : goal.loop-i-smaller
-loop-i-smaller c = omega (arith, c.loop-i-test.true)
-
 pub loop-i-preserved : goal.loop-i-preserved
 loop-i-preserved c = let z = c in
     let m = c.loop-i in
@@ -59,7 +53,6 @@ loop-i-preserved c = let z = c in
           ∙ ap₂ (λ (l : List ℕ) (q : ℕ). stored l (z.args.t + m.i) (get_or z.args.values.now m.i 0) c.encode-k.result q) m.invariant.0 place
           ∙ ap (with_pairs z.args.ent.now (bits z.args.b.now) z.args.t c.encode-k.result z.args.values.now z.args.d z.args.p) one,
       place ∙ ap (pair_place z.args.d (bits z.args.b.now) z.args.p) back,
-      omega (arith, lt),
     )
 
 pub shape_of-ent : goal.shape_of-ent
@@ -70,7 +63,7 @@ shape_of-ent c = let z = c in
 pub returns : goal.returns
 returns c = let z = c in
     let m = c.loop-i in
-    let e : m.i ≡ z.args.n = omega (arith, m.invariant.2, c.loop-i-test.false) in
+    let e : m.i ≡ z.args.n = omega (arith, c.loop-i.auto.i-end, c.loop-i-test.false) in
     m.invariant.0
     ∙ ap (λ (k : ℕ). with_pairs z.args.ent.now (bits z.args.b.now) z.args.t k z.args.values.now z.args.d z.args.p m.i) c.encode-k.ensures
     ∙ ap (with_pairs z.args.ent.now (bits z.args.b.now) z.args.t (encoded z.args.base) z.args.values.now z.args.d z.args.p) e

@@ -19,7 +19,4 @@ use Rattle.including.specs.Hashing.{next_place}
 use Rattle.including.proofs.merge.Given as goal
 
 abbrev pub invariant-loop-i : goal.invariant-loop-i
-invariant-loop-i l = (l.ent ≡ with_pairs l.initial.ent (bits l.b) l.t l.k l.values l.d l.p l.i) × (l.at ≡ pair_place l.d (bits l.b) l.p (l.i - 1)) × (l.i ≤ l.n)
-
-abbrev pub decreases-loop-i : goal.decreases-loop-i
-decreases-loop-i l = l.n - l.i
+invariant-loop-i l = (l.ent ≡ with_pairs l.initial.ent (bits l.b) l.t l.k l.values l.d l.p l.i) × (l.at ≡ pair_place l.d (bits l.b) l.p (l.i - 1))

@@ -1,6 +1,6 @@
+use Rattle.std.specs.Prelude.{Some}
 use Rattle.partials.proofs.Searches.{turn_found, turn_outer, turn_none, turn_ready, turn_is}
 use Rattle.partials.specs.Finding.{EntryIs}
-use Rattle.decorators.specs.declared.Local.TheVariants.{At}
 use Rattle.expand.specs.Answers.{name_of}
 use Rattle.scope.specs.declared.Scope.{Scope}
 use Rattle.scope.specs.Scopes.{blocks_of}
@@ -16,8 +16,4 @@ use borrow.Author.Rules.{rules}
 use Rattle.partials.proofs.get_partial.Given as goal
 
 abbrev pub invariant-loop-i : goal.invariant-loop-i
-invariant-loop-i l = (l.i ≤ l.used)
-    × ((t : ℕ) → Stands l.s l.b l.ent t l.v → get_partial (blocks_of l.s l.b l.ent l.scopes l.i) (name_of l.s l.b l.ent l.v) ≡ get_partial (blocks_of l.s l.b l.ent l.scopes l.used) (name_of l.s l.b l.ent l.v))
-
-abbrev pub decreases-loop-i : goal.decreases-loop-i
-decreases-loop-i l = l.i
+invariant-loop-i l = (t : ℕ) → Stands l.s l.b l.ent t l.v → get_partial (blocks_of l.s l.b l.ent l.scopes l.i) (name_of l.s l.b l.ent l.v) ≡ get_partial (blocks_of l.s l.b l.ent l.scopes l.used) (name_of l.s l.b l.ent l.v)

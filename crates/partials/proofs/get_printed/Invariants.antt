@@ -17,6 +17,3 @@ use Rattle.partials.proofs.get_printed.Given as goal
 
 abbrev pub invariant-loop-i : goal.invariant-loop-i
 invariant-loop-i l = (ent : List ℕ) (t : ℕ) → Stands l.s l.b ent t l.v → Looking 16 (bits l.b) (name_of l.s l.b ent l.v) l.n l.i
-
-abbrev pub decreases-loop-i : goal.decreases-loop-i
-decreases-loop-i l = l.n - l.i

@@ -40,21 +40,21 @@ encode-requires c = let z = c in
     let a = z.args in
     let v = c.led-found in
     let N = led_near a.s.now a.b.now a.ent.now a.front a.names a.options z.requires.2 a.v v.result v.ensures c.if-found-eq0.false in
-    let w = c.in-Is.w in
+    let w = c.in-Some.w in
     let J : Value → Type 0 = λ u. IsFound a.s.now a.b.now a.ent.now u (looked_up (json_of a.s.now a.b.now a.ent.now u) (json_of a.s.now a.b.now a.ent.now c.decode-under.result)) w in
-    let F : J (decoded (v.result - 1)) = subst J c.decode-of.ensures (subst (Finds a.s.now a.b.now a.ent.now c.decode-of.result _) c.in-Is.is c.looked_up.ensures) in
+    let F : J (decoded (v.result - 1)) = subst J c.decode-of.ensures (subst (Finds a.s.now a.b.now a.ent.now c.decode-of.result _) c.in-Some.is c.looked_up.ensures) in
     stands_fits a.s.now a.b.now a.ent.now N.top z.requires.0.answers z.requires.1 N.near w (F.stands N.top N.stands)
 
-pub returns-in-Is : goal.returns-in-Is
-returns-in-Is c = let z = c in
+pub returns-in-Some : goal.returns-in-Some
+returns-in-Some c = let z = c in
     let a = z.args in
     let v = c.led-found in
     let k = c.led-key in
     let N = led_near a.s.now a.b.now a.ent.now a.front a.names a.options z.requires.2 a.v v.result v.ensures c.if-found-eq0.false in
-    let w = c.in-Is.w in
+    let w = c.in-Some.w in
     let J : Value → Value → Type 0 = λ u x. IsFound a.s.now a.b.now a.ent.now u (looked_up (json_of a.s.now a.b.now a.ent.now u) (json_of a.s.now a.b.now a.ent.now x)) w in
     let F : J (decoded (v.result - 1)) (decoded (k.result - 1)) =
-    subst (λ (u : Value). J u (decoded (k.result - 1))) c.decode-of.ensures (subst (J c.decode-of.result) c.decode-under.ensures (subst (Finds a.s.now a.b.now a.ent.now c.decode-of.result _) c.in-Is.is c.looked_up.ensures)) in
+    subst (λ (u : Value). J u (decoded (k.result - 1))) c.decode-of.ensures (subst (J c.decode-of.result) c.decode-under.ensures (subst (Finds a.s.now a.b.now a.ent.now c.decode-of.result _) c.in-Some.is c.looked_up.ensures)) in
     let f : Fits w = stands_fits a.s.now a.b.now a.ent.now N.top z.requires.0.answers z.requires.1 N.near w (F.stands N.top N.stands) in
     record {
       value = v.result;
@@ -70,14 +70,14 @@ returns-in-Is c = let z = c in
       };
     }
 
-pub returns-in-Nothing : goal.returns-in-Nothing
-returns-in-Nothing c = let z = c in
+pub returns-in-None : goal.returns-in-None
+returns-in-None c = let z = c in
     let a = z.args in
     let v = c.led-found in
     let k = c.led-key in
     let J : Value → Value → Type 0 = λ u x. Finds a.s.now a.b.now a.ent.now u (looked_up (json_of a.s.now a.b.now a.ent.now u) (json_of a.s.now a.b.now a.ent.now x)) (numbered_found 1) in
     let F : J (decoded (v.result - 1)) (decoded (k.result - 1)) =
-    subst (λ (u : Value). J u (decoded (k.result - 1))) c.decode-of.ensures (subst (J c.decode-of.result) c.decode-under.ensures (subst (Finds a.s.now a.b.now a.ent.now c.decode-of.result _) c.in-Nothing.is c.looked_up.ensures)) in
+    subst (λ (u : Value). J u (decoded (k.result - 1))) c.decode-of.ensures (subst (J c.decode-of.result) c.decode-under.ensures (subst (Finds a.s.now a.b.now a.ent.now c.decode-of.result _) c.in-None.is c.looked_up.ensures)) in
     record {
       value = v.result;
       led = v.ensures;

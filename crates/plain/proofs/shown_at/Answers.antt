@@ -10,7 +10,7 @@ use Rattle.layout.specs.Text.{text_at}
 use Rattle.parts.specs.Says.{path_at}
 use Rattle.template.specs.Content.{element_fits}
 use Rattle.context.specs.Start.{needs_all}
-use Rattle.helpers.specs.Does.{has, shows_of, shows_helper, shows_bad, shows_nothing, shows_value}
+use Rattle.helpers.specs.Does.{has, shows_of, shows_helper, shows_missing, shows_bad_index, shows_nothing, shows_value}
 use Rattle.plain.specs.Plain.{PathIs, PlainIs, ShowsAt, other, disabled, helper, far}
 use Rattle.plain.specs.Reading.{lookup_read}
 use Rattle.plain.specs.Laws.{both_true, path_shows, path_html, call_html, not_first}
@@ -55,8 +55,14 @@ returns-then-r-eq-FAR c = let a = c.args in
     (not_first (has (get_helper (text_at (bits a.b.now) v))) (needs_all a.b.now a.ent.now a.front a.names (path_at (bits a.b.now) v))
     (sym (eq-eqb _ _ c.if-r-eq-FAR.true) ∙ c.bare_number-r.ensures.2))
 
-pub overflow_cast-result : goal.overflow_cast-result
-overflow_cast-result c = omega (arith, c.if-r-lt-NOTHING.true)
+pub returns-then-r-eq-MISSING : goal.returns-then-r-eq-MISSING
+returns-then-r-eq-MISSING c = let a = c.args in
+    let h = c.in-Path.html in
+    let v = c.in-Path.v in
+    let n = c.in-Path.next in
+    let P : PathIs a.d (bits a.b.now) a.p h v n = subst (PlainIs a.d (bits a.b.now) a.p) c.in-Path.is c.plain_at.ensures in
+    let f = c.bare_number-r in
+    (h, n, subst (ShowsAt a.s.now a.b.now a.ent.now a.front a.names a.disable_escape a.options a.d a.p h n) (ap shows_of c.if-r-eq-MISSING.true ∙ shows_missing) (path_shows a.s.now a.b.now a.ent.now a.front a.names a.disable_escape a.options a.d a.p h v n P c.if-html-disable_escape.false (shows_of f.result) (f.ensures.1 c.if-r-eq-FAR.false)))
 
 pub returns-then-r-lt-NOTHING : goal.returns-then-r-lt-NOTHING
 returns-then-r-lt-NOTHING c = let a = c.args in
@@ -65,7 +71,7 @@ returns-then-r-lt-NOTHING c = let a = c.args in
     let n = c.in-Path.next in
     let P : PathIs a.d (bits a.b.now) a.p h v n = subst (PlainIs a.d (bits a.b.now) a.p) c.in-Path.is c.plain_at.ensures in
     let f = c.bare_number-r in
-    (h, n, subst (ShowsAt a.s.now a.b.now a.ent.now a.front a.names a.disable_escape a.options a.d a.p h n) (shows_bad f.result c.if-r-eq-HELPER.false c.if-r-lt-NOTHING.true) (path_shows a.s.now a.b.now a.ent.now a.front a.names a.disable_escape a.options a.d a.p h v n P c.if-html-disable_escape.false (shows_of f.result) (f.ensures.1 c.if-r-eq-FAR.false)))
+    (h, n, subst (ShowsAt a.s.now a.b.now a.ent.now a.front a.names a.disable_escape a.options a.d a.p h n) (ap shows_of (f.ensures.3 c.if-r-eq-HELPER.false c.if-r-eq-MISSING.false c.if-r-lt-NOTHING.true) ∙ shows_bad_index) (path_shows a.s.now a.b.now a.ent.now a.front a.names a.disable_escape a.options a.d a.p h v n P c.if-html-disable_escape.false (shows_of f.result) (f.ensures.1 c.if-r-eq-FAR.false)))
 
 pub returns-then-r-eq-NOTHING : goal.returns-then-r-eq-NOTHING
 returns-then-r-eq-NOTHING c = let a = c.args in
@@ -79,8 +85,8 @@ returns-then-r-eq-NOTHING c = let a = c.args in
 pub overflow_sub-result : goal.overflow_sub-result
 overflow_sub-result c = omega arith
 
-pub overflow_cast-result-in-Path : goal.overflow_cast-result-in-Path
-overflow_cast-result-in-Path c = omega arith
+pub overflow_cast-result : goal.overflow_cast-result
+overflow_cast-result c = omega arith
 
 pub returns-then-html-disable_escape-2 : goal.returns-then-html-disable_escape-2
 returns-then-html-disable_escape-2 c = let a = c.args in

@@ -1,3 +1,5 @@
+use Rattle.error.specs.Reasons.{not_none, none_of, some_of}
+use Rattle.std.specs.Prelude.{Some, None}
 use Prim.Native.Nat.{ℕ, ◌+◌, ◌*◌, ◌-◌, ◌<◌}
 use borrow.Author.Rules.{rules}
 use Prim.Native.Nat.{ℕ}
@@ -24,7 +26,7 @@ use Rattle.rules.specs.Layout.{field}
 use Rattle.state.specs.World.{World, world, over, top, name_at, Ready, Sizes}
 use Rattle.drawing.specs.Renders.{Renders}
 use mathlib.Core.List.{List}
-use Rattle.render.proofs.+rendering.Goals.{render_elements-then-put-eq0+else-q-ne0, render_elements-else-put-eq0, render_elements-then-put-eq0-2+else-q-ne0-2, render_elements-else-put-eq0-2}
+use Rattle.render.proofs.+rendering.Goals.{render_elements-then-put-eq0+else-is_some, render_elements-else-put-eq0, render_elements-then-put-eq0-2+else-is_some-2, render_elements-else-put-eq0-2}
 use mathlib.Core.Option.{Option}
 use Rattle.rules.specs.Bundle.{body, param, call_of}
 use Rattle.parts.specs.Holds.{Holds, end}
@@ -46,7 +48,7 @@ use Rattle.helpers.specs.declared.Shows.TheVariants as shows
 use Rattle.state.specs.declared.RenderContext as code
 use Rattle.state.specs.Setters.{wrote}
 use Rattle.plain.specs.Plain.{TextIs, OneDrawn, ShowsAt, LookupAt, ShownIs}
-use Rattle.plain.specs.Laws.{text_here, value_known, value_here, nothing_here, refused_here, refusal_number, wrote_all}
+use Rattle.plain.specs.Laws.{text_here, value_known, value_here, nothing_here, refused_here, wrote_all}
 use Rattle.plain.specs.Put.{fed_same, value_same, value_by}
 use Rattle.rules.specs.BundleLaws.{bits_size, bits_binary}
 use Rattle.rules.specs.LayoutLaws.{field_lt}
@@ -65,11 +67,9 @@ use Rattle.helping.specs.Begun.{HelperBegun, opened}
 use Rattle.helping.specs.Decided.{helper_rule}
 use Rattle.render.specs.Laws.{left_drawn, finished_drawn, top_front}
 use mathlib.Core.Path.{refl, sym, subst}
-use Rattle.parts.specs.declared.Maybe.TheVariants.{Nothing}
 use Rattle.drawing.specs.Arrays.{array_sized, concluded_any}
 use Rattle.beginning.specs.Opened.{PartialBegun, partial_rule}
 use Rattle.render.specs.Laws.{no_own, left_drawn}
-use Rattle.parts.specs.declared.Maybe.TheVariants.{At}
 use Rattle.state.specs.Setters.{with_template, settled}
 use Rattle.render.specs.Laws.{left_drawn, finished_drawn}
 use mathlib.Core.Path.{refl, sym, ap, ◌∙◌, subst}
@@ -436,20 +436,20 @@ render_elements-stopped-requires t c = let a = c.args in
     let k = placed_fits 16 (call_of (param (a.d - 1))) (body 16 (a.d - 1)) (bits a.b.now) l.cur g in
     omega (arith, k, h.0.small, bits_size a.b.now)
 
-pub render_elements-shape_of-ent-then-q-ne0 : goal.render_elements-shape_of-ent-then-q-ne0
-render_elements-shape_of-ent-then-q-ne0 t c = omega (arith, c.loop-i.invariant.0.goes.sizes.ent)
+pub render_elements-shape_of-ent-then-is_some : goal.render_elements-shape_of-ent-then-is_some
+render_elements-shape_of-ent-then-is_some t c = omega (arith, c.loop-i.invariant.0.goes.sizes.ent)
 
-pub render_elements-shape_of-page-then-q-ne0 : goal.render_elements-shape_of-page-then-q-ne0
-render_elements-shape_of-page-then-q-ne0 t c = omega (arith, c.write_packed-w.auto.page, c.put_text-put.auto.page, c.loop-i.invariant.0.goes.sizes.page)
+pub render_elements-shape_of-page-then-is_some : goal.render_elements-shape_of-page-then-is_some
+render_elements-shape_of-page-then-is_some t c = omega (arith, c.write_packed-w.auto.page, c.put_text-put.auto.page, c.loop-i.invariant.0.goes.sizes.page)
 
-pub render_elements-shape_of-texts-then-q-ne0 : goal.render_elements-shape_of-texts-then-q-ne0
-render_elements-shape_of-texts-then-q-ne0 t c = omega (arith, c.write_packed-w.auto.texts, c.put_text-put.auto.texts, c.loop-i.invariant.0.goes.sizes.texts)
+pub render_elements-shape_of-texts-then-is_some : goal.render_elements-shape_of-texts-then-is_some
+render_elements-shape_of-texts-then-is_some t c = omega (arith, c.write_packed-w.auto.texts, c.put_text-put.auto.texts, c.loop-i.invariant.0.goes.sizes.texts)
 
-pub render_elements-shape_of-indent-then-q-ne0 : goal.render_elements-shape_of-indent-then-q-ne0
-render_elements-shape_of-indent-then-q-ne0 t c = omega (arith, c.loop-i.invariant.0.goes.sizes.indent)
+pub render_elements-shape_of-indent-then-is_some : goal.render_elements-shape_of-indent-then-is_some
+render_elements-shape_of-indent-then-is_some t c = omega (arith, c.loop-i.invariant.0.goes.sizes.indent)
 
-pub render_elements-returns-then-q-ne0 : goal.render_elements-returns-then-q-ne0
-render_elements-returns-then-q-ne0 t c = let a = c.args in
+pub render_elements-returns-then-is_some : goal.render_elements-returns-then-is_some
+render_elements-returns-then-is_some t c = let a = c.args in
     let h = c.requires in
     let ps = c.put_scope-open in
     let w : World = world (whole a.rc ps.result) a.page.now a.texts.now a.indent.now a.ent.now in
@@ -472,10 +472,10 @@ render_elements-returns-then-q-ne0 t c = let a = c.args in
     (text_here a.s.now a.b.now a.options (a.d - 1) l.cur k₀ l.page l.texts l.indent l.ent D.goes.ready j X y.result y.new.page y.new.texts (y.ensures ∙ fed_same l.indent (bytes_at (bits a.b.now) (l.cur + 16 + 16 + 20) j) l.q.writer l.page l.texts p.new.page p.new.texts (p.ensures.put.none c.if-put-eq0.true))) in
     let X : Renders a.s.now a.b.now a.options w (world (whole c.stopped.result l.«open») y.new.page y.new.texts l.indent l.ent) (λ g R. rule.render_elements g R (name_at a.b.now a.name) T) =
     subst (λ (x : RenderContext). Renders a.s.now a.b.now a.options w (over x m) (λ g R. rule.render_elements g R (name_at a.b.now a.name) T)) (sym (c.stopped.ensures l.«open»))
-    (drawing_stop a.s.now a.b.now a.options (name_at a.b.now a.name) w T (a.d - 1) n z lw l.i l.cur D c.loop-i-test.true (element_view 16 (a.d - 1) (bits a.b.now) l.cur) refl m O.renders a.name refl c.if-q-ne0.true) in
+    (drawing_stop a.s.now a.b.now a.options (name_at a.b.now a.name) w T (a.d - 1) n z lw l.i l.cur D c.loop-i-test.true (element_view 16 (a.d - 1) (bits a.b.now) l.cur) refl m O.renders a.name refl (some_of _ (sym c.is_some.ensures ∙ c.if-is_some.true))) in
     left_of a.s.now a.b.now a.options a.rc ps.result (set a.scopes (a.rc.used - 1) a.top) a.page.now a.texts.now a.indent.now a.ent.now (λ g R. rule.render_elements g R (name_at a.b.now a.name) T) ps.ensures
     (refused_any a.s.now a.b.now a.options w c.stopped.result (set a.scopes (a.rc.used - 1) a.top) l.«open» y.new.page y.new.texts l.indent l.ent (λ g R. rule.render_elements g R (name_at a.b.now a.name) T)
-    (λ e. c.if-q-ne0.true (sym (ap (λ (x : RenderContext). x.bad) (c.stopped.ensures l.«open»)) ∙ e)) X)
+    (λ e. (some_of _ (sym c.is_some.ensures ∙ c.if-is_some.true)) (sym (ap (λ (x : RenderContext). x.bad) (c.stopped.ensures l.«open»)) ∙ e)) X)
 
 pub render_elements-overflow_sub-put : goal.render_elements-overflow_sub-put
 render_elements-overflow_sub-put t c = omega (arith, c.if-put-eq0.false)
@@ -570,17 +570,17 @@ render_elements-loop-i-preserved-in-Text t c = let a = c.args in
     let m : World = world (whole J.q l.«open») J.page J.texts l.indent l.ent in
     let O : OneDrawn a.s.now a.b.now a.options (a.d - 1) l.cur lw m (l.cur + 16 + 16 + 20 + 8 * j) =
     elim J.branch [
-      | render_elements-then-put-eq0+else-q-ne0 t ↦ one_in a.s.now a.b.now a.options (a.d - 1) l.cur lw (whole J.q l.«open») (wrote k₀ t.write_packed-w.result) t.write_packed-w.new.page J.page t.write_packed-w.new.texts J.texts l.indent l.ent (l.cur + 16 + 16 + 20 + 8 * j) (ap (λ (x : code.RenderContext). whole x l.«open») t.q-is ∙ t.wrote-q.ensures l.«open») t.page-is t.texts-is
+      | render_elements-then-put-eq0+else-is_some t ↦ one_in a.s.now a.b.now a.options (a.d - 1) l.cur lw (whole J.q l.«open») (wrote k₀ t.write_packed-w.result) t.write_packed-w.new.page J.page t.write_packed-w.new.texts J.texts l.indent l.ent (l.cur + 16 + 16 + 20 + 8 * j) (ap (λ (x : code.RenderContext). whole x l.«open») t.q-is ∙ t.wrote-q.ensures l.«open») t.page-is t.texts-is
           (text_here a.s.now a.b.now a.options (a.d - 1) l.cur k₀ l.page l.texts l.indent l.ent D.goes.ready j X t.write_packed-w.result t.write_packed-w.new.page t.write_packed-w.new.texts (t.write_packed-w.ensures ∙ fed_same l.indent (bytes_at (bits a.b.now) (l.cur + 16 + 16 + 20) j) l.q.writer l.page l.texts p.new.page p.new.texts (p.ensures.put.none t.if-put-eq0.true)))
       | render_elements-else-put-eq0 t ↦ one_in a.s.now a.b.now a.options (a.d - 1) l.cur lw (whole J.q l.«open») (wrote k₀ t.behind-w.result) p.new.page J.page p.new.texts J.texts l.indent l.ent (l.cur + 16 + 16 + 20 + 8 * j) (ap (λ (x : code.RenderContext). whole x l.«open») t.q-is ∙ t.set_writer-q.ensures l.«open» ∙ sym (wrote_all k₀ t.behind-w.result (ap (λ (x : Writer). x.full) t.behind-w.ensures ∙ D.goes.ready.sound.goes))) t.page-is t.texts-is
           (text_here a.s.now a.b.now a.options (a.d - 1) l.cur k₀ l.page l.texts l.indent l.ent D.goes.ready j X t.behind-w.result p.new.page p.new.texts (ap (λ (u : Writer). outputs u p.new.page p.new.texts) t.behind-w.ensures ∙ (p.ensures.put.some t.if-put-eq0.false).is l.indent))
     ] in
     let C : J.q.count ≡ l.q.count = elim J.branch [
-      | render_elements-then-put-eq0+else-q-ne0 t ↦ ap (λ (x : code.RenderContext). x.count) t.q-is ∙ count_kept l.q l.«open» full D.goes.ready.one D.goes.ready.most t.wrote-q.result (wrote k₀ t.write_packed-w.result) (t.wrote-q.ensures l.«open») (wrote_kept k₀ t.write_packed-w.result).0 (wrote_kept k₀ t.write_packed-w.result).1
+      | render_elements-then-put-eq0+else-is_some t ↦ ap (λ (x : code.RenderContext). x.count) t.q-is ∙ count_kept l.q l.«open» full D.goes.ready.one D.goes.ready.most t.wrote-q.result (wrote k₀ t.write_packed-w.result) (t.wrote-q.ensures l.«open») (wrote_kept k₀ t.write_packed-w.result).0 (wrote_kept k₀ t.write_packed-w.result).1
       | render_elements-else-put-eq0 t ↦ ap (λ (x : code.RenderContext). x.count) t.q-is ∙ count_kept l.q l.«open» full D.goes.ready.one D.goes.ready.most t.set_writer-q.result (setters.with_writer k₀ t.behind-w.result) (t.set_writer-q.ensures l.«open») refl refl
     ] in
-    let fine : J.q.bad ≡ 0 = elim J.branch [
-      | render_elements-then-put-eq0+else-q-ne0 t ↦ ap (λ (x : code.RenderContext). x.bad) t.q-is ∙ t.if-q-ne0.false
+    let fine : J.q.bad ≡ None = elim J.branch [
+      | render_elements-then-put-eq0+else-is_some t ↦ ap (λ (x : code.RenderContext). x.bad) t.q-is ∙ (none_of _ (sym t.is_some.ensures ∙ t.if-is_some.false))
       | render_elements-else-put-eq0 t ↦ ap (λ (x : code.RenderContext). x.bad) t.q-is ∙ ap (λ (x : RenderContext). x.bad) (t.set_writer-q.ensures l.«open») ∙ D.goes.ready.fine
     ] in (
       subst (λ (p : ℕ). Drawing a.s.now a.b.now a.options (name_at a.b.now a.name) T (a.d - 1) n z w m (l.i + 1) p) (sym O.next)
@@ -636,8 +636,8 @@ render_elements-write_value-w-requires t c = let a = c.args in
     let A : ShowsAt a.s.now a.b.now l.ent l.front l.q.names l.q.disable_escape a.options (a.d - 1) (l.cur + 16 + 16) html next (shows.Value (decoded v)) = (subst (ShownIs a.s.now a.b.now l.ent l.front l.q.names l.q.disable_escape a.options (a.d - 1) (l.cur + 16 + 16)) c.in-Value.is c.shown_at.ensures) in
     let e = c.decode-u in (h.0.plan, h.0.small, value_known a.s.now a.b.now a.options (a.d - 1) l.cur k₀ l.page l.texts l.indent l.ent D.goes.ready l.front l.q.names l.«open» S N html next (shows.Value (decoded v)) A e.result (ap shows.Value (sym e.ensures)))
 
-pub render_elements-stopped-requires-then-q-ne0-2 : goal.render_elements-stopped-requires-then-q-ne0-2
-render_elements-stopped-requires-then-q-ne0-2 t c = let a = c.args in
+pub render_elements-stopped-requires-then-is_some-2 : goal.render_elements-stopped-requires-then-is_some-2
+render_elements-stopped-requires-then-is_some-2 t c = let a = c.args in
     let h = c.requires in
     let ps = c.put_scope-open in
     let w : World = world (whole a.rc ps.result) a.page.now a.texts.now a.indent.now a.ent.now in
@@ -653,20 +653,20 @@ render_elements-stopped-requires-then-q-ne0-2 t c = let a = c.args in
     let k = placed_fits 16 (call_of (param (a.d - 1))) (body 16 (a.d - 1)) (bits a.b.now) l.cur g in
     omega (arith, k, h.0.small, bits_size a.b.now)
 
-pub render_elements-shape_of-ent-then-q-ne0-2 : goal.render_elements-shape_of-ent-then-q-ne0-2
-render_elements-shape_of-ent-then-q-ne0-2 t c = omega (arith, c.loop-i.invariant.0.goes.sizes.ent)
+pub render_elements-shape_of-ent-then-is_some-2 : goal.render_elements-shape_of-ent-then-is_some-2
+render_elements-shape_of-ent-then-is_some-2 t c = omega (arith, c.loop-i.invariant.0.goes.sizes.ent)
 
-pub render_elements-shape_of-page-then-q-ne0-2 : goal.render_elements-shape_of-page-then-q-ne0-2
-render_elements-shape_of-page-then-q-ne0-2 t c = omega (arith, c.write_value-w.auto.page, c.put_number-put.auto.page, c.loop-i.invariant.0.goes.sizes.page)
+pub render_elements-shape_of-page-then-is_some-2 : goal.render_elements-shape_of-page-then-is_some-2
+render_elements-shape_of-page-then-is_some-2 t c = omega (arith, c.write_value-w.auto.page, c.put_number-put.auto.page, c.loop-i.invariant.0.goes.sizes.page)
 
-pub render_elements-shape_of-texts-then-q-ne0-2 : goal.render_elements-shape_of-texts-then-q-ne0-2
-render_elements-shape_of-texts-then-q-ne0-2 t c = omega (arith, c.write_value-w.auto.texts, c.put_number-put.auto.texts, c.loop-i.invariant.0.goes.sizes.texts)
+pub render_elements-shape_of-texts-then-is_some-2 : goal.render_elements-shape_of-texts-then-is_some-2
+render_elements-shape_of-texts-then-is_some-2 t c = omega (arith, c.write_value-w.auto.texts, c.put_number-put.auto.texts, c.loop-i.invariant.0.goes.sizes.texts)
 
-pub render_elements-shape_of-indent-then-q-ne0-2 : goal.render_elements-shape_of-indent-then-q-ne0-2
-render_elements-shape_of-indent-then-q-ne0-2 t c = omega (arith, c.loop-i.invariant.0.goes.sizes.indent)
+pub render_elements-shape_of-indent-then-is_some-2 : goal.render_elements-shape_of-indent-then-is_some-2
+render_elements-shape_of-indent-then-is_some-2 t c = omega (arith, c.loop-i.invariant.0.goes.sizes.indent)
 
-pub render_elements-returns-then-q-ne0-2 : goal.render_elements-returns-then-q-ne0-2
-render_elements-returns-then-q-ne0-2 t c = let a = c.args in
+pub render_elements-returns-then-is_some-2 : goal.render_elements-returns-then-is_some-2
+render_elements-returns-then-is_some-2 t c = let a = c.args in
     let h = c.requires in
     let ps = c.put_scope-open in
     let w : World = world (whole a.rc ps.result) a.page.now a.texts.now a.indent.now a.ent.now in
@@ -694,12 +694,12 @@ render_elements-returns-then-q-ne0-2 t c = let a = c.args in
     let O : OneDrawn a.s.now a.b.now a.options (a.d - 1) l.cur lw m next =
     one_in a.s.now a.b.now a.options (a.d - 1) l.cur lw (whole u.result l.«open») (wrote k₀ y.result) y.new.page y.new.page y.new.texts y.new.texts l.indent l.ent next (u.ensures l.«open») refl refl
     (value_here a.s.now a.b.now a.options (a.d - 1) l.cur k₀ l.page l.texts l.indent l.ent D.goes.ready l.front l.q.names l.«open» S N html next (shows.Value (decoded v)) A c.decode-u.result (ap shows.Value (sym c.decode-u.ensures)) y.result y.new.page y.new.texts (value_same a.s.now a.b.now c.decode-u.result l.indent (not (html || l.q.disable_escape)) l.q.writer y.result l.page l.texts p.new.page p.new.texts y.new.page y.new.texts (p.ensures.none c.if-put-eq0-2.true) y.ensures)) in
-    let X : Renders a.s.now a.b.now a.options w (world (whole c.stopped-then-q-ne0-2.result l.«open») y.new.page y.new.texts l.indent l.ent) (λ g R. rule.render_elements g R (name_at a.b.now a.name) T) =
-    subst (λ (x : RenderContext). Renders a.s.now a.b.now a.options w (over x m) (λ g R. rule.render_elements g R (name_at a.b.now a.name) T)) (sym (c.stopped-then-q-ne0-2.ensures l.«open»))
-    (drawing_stop a.s.now a.b.now a.options (name_at a.b.now a.name) w T (a.d - 1) n z lw l.i l.cur D c.loop-i-test.true (element_view 16 (a.d - 1) (bits a.b.now) l.cur) refl m O.renders a.name refl c.if-q-ne0-2.true) in
+    let X : Renders a.s.now a.b.now a.options w (world (whole c.stopped-then-is_some-2.result l.«open») y.new.page y.new.texts l.indent l.ent) (λ g R. rule.render_elements g R (name_at a.b.now a.name) T) =
+    subst (λ (x : RenderContext). Renders a.s.now a.b.now a.options w (over x m) (λ g R. rule.render_elements g R (name_at a.b.now a.name) T)) (sym (c.stopped-then-is_some-2.ensures l.«open»))
+    (drawing_stop a.s.now a.b.now a.options (name_at a.b.now a.name) w T (a.d - 1) n z lw l.i l.cur D c.loop-i-test.true (element_view 16 (a.d - 1) (bits a.b.now) l.cur) refl m O.renders a.name refl (some_of _ (sym c.is_some-then-put-eq0-2.ensures ∙ c.if-is_some-2.true))) in
     left_of a.s.now a.b.now a.options a.rc ps.result (set a.scopes (a.rc.used - 1) a.top) a.page.now a.texts.now a.indent.now a.ent.now (λ g R. rule.render_elements g R (name_at a.b.now a.name) T) ps.ensures
-    (refused_any a.s.now a.b.now a.options w c.stopped-then-q-ne0-2.result (set a.scopes (a.rc.used - 1) a.top) l.«open» y.new.page y.new.texts l.indent l.ent (λ g R. rule.render_elements g R (name_at a.b.now a.name) T)
-    (λ e. c.if-q-ne0-2.true (sym (ap (λ (x : RenderContext). x.bad) (c.stopped-then-q-ne0-2.ensures l.«open»)) ∙ e)) X)
+    (refused_any a.s.now a.b.now a.options w c.stopped-then-is_some-2.result (set a.scopes (a.rc.used - 1) a.top) l.«open» y.new.page y.new.texts l.indent l.ent (λ g R. rule.render_elements g R (name_at a.b.now a.name) T)
+    (λ e. (some_of _ (sym c.is_some-then-put-eq0-2.ensures ∙ c.if-is_some-2.true)) (sym (ap (λ (x : RenderContext). x.bad) (c.stopped-then-is_some-2.ensures l.«open»)) ∙ e)) X)
 
 pub render_elements-behind-w-requires-else-put-eq0-2 : goal.render_elements-behind-w-requires-else-put-eq0-2
 render_elements-behind-w-requires-else-put-eq0-2 t c = (c.put_number-put.ensures.some c.if-put-eq0-2.false).fits
@@ -738,17 +738,17 @@ render_elements-loop-i-preserved-in-Value t c = let a = c.args in
     let m : World = world (whole J.q l.«open») J.page J.texts l.indent l.ent in
     let O : OneDrawn a.s.now a.b.now a.options (a.d - 1) l.cur lw m next =
     elim J.branch [
-      | render_elements-then-put-eq0-2+else-q-ne0-2 t ↦ one_in a.s.now a.b.now a.options (a.d - 1) l.cur lw (whole J.q l.«open») (wrote k₀ t.write_value-w.result) t.write_value-w.new.page J.page t.write_value-w.new.texts J.texts l.indent l.ent next (ap (λ (x : code.RenderContext). whole x l.«open») t.q-is ∙ t.wrote-q-then-put-eq0-2.ensures l.«open») t.page-is t.texts-is
+      | render_elements-then-put-eq0-2+else-is_some-2 t ↦ one_in a.s.now a.b.now a.options (a.d - 1) l.cur lw (whole J.q l.«open») (wrote k₀ t.write_value-w.result) t.write_value-w.new.page J.page t.write_value-w.new.texts J.texts l.indent l.ent next (ap (λ (x : code.RenderContext). whole x l.«open») t.q-is ∙ t.wrote-q-then-put-eq0-2.ensures l.«open») t.page-is t.texts-is
           (value_here a.s.now a.b.now a.options (a.d - 1) l.cur k₀ l.page l.texts l.indent l.ent D.goes.ready l.front l.q.names l.«open» S N html next (shows.Value (decoded v)) A t.decode-u.result (ap shows.Value (sym t.decode-u.ensures)) t.write_value-w.result t.write_value-w.new.page t.write_value-w.new.texts (value_same a.s.now a.b.now t.decode-u.result l.indent (not (html || l.q.disable_escape)) l.q.writer t.write_value-w.result l.page l.texts p.new.page p.new.texts t.write_value-w.new.page t.write_value-w.new.texts (p.ensures.none t.if-put-eq0-2.true) t.write_value-w.ensures))
       | render_elements-else-put-eq0-2 t ↦ one_in a.s.now a.b.now a.options (a.d - 1) l.cur lw (whole J.q l.«open») (wrote k₀ t.behind-w-else-put-eq0-2.result) p.new.page J.page p.new.texts J.texts l.indent l.ent next (ap (λ (x : code.RenderContext). whole x l.«open») t.q-is ∙ t.set_writer-q-else-put-eq0-2.ensures l.«open» ∙ sym (wrote_all k₀ t.behind-w-else-put-eq0-2.result (ap (λ (x : Writer). x.full) t.behind-w-else-put-eq0-2.ensures ∙ D.goes.ready.sound.goes))) t.page-is t.texts-is
           (value_here a.s.now a.b.now a.options (a.d - 1) l.cur k₀ l.page l.texts l.indent l.ent D.goes.ready l.front l.q.names l.«open» S N html next (shows.Value (decoded v)) A (decoded v) refl t.behind-w-else-put-eq0-2.result p.new.page p.new.texts (value_by a.s.now a.b.now (decoded v) l.indent (not (html || l.q.disable_escape)) l.q.writer t.behind-w-else-put-eq0-2.result l.page l.texts p.new.page p.new.texts (p.result / 256) (p.result % 256) t.behind-w-else-put-eq0-2.ensures (p.ensures.some t.if-put-eq0-2.false) (value_known a.s.now a.b.now a.options (a.d - 1) l.cur k₀ l.page l.texts l.indent l.ent D.goes.ready l.front l.q.names l.«open» S N html next (shows.Value (decoded v)) A (decoded v) refl)))
     ] in
     let C : J.q.count ≡ l.q.count = elim J.branch [
-      | render_elements-then-put-eq0-2+else-q-ne0-2 t ↦ ap (λ (x : code.RenderContext). x.count) t.q-is ∙ count_kept l.q l.«open» full D.goes.ready.one D.goes.ready.most t.wrote-q-then-put-eq0-2.result (wrote k₀ t.write_value-w.result) (t.wrote-q-then-put-eq0-2.ensures l.«open») (wrote_kept k₀ t.write_value-w.result).0 (wrote_kept k₀ t.write_value-w.result).1
+      | render_elements-then-put-eq0-2+else-is_some-2 t ↦ ap (λ (x : code.RenderContext). x.count) t.q-is ∙ count_kept l.q l.«open» full D.goes.ready.one D.goes.ready.most t.wrote-q-then-put-eq0-2.result (wrote k₀ t.write_value-w.result) (t.wrote-q-then-put-eq0-2.ensures l.«open») (wrote_kept k₀ t.write_value-w.result).0 (wrote_kept k₀ t.write_value-w.result).1
       | render_elements-else-put-eq0-2 t ↦ ap (λ (x : code.RenderContext). x.count) t.q-is ∙ count_kept l.q l.«open» full D.goes.ready.one D.goes.ready.most t.set_writer-q-else-put-eq0-2.result (setters.with_writer k₀ t.behind-w-else-put-eq0-2.result) (t.set_writer-q-else-put-eq0-2.ensures l.«open») refl refl
     ] in
-    let fine : J.q.bad ≡ 0 = elim J.branch [
-      | render_elements-then-put-eq0-2+else-q-ne0-2 t ↦ ap (λ (x : code.RenderContext). x.bad) t.q-is ∙ t.if-q-ne0-2.false
+    let fine : J.q.bad ≡ None = elim J.branch [
+      | render_elements-then-put-eq0-2+else-is_some-2 t ↦ ap (λ (x : code.RenderContext). x.bad) t.q-is ∙ (none_of _ (sym t.is_some-then-put-eq0-2.ensures ∙ t.if-is_some-2.false))
       | render_elements-else-put-eq0-2 t ↦ ap (λ (x : code.RenderContext). x.bad) t.q-is ∙ ap (λ (x : RenderContext). x.bad) (t.set_writer-q-else-put-eq0-2.ensures l.«open») ∙ D.goes.ready.fine
     ] in (
       subst (λ (p : ℕ). Drawing a.s.now a.b.now a.options (name_at a.b.now a.name) T (a.d - 1) n z w m (l.i + 1) p) (sym O.next)
@@ -781,8 +781,8 @@ render_elements-draw_lookup-q-requires t c = let a = c.args in
     let A : LookupAt a.s.now a.b.now l.ent l.front l.q.names l.q.disable_escape a.options (a.d - 1) (l.cur + 16 + 16) v html before next = subst (ShownIs a.s.now a.b.now l.ent l.front l.q.names l.q.disable_escape a.options (a.d - 1) (l.cur + 16 + 16)) c.in-Lookup.is c.shown_at.ensures in
     (h.0.plan, h.0.small, lookup_known a.s.now a.b.now a.options (a.d - 1) l.cur k₀ l.page l.texts l.indent l.ent D.goes.ready l.front l.q.names l.«open» S N v html before next A)
 
-pub render_elements-stopped-requires-then-q-ne0-3 : goal.render_elements-stopped-requires-then-q-ne0-3
-render_elements-stopped-requires-then-q-ne0-3 t c = let a = c.args in
+pub render_elements-stopped-requires-then-is_some-3 : goal.render_elements-stopped-requires-then-is_some-3
+render_elements-stopped-requires-then-is_some-3 t c = let a = c.args in
     let h = c.requires in
     let ps = c.put_scope-open in
     let w : World = world (whole a.rc ps.result) a.page.now a.texts.now a.indent.now a.ent.now in
@@ -798,20 +798,20 @@ render_elements-stopped-requires-then-q-ne0-3 t c = let a = c.args in
     let k = placed_fits 16 (call_of (param (a.d - 1))) (body 16 (a.d - 1)) (bits a.b.now) l.cur g in
     omega (arith, k, h.0.small, bits_size a.b.now)
 
-pub render_elements-shape_of-ent-then-q-ne0-3 : goal.render_elements-shape_of-ent-then-q-ne0-3
-render_elements-shape_of-ent-then-q-ne0-3 t c = omega (arith, c.loop-i.invariant.0.goes.sizes.ent)
+pub render_elements-shape_of-ent-then-is_some-3 : goal.render_elements-shape_of-ent-then-is_some-3
+render_elements-shape_of-ent-then-is_some-3 t c = omega (arith, c.loop-i.invariant.0.goes.sizes.ent)
 
-pub render_elements-shape_of-page-then-q-ne0-3 : goal.render_elements-shape_of-page-then-q-ne0-3
-render_elements-shape_of-page-then-q-ne0-3 t c = omega (arith, c.draw_lookup-q.auto.page, c.loop-i.invariant.0.goes.sizes.page)
+pub render_elements-shape_of-page-then-is_some-3 : goal.render_elements-shape_of-page-then-is_some-3
+render_elements-shape_of-page-then-is_some-3 t c = omega (arith, c.draw_lookup-q.auto.page, c.loop-i.invariant.0.goes.sizes.page)
 
-pub render_elements-shape_of-texts-then-q-ne0-3 : goal.render_elements-shape_of-texts-then-q-ne0-3
-render_elements-shape_of-texts-then-q-ne0-3 t c = omega (arith, c.draw_lookup-q.auto.texts, c.loop-i.invariant.0.goes.sizes.texts)
+pub render_elements-shape_of-texts-then-is_some-3 : goal.render_elements-shape_of-texts-then-is_some-3
+render_elements-shape_of-texts-then-is_some-3 t c = omega (arith, c.draw_lookup-q.auto.texts, c.loop-i.invariant.0.goes.sizes.texts)
 
-pub render_elements-shape_of-indent-then-q-ne0-3 : goal.render_elements-shape_of-indent-then-q-ne0-3
-render_elements-shape_of-indent-then-q-ne0-3 t c = omega (arith, c.loop-i.invariant.0.goes.sizes.indent)
+pub render_elements-shape_of-indent-then-is_some-3 : goal.render_elements-shape_of-indent-then-is_some-3
+render_elements-shape_of-indent-then-is_some-3 t c = omega (arith, c.loop-i.invariant.0.goes.sizes.indent)
 
-pub render_elements-returns-then-q-ne0-3 : goal.render_elements-returns-then-q-ne0-3
-render_elements-returns-then-q-ne0-3 t c = let a = c.args in
+pub render_elements-returns-then-is_some-3 : goal.render_elements-returns-then-is_some-3
+render_elements-returns-then-is_some-3 t c = let a = c.args in
     let h = c.requires in
     let ps = c.put_scope-open in
     let w : World = world (whole a.rc ps.result) a.page.now a.texts.now a.indent.now a.ent.now in
@@ -834,12 +834,12 @@ render_elements-returns-then-q-ne0-3 t c = let a = c.args in
     let y = c.draw_lookup-q in
     let m : World = world (whole y.result l.«open») y.new.page y.new.texts l.indent l.ent in
     let O : OneDrawn a.s.now a.b.now a.options (a.d - 1) l.cur lw m next = y.ensures.one_drawn l.«open» l.ent l.front a.options (a.d - 1) l.cur next F D.goes.ready A in
-    let X : Renders a.s.now a.b.now a.options w (world (whole c.stopped-then-q-ne0-3.result l.«open») y.new.page y.new.texts l.indent l.ent) (λ g R. rule.render_elements g R (name_at a.b.now a.name) T) =
-    subst (λ (x : RenderContext). Renders a.s.now a.b.now a.options w (over x m) (λ g R. rule.render_elements g R (name_at a.b.now a.name) T)) (sym (c.stopped-then-q-ne0-3.ensures l.«open»))
-    (drawing_stop a.s.now a.b.now a.options (name_at a.b.now a.name) w T (a.d - 1) n z lw l.i l.cur D c.loop-i-test.true (element_view 16 (a.d - 1) (bits a.b.now) l.cur) refl m O.renders a.name refl c.if-q-ne0-3.true) in
+    let X : Renders a.s.now a.b.now a.options w (world (whole c.stopped-then-is_some-3.result l.«open») y.new.page y.new.texts l.indent l.ent) (λ g R. rule.render_elements g R (name_at a.b.now a.name) T) =
+    subst (λ (x : RenderContext). Renders a.s.now a.b.now a.options w (over x m) (λ g R. rule.render_elements g R (name_at a.b.now a.name) T)) (sym (c.stopped-then-is_some-3.ensures l.«open»))
+    (drawing_stop a.s.now a.b.now a.options (name_at a.b.now a.name) w T (a.d - 1) n z lw l.i l.cur D c.loop-i-test.true (element_view 16 (a.d - 1) (bits a.b.now) l.cur) refl m O.renders a.name refl (some_of _ (sym c.is_some-in-Lookup.ensures ∙ c.if-is_some-3.true))) in
     left_of a.s.now a.b.now a.options a.rc ps.result (set a.scopes (a.rc.used - 1) a.top) a.page.now a.texts.now a.indent.now a.ent.now (λ g R. rule.render_elements g R (name_at a.b.now a.name) T) ps.ensures
-    (refused_any a.s.now a.b.now a.options w c.stopped-then-q-ne0-3.result (set a.scopes (a.rc.used - 1) a.top) l.«open» y.new.page y.new.texts l.indent l.ent (λ g R. rule.render_elements g R (name_at a.b.now a.name) T)
-    (λ e. c.if-q-ne0-3.true (sym (ap (λ (x : RenderContext). x.bad) (c.stopped-then-q-ne0-3.ensures l.«open»)) ∙ e)) X)
+    (refused_any a.s.now a.b.now a.options w c.stopped-then-is_some-3.result (set a.scopes (a.rc.used - 1) a.top) l.«open» y.new.page y.new.texts l.indent l.ent (λ g R. rule.render_elements g R (name_at a.b.now a.name) T)
+    (λ e. (some_of _ (sym c.is_some-in-Lookup.ensures ∙ c.if-is_some-3.true)) (sym (ap (λ (x : RenderContext). x.bad) (c.stopped-then-is_some-3.ensures l.«open»)) ∙ e)) X)
 
 pub render_elements-overflow_add-i-in-Lookup : goal.render_elements-overflow_add-i-in-Lookup
 render_elements-overflow_add-i-in-Lookup t c = let e = ap (λ x. x.count) c.body_at-body.ensures in let g = field_lt (bits c.args.b.now) (bits_binary c.args.b.now) 12 c.args.p in omega (arith, c.loop-i-test.true, e, g)
@@ -874,7 +874,7 @@ render_elements-loop-i-preserved-in-Lookup t c = let a = c.args in
     let O : OneDrawn a.s.now a.b.now a.options (a.d - 1) l.cur lw m next = y.ensures.one_drawn l.«open» l.ent l.front a.options (a.d - 1) l.cur next F D.goes.ready A in
     let C : y.result.count ≡ l.q.count = count_kept l.q l.«open» full D.goes.ready.one D.goes.ready.most y.result (left_by k₀ before y.ensures.helper_wrote.behind) (y.ensures.helper_wrote.is l.«open») (left_kept k₀ before y.ensures.helper_wrote.behind).0 (left_kept k₀ before y.ensures.helper_wrote.behind).1 in (
       subst (λ (p : ℕ). Drawing a.s.now a.b.now a.options (name_at a.b.now a.name) T (a.d - 1) n z w m (l.i + 1) p) (sym O.next)
-          (drawing_more a.s.now a.b.now a.options (name_at a.b.now a.name) w T (a.d - 1) n z lw l.i l.cur D c.loop-i-test.true (element_view 16 (a.d - 1) (bits a.b.now) l.cur) refl m O.renders c.if-q-ne0-3.false),
+          (drawing_more a.s.now a.b.now a.options (name_at a.b.now a.name) w T (a.d - 1) n z lw l.i l.cur D c.loop-i-test.true (element_view 16 (a.d - 1) (bits a.b.now) l.cur) refl m O.renders (none_of _ (sym c.is_some-in-Lookup.ensures ∙ c.if-is_some-3.false))),
       body_kept ps.result (a.rc.used - 1) a.top l.q y.result l.front l.«open» C B,
     )
 
@@ -957,17 +957,17 @@ render_elements-returns-in-Bad t c = let a = c.args in
     let F : Front l.«open» l.q l.front = body_front ps.result (a.rc.used - 1) a.top l.q l.front l.«open» sized D.goes.ready.one D.goes.ready.most here B in
     let S = array_scopes a.s.now a.b.now l.q l.«open» l.page l.texts l.indent l.ent D.goes.ready (front_current l.«open» l.q l.front F) in
     let N = array_newest a.s.now a.b.now l.q l.«open» l.page l.texts l.indent l.ent D.goes.ready l.front F in
-    let j = c.in-Bad.n in
+    let j = c.in-Bad.reason in
     let A : (html : Bool) × (next : ℕ) × ShowsAt a.s.now a.b.now l.ent l.front l.q.names l.q.disable_escape a.options (a.d - 1) (l.cur + 16 + 16) html next (shows.Bad j) = (subst (ShownIs a.s.now a.b.now l.ent l.front l.q.names l.q.disable_escape a.options (a.d - 1) (l.cur + 16 + 16)) c.in-Bad.is c.shown_at.ensures) in
     let u = c.failed in
     let m : World = world (whole u.result l.«open») l.page l.texts l.indent l.ent in
     let O : OneDrawn a.s.now a.b.now a.options (a.d - 1) l.cur lw m A.1 =
-    one_in a.s.now a.b.now a.options (a.d - 1) l.cur lw (whole u.result l.«open») (setters.failed k₀ j) l.page l.page l.texts l.texts l.indent l.ent A.1 (u.ensures l.«open») refl refl
+    one_in a.s.now a.b.now a.options (a.d - 1) l.cur lw (whole u.result l.«open») (setters.failed k₀ (Some j)) l.page l.page l.texts l.texts l.indent l.ent A.1 (u.ensures l.«open») refl refl
     (refused_here a.s.now a.b.now a.options (a.d - 1) l.cur k₀ l.page l.texts l.indent l.ent D.goes.ready l.front l.q.names l.«open» S N A.0 A.1 (shows.Bad j) A.2 j refl) in
-    let nb : u.result.bad ≡ 0 → ⊥ = λ f. refusal_number a.s.now a.b.now a.options (a.d - 1) l.cur k₀ l.page l.texts l.indent l.ent D.goes.ready l.front l.q.names l.«open» S N A.0 A.1 (shows.Bad j) A.2 j refl (sym (ap (λ (x : RenderContext). x.bad) (u.ensures l.«open»)) ∙ f) in
+    let nb : u.result.bad ≡ None → ⊥ = not_none j (ap (λ (x : RenderContext). x.bad) (u.ensures l.«open»)) in
     let X : Renders a.s.now a.b.now a.options w (world (whole c.stopped-in-Bad.result l.«open») l.page l.texts l.indent l.ent) (λ g R. rule.render_elements g R (name_at a.b.now a.name) T) =
     subst (λ (x : RenderContext). Renders a.s.now a.b.now a.options w (over x m) (λ g R. rule.render_elements g R (name_at a.b.now a.name) T)) (sym (c.stopped-in-Bad.ensures l.«open»))
-    (drawing_stop a.s.now a.b.now a.options (name_at a.b.now a.name) w T (a.d - 1) n z lw l.i l.cur D c.loop-i-test.true (element_view 16 (a.d - 1) (bits a.b.now) l.cur) refl m O.renders a.name refl (λ e. refusal_number a.s.now a.b.now a.options (a.d - 1) l.cur k₀ l.page l.texts l.indent l.ent D.goes.ready l.front l.q.names l.«open» S N A.0 A.1 (shows.Bad j) A.2 j refl (sym (ap (λ (x : RenderContext). x.bad) (u.ensures l.«open»)) ∙ e))) in
+    (drawing_stop a.s.now a.b.now a.options (name_at a.b.now a.name) w T (a.d - 1) n z lw l.i l.cur D c.loop-i-test.true (element_view 16 (a.d - 1) (bits a.b.now) l.cur) refl m O.renders a.name refl nb) in
     left_of a.s.now a.b.now a.options a.rc ps.result (set a.scopes (a.rc.used - 1) a.top) a.page.now a.texts.now a.indent.now a.ent.now (λ g R. rule.render_elements g R (name_at a.b.now a.name) T) ps.ensures
     (refused_any a.s.now a.b.now a.options w c.stopped-in-Bad.result (set a.scopes (a.rc.used - 1) a.top) l.«open» l.page l.texts l.indent l.ent (λ g R. rule.render_elements g R (name_at a.b.now a.name) T)
     (λ e. nb (sym (ap (λ (x : RenderContext). x.bad) (c.stopped-in-Bad.ensures l.«open»)) ∙ e)) X)
@@ -1050,8 +1050,8 @@ render_elements-render_element-q-requires t c = let a = c.args in
     let e = element_read 16 (a.d - 1) (bits a.b.now) l.cur g (placed_element 16 (bits a.b.now) l.cur c.content_at-e.result) (placed_element_is 16 (a.d - 1) (bits a.b.now) l.cur c.content_at-e.result c.content_at-e.ensures) in
     (omega (arith, u, k, c.decreases), (h.0, D.goes.ready, omega (arith, k, h.2), e.parts, F))
 
-pub render_elements-stopped-requires-then-q-ne0-4 : goal.render_elements-stopped-requires-then-q-ne0-4
-render_elements-stopped-requires-then-q-ne0-4 t c = let a = c.args in
+pub render_elements-stopped-requires-then-is_some-4 : goal.render_elements-stopped-requires-then-is_some-4
+render_elements-stopped-requires-then-is_some-4 t c = let a = c.args in
     let h = c.requires in
     let ps = c.put_scope-open in
     let w : World = world (whole a.rc ps.result) a.page.now a.texts.now a.indent.now a.ent.now in
@@ -1067,20 +1067,20 @@ render_elements-stopped-requires-then-q-ne0-4 t c = let a = c.args in
     let k = placed_fits 16 (call_of (param (a.d - 1))) (body 16 (a.d - 1)) (bits a.b.now) l.cur g in
     omega (arith, k, h.0.small, bits_size a.b.now)
 
-pub render_elements-shape_of-ent-then-q-ne0-4 : goal.render_elements-shape_of-ent-then-q-ne0-4
-render_elements-shape_of-ent-then-q-ne0-4 t c = omega (arith, c.render_element-q.auto.ent, c.loop-i.invariant.0.goes.sizes.ent)
+pub render_elements-shape_of-ent-then-is_some-4 : goal.render_elements-shape_of-ent-then-is_some-4
+render_elements-shape_of-ent-then-is_some-4 t c = omega (arith, c.render_element-q.auto.ent, c.loop-i.invariant.0.goes.sizes.ent)
 
-pub render_elements-shape_of-page-then-q-ne0-4 : goal.render_elements-shape_of-page-then-q-ne0-4
-render_elements-shape_of-page-then-q-ne0-4 t c = omega (arith, c.render_element-q.auto.page, c.loop-i.invariant.0.goes.sizes.page)
+pub render_elements-shape_of-page-then-is_some-4 : goal.render_elements-shape_of-page-then-is_some-4
+render_elements-shape_of-page-then-is_some-4 t c = omega (arith, c.render_element-q.auto.page, c.loop-i.invariant.0.goes.sizes.page)
 
-pub render_elements-shape_of-texts-then-q-ne0-4 : goal.render_elements-shape_of-texts-then-q-ne0-4
-render_elements-shape_of-texts-then-q-ne0-4 t c = omega (arith, c.render_element-q.auto.texts, c.loop-i.invariant.0.goes.sizes.texts)
+pub render_elements-shape_of-texts-then-is_some-4 : goal.render_elements-shape_of-texts-then-is_some-4
+render_elements-shape_of-texts-then-is_some-4 t c = omega (arith, c.render_element-q.auto.texts, c.loop-i.invariant.0.goes.sizes.texts)
 
-pub render_elements-shape_of-indent-then-q-ne0-4 : goal.render_elements-shape_of-indent-then-q-ne0-4
-render_elements-shape_of-indent-then-q-ne0-4 t c = omega (arith, c.render_element-q.auto.indent, c.loop-i.invariant.0.goes.sizes.indent)
+pub render_elements-shape_of-indent-then-is_some-4 : goal.render_elements-shape_of-indent-then-is_some-4
+render_elements-shape_of-indent-then-is_some-4 t c = omega (arith, c.render_element-q.auto.indent, c.loop-i.invariant.0.goes.sizes.indent)
 
-pub render_elements-returns-then-q-ne0-4 : goal.render_elements-returns-then-q-ne0-4
-render_elements-returns-then-q-ne0-4 t c = let a = c.args in
+pub render_elements-returns-then-is_some-4 : goal.render_elements-returns-then-is_some-4
+render_elements-returns-then-is_some-4 t c = let a = c.args in
     let h = c.requires in
     let ps = c.put_scope-open in
     let w : World = world (whole a.rc ps.result) a.page.now a.texts.now a.indent.now a.ent.now in
@@ -1095,12 +1095,12 @@ render_elements-returns-then-q-ne0-4 t c = let a = c.args in
     let v = placed_element 16 (bits a.b.now) l.cur c.content_at-e.result in
     let y = c.render_element-q in
     let l₂ : World = world (whole y.result l.«open») y.new.page y.new.texts y.new.indent y.new.ent in
-    let X : Renders a.s.now a.b.now a.options w (world (whole c.stopped-then-q-ne0-4.result l.«open») y.new.page y.new.texts y.new.indent y.new.ent) (λ g R. rule.render_elements g R (name_at a.b.now a.name) T) =
-    subst (λ (x : RenderContext). Renders a.s.now a.b.now a.options w (over x l₂) (λ g R. rule.render_elements g R (name_at a.b.now a.name) T)) (sym (c.stopped-then-q-ne0-4.ensures l.«open»))
-    (drawing_stop a.s.now a.b.now a.options (name_at a.b.now a.name) w T (a.d - 1) n z lw l.i l.cur D c.loop-i-test.true v (placed_element_is 16 (a.d - 1) (bits a.b.now) l.cur c.content_at-e.result c.content_at-e.ensures) l₂ y.ensures a.name refl c.if-q-ne0-4.true) in
+    let X : Renders a.s.now a.b.now a.options w (world (whole c.stopped-then-is_some-4.result l.«open») y.new.page y.new.texts y.new.indent y.new.ent) (λ g R. rule.render_elements g R (name_at a.b.now a.name) T) =
+    subst (λ (x : RenderContext). Renders a.s.now a.b.now a.options w (over x l₂) (λ g R. rule.render_elements g R (name_at a.b.now a.name) T)) (sym (c.stopped-then-is_some-4.ensures l.«open»))
+    (drawing_stop a.s.now a.b.now a.options (name_at a.b.now a.name) w T (a.d - 1) n z lw l.i l.cur D c.loop-i-test.true v (placed_element_is 16 (a.d - 1) (bits a.b.now) l.cur c.content_at-e.result c.content_at-e.ensures) l₂ y.ensures a.name refl (some_of _ (sym c.is_some-in-loop-i.ensures ∙ c.if-is_some-4.true))) in
     left_of a.s.now a.b.now a.options a.rc ps.result (set a.scopes (a.rc.used - 1) a.top) a.page.now a.texts.now a.indent.now a.ent.now (λ g R. rule.render_elements g R (name_at a.b.now a.name) T) ps.ensures
-    (refused_any a.s.now a.b.now a.options w c.stopped-then-q-ne0-4.result (set a.scopes (a.rc.used - 1) a.top) l.«open» y.new.page y.new.texts y.new.indent y.new.ent (λ g R. rule.render_elements g R (name_at a.b.now a.name) T)
-    (λ e. c.if-q-ne0-4.true (sym (ap (λ (x : RenderContext). x.bad) (c.stopped-then-q-ne0-4.ensures l.«open»)) ∙ e)) X)
+    (refused_any a.s.now a.b.now a.options w c.stopped-then-is_some-4.result (set a.scopes (a.rc.used - 1) a.top) l.«open» y.new.page y.new.texts y.new.indent y.new.ent (λ g R. rule.render_elements g R (name_at a.b.now a.name) T)
+    (λ e. (some_of _ (sym c.is_some-in-loop-i.ensures ∙ c.if-is_some-4.true)) (sym (ap (λ (x : RenderContext). x.bad) (c.stopped-then-is_some-4.ensures l.«open»)) ∙ e)) X)
 
 pub render_elements-overflow_add-i-in-loop-i : goal.render_elements-overflow_add-i-in-loop-i
 render_elements-overflow_add-i-in-loop-i t c = let e = ap (λ x. x.count) c.body_at-body.ensures in let g = field_lt (bits c.args.b.now) (bits_binary c.args.b.now) 12 c.args.p in omega (arith, c.loop-i-test.true, e, g)
@@ -1138,7 +1138,7 @@ render_elements-with_count-front-requires t c = let a = c.args in
     let v = placed_element 16 (bits a.b.now) l.cur c.content_at-e.result in
     let y = c.render_element-q in
     let l₂ : World = world (whole y.result l.«open») y.new.page y.new.texts y.new.indent y.new.ent in
-    let go = ((y.ensures.at 32 (omega arith)).fine c.if-q-ne0-4.false).goes in
+    let go = ((y.ensures.at 32 (omega arith)).fine (none_of _ (sym c.is_some-in-loop-i.ensures ∙ c.if-is_some-4.false))).goes in
     let c = count_small a.s.now a.b.now y.result l.«open» y.new.page y.new.texts y.new.indent y.new.ent go.ready in
     omega (arith, c)
 
@@ -1167,12 +1167,12 @@ render_elements-loop-i-preserved-then-q-front t c = let a = c.args in
     let v = placed_element 16 (bits a.b.now) l.cur c.content_at-e.result in
     let y = c.render_element-q in
     let l₂ : World = world (whole y.result l.«open») y.new.page y.new.texts y.new.indent y.new.ent in
-    let go = ((y.ensures.at 32 (omega arith)).fine c.if-q-ne0-4.false).goes in
+    let go = ((y.ensures.at 32 (omega arith)).fine (none_of _ (sym c.is_some-in-loop-i.ensures ∙ c.if-is_some-4.false))).goes in
     let f = c.with_count-front in
     let ps₂ = c.put_scope-counted in
     let same = body_same ps.result (a.rc.used - 1) a.top l.q y.result l.front l.«open» sized D.goes.ready.one D.goes.ready.most here go.used B f.result ps₂.result f.ensures ps₂.ensures in (
       subst (λ (x : RenderContext). Drawing a.s.now a.b.now a.options (name_at a.b.now a.name) T (a.d - 1) n z w (world x y.new.page y.new.texts y.new.indent y.new.ent) (l.i + 1) c.content_at-e.result.next) (sym same)
-          (drawing_more a.s.now a.b.now a.options (name_at a.b.now a.name) w T (a.d - 1) n z lw l.i l.cur D c.loop-i-test.true v (placed_element_is 16 (a.d - 1) (bits a.b.now) l.cur c.content_at-e.result c.content_at-e.ensures) l₂ y.ensures c.if-q-ne0-4.false),
+          (drawing_more a.s.now a.b.now a.options (name_at a.b.now a.name) w T (a.d - 1) n z lw l.i l.cur D c.loop-i-test.true v (placed_element_is 16 (a.d - 1) (bits a.b.now) l.cur c.content_at-e.result c.content_at-e.ensures) l₂ y.ensures (none_of _ (sym c.is_some-in-loop-i.ensures ∙ c.if-is_some-4.false))),
       body_gained ps.result (a.rc.used - 1) a.top l.q y.result l.front l.«open» sized D.goes.ready.one D.goes.ready.most here go.used B f.result ps₂.result f.ensures ps₂.ensures,
     )
 
@@ -1196,7 +1196,7 @@ render_elements-loop-i-preserved t c = let a = c.args in
     let y = c.render_element-q in
     let l₂ : World = world (whole y.result l.«open») y.new.page y.new.texts y.new.indent y.new.ent in
     let C : y.result.count ≡ l.q.count = c.if-q-front.false ∙ ap (λ (x : Scope). x.count) B.newest in
-    ((drawing_more a.s.now a.b.now a.options (name_at a.b.now a.name) w T (a.d - 1) n z lw l.i l.cur D c.loop-i-test.true v (placed_element_is 16 (a.d - 1) (bits a.b.now) l.cur c.content_at-e.result c.content_at-e.ensures) l₂ y.ensures c.if-q-ne0-4.false), body_kept ps.result (a.rc.used - 1) a.top l.q y.result l.front l.«open» C B)
+    ((drawing_more a.s.now a.b.now a.options (name_at a.b.now a.name) w T (a.d - 1) n z lw l.i l.cur D c.loop-i-test.true v (placed_element_is 16 (a.d - 1) (bits a.b.now) l.cur c.content_at-e.result c.content_at-e.ensures) l₂ y.ensures (none_of _ (sym c.is_some-in-loop-i.ensures ∙ c.if-is_some-4.false))), body_kept ps.result (a.rc.used - 1) a.top l.q y.result l.front l.«open» C B)
 
 pub render_elements-returns : goal.render_elements-returns
 render_elements-returns t c = let a = c.args in
@@ -1358,7 +1358,7 @@ render_partial-render_elements-q-requires t c = let a = c.args in
     let w : World = world (whole a.rc a.scopes) a.page.now a.texts.now a.indent.now a.ent.now in
     let g = c.begin-begun in
     let w₁ : World = world (topped g.result.rc a.scopes g.result.top) g.new.page g.new.texts g.new.indent g.new.ent in
-    let B = subst (PartialBegun a.s.now a.b.now a.options w w₁ a.d (partial_rule a.b.now a.d a.p Nothing a.at a.before) Nothing a.at) c.in-Body.is g.ensures.0 in
+    let B = subst (PartialBegun a.s.now a.b.now a.options w w₁ a.d (partial_rule a.b.now a.d a.p None a.at a.before) None a.at) c.in-Body.is g.ensures.0 in
     let y = B.3.deeper in
     let m = B.3.ready.most in
     let e = B.0 in
@@ -1382,12 +1382,12 @@ render_partial-returns-in-Body t c = let a = c.args in
     let w : World = world (whole a.rc a.scopes) a.page.now a.texts.now a.indent.now a.ent.now in
     let g = c.begin-begun in
     let w₁ : World = world (topped g.result.rc a.scopes g.result.top) g.new.page g.new.texts g.new.indent g.new.ent in
-    let B = subst (PartialBegun a.s.now a.b.now a.options w w₁ a.d (partial_rule a.b.now a.d a.p Nothing a.at a.before) Nothing a.at) c.in-Body.is g.ensures.0 in
+    let B = subst (PartialBegun a.s.now a.b.now a.options w w₁ a.d (partial_rule a.b.now a.d a.p None a.at a.before) None a.at) c.in-Body.is g.ensures.0 in
     let q = c.render_elements-q in
     let m = set a.scopes (g.result.rc.used - 1) g.result.top in
     let w₂ : World = world (whole q.result m) q.new.page q.new.texts q.new.indent q.new.ent in
-    subst (λ (x : RenderContext). Renders a.s.now a.b.now a.options w (over x w₂) (partial_rule a.b.now a.d a.p Nothing a.at a.before)) (sym (c.finish_partial-q.ensures a.scopes))
-    (concluded_any a.s.now a.b.now a.options w q.result a.scopes m q.new.page q.new.texts q.new.indent q.new.ent (partial_rule a.b.now a.d a.p Nothing a.at a.before) (whole a.rc a.scopes) (B.3.done w₂ q.ensures))
+    subst (λ (x : RenderContext). Renders a.s.now a.b.now a.options w (over x w₂) (partial_rule a.b.now a.d a.p None a.at a.before)) (sym (c.finish_partial-q.ensures a.scopes))
+    (concluded_any a.s.now a.b.now a.options w q.result a.scopes m q.new.page q.new.texts q.new.indent q.new.ent (partial_rule a.b.now a.d a.p None a.at a.before) (whole a.rc a.scopes) (B.3.done w₂ q.ensures))
 
 pub render_partial-returns-in_default : goal.render_partial-returns-in_default
 render_partial-returns-in_default t c = let a = c.args in
@@ -1396,9 +1396,9 @@ render_partial-returns-in_default t c = let a = c.args in
     let sized = array_sized a.s.now a.b.now a.rc a.scopes a.page.now a.texts.now a.indent.now a.ent.now h.1 in
     let g = c.begin-begun in
     let w₁ : World = world (topped g.result.rc a.scopes g.result.top) g.new.page g.new.texts g.new.indent g.new.ent in
-    left_drawn a.s.now a.b.now a.options a.rc a.scopes sized h.1.one h.1.most a.page.now a.texts.now a.indent.now a.ent.now (partial_rule a.b.now a.d a.p Nothing a.at a.before)
+    left_drawn a.s.now a.b.now a.options a.rc a.scopes sized h.1.one h.1.most a.page.now a.texts.now a.indent.now a.ent.now (partial_rule a.b.now a.d a.p None a.at a.before)
     g.result.rc g.result.rc.used g.result.top g.new.page g.new.texts g.new.indent g.new.ent (λ z. refl)
-    (no_own a.s.now a.b.now a.options w w₁ a.d (partial_rule a.b.now a.d a.p Nothing a.at a.before) a.at g.result.next (unsealed c.in_default.in_default-own.keys2) g.ensures.0)
+    (no_own a.s.now a.b.now a.options w w₁ a.d (partial_rule a.b.now a.d a.p None a.at a.before) a.at g.result.next (unsealed c.in_default.in_default-own.keys2) g.ensures.0)
 
 pub render_partial_block-begin-begun-requires : goal.render_partial_block-begin-begun-requires
 render_partial_block-begin-begun-requires t c = let h = c.requires in (h.0, h.6, h.1, omega (arith, h.2), h.3, h.4, h.5)
@@ -1409,7 +1409,7 @@ render_partial_block-render_elements-q-requires t c = let a = c.args in
     let w : World = world (whole a.rc a.scopes) a.page.now a.texts.now a.indent.now a.ent.now in
     let g = c.begin-begun in
     let w₁ : World = world (topped g.result.rc a.scopes g.result.top) g.new.page g.new.texts g.new.indent g.new.ent in
-    let B = subst (PartialBegun a.s.now a.b.now a.options w w₁ a.d (partial_rule a.b.now a.d a.p (At a.own) a.at a.before) (At a.own) a.at) c.in-Fallback.is g.ensures.0 in
+    let B = subst (PartialBegun a.s.now a.b.now a.options w w₁ a.d (partial_rule a.b.now a.d a.p (Some a.own) a.at a.before) (Some a.own) a.at) c.in-Fallback.is g.ensures.0 in
     let y = B.2.deeper in
     let m = B.2.ready.most in
     (omega (arith, y, m, c.decreases), (h.0, B.2.ready, omega (arith, h.2), B.0, λ z. absurd (z refl), g.ensures.1))
@@ -1420,7 +1420,7 @@ render_partial_block-render_elements-q-requires-in-Body t c = let a = c.args in
     let w : World = world (whole a.rc a.scopes) a.page.now a.texts.now a.indent.now a.ent.now in
     let g = c.begin-begun in
     let w₁ : World = world (topped g.result.rc a.scopes g.result.top) g.new.page g.new.texts g.new.indent g.new.ent in
-    let B = subst (PartialBegun a.s.now a.b.now a.options w w₁ a.d (partial_rule a.b.now a.d a.p (At a.own) a.at a.before) (At a.own) a.at) c.in-Body.is g.ensures.0 in
+    let B = subst (PartialBegun a.s.now a.b.now a.options w w₁ a.d (partial_rule a.b.now a.d a.p (Some a.own) a.at a.before) (Some a.own) a.at) c.in-Body.is g.ensures.0 in
     let y = B.3.deeper in
     let m = B.3.ready.most in
     let e = B.0 in
@@ -1432,10 +1432,10 @@ render_partial_block-render_text-q-requires t c = let a = c.args in
     let w : World = world (whole a.rc a.scopes) a.page.now a.texts.now a.indent.now a.ent.now in
     let g = c.begin-begun in
     let w₁ : World = world (topped g.result.rc a.scopes g.result.top) g.new.page g.new.texts g.new.indent g.new.ent in
-    let B = subst (PartialBegun a.s.now a.b.now a.options w w₁ a.d (partial_rule a.b.now a.d a.p (At a.own) a.at a.before) (At a.own) a.at) c.in-Text.is g.ensures.0 in
+    let B = subst (PartialBegun a.s.now a.b.now a.options w w₁ a.d (partial_rule a.b.now a.d a.p (Some a.own) a.at a.before) (Some a.own) a.at) c.in-Text.is g.ensures.0 in
     let y = B.0.deeper in
     let m = B.0.ready.most in
-    (omega (arith, y, m, c.decreases), (h.0, B.0.ready, h.2, record { page = a.page.now; texts = a.texts.now; indent = a.indent.now; ent = a.ent.now; rule = partial_rule a.b.now a.d a.p (At a.own) a.at a.before; begun = B.0 }, g.ensures.1))
+    (omega (arith, y, m, c.decreases), (h.0, B.0.ready, h.2, record { page = a.page.now; texts = a.texts.now; indent = a.indent.now; ent = a.ent.now; rule = partial_rule a.b.now a.d a.p (Some a.own) a.at a.before; begun = B.0 }, g.ensures.1))
 
 pub render_partial_block-returns-in-Done : goal.render_partial_block-returns-in-Done
 render_partial_block-returns-in-Done t c = let a = c.args in
@@ -1444,8 +1444,8 @@ render_partial_block-returns-in-Done t c = let a = c.args in
     let sized = array_sized a.s.now a.b.now a.rc a.scopes a.page.now a.texts.now a.indent.now a.ent.now h.1 in
     let g = c.begin-begun in
     let w₁ : World = world (topped g.result.rc a.scopes g.result.top) g.new.page g.new.texts g.new.indent g.new.ent in
-    let B = subst (PartialBegun a.s.now a.b.now a.options w w₁ a.d (partial_rule a.b.now a.d a.p (At a.own) a.at a.before) (At a.own) a.at) c.in-Done.is g.ensures.0 in
-    left_drawn a.s.now a.b.now a.options a.rc a.scopes sized h.1.one h.1.most a.page.now a.texts.now a.indent.now a.ent.now (partial_rule a.b.now a.d a.p (At a.own) a.at a.before)
+    let B = subst (PartialBegun a.s.now a.b.now a.options w w₁ a.d (partial_rule a.b.now a.d a.p (Some a.own) a.at a.before) (Some a.own) a.at) c.in-Done.is g.ensures.0 in
+    left_drawn a.s.now a.b.now a.options a.rc a.scopes sized h.1.one h.1.most a.page.now a.texts.now a.indent.now a.ent.now (partial_rule a.b.now a.d a.p (Some a.own) a.at a.before)
     g.result.rc g.result.rc.used g.result.top g.new.page g.new.texts g.new.indent g.new.ent (λ z. refl) B
 
 pub render_partial_block-shape_of-ent-in-Fallback : goal.render_partial_block-shape_of-ent-in-Fallback
@@ -1467,12 +1467,12 @@ render_partial_block-returns-in-Fallback t c = let a = c.args in
     let sized = array_sized a.s.now a.b.now a.rc a.scopes a.page.now a.texts.now a.indent.now a.ent.now h.1 in
     let g = c.begin-begun in
     let w₁ : World = world (topped g.result.rc a.scopes g.result.top) g.new.page g.new.texts g.new.indent g.new.ent in
-    let B = subst (PartialBegun a.s.now a.b.now a.options w w₁ a.d (partial_rule a.b.now a.d a.p (At a.own) a.at a.before) (At a.own) a.at) c.in-Fallback.is g.ensures.0 in
+    let B = subst (PartialBegun a.s.now a.b.now a.options w w₁ a.d (partial_rule a.b.now a.d a.p (Some a.own) a.at a.before) (Some a.own) a.at) c.in-Fallback.is g.ensures.0 in
     let q = c.render_elements-q in
     let r = c.finish_named-q in
     let m = set a.scopes (g.result.rc.used - 1) g.result.top in
     let w₂ : World = world (whole q.result m) q.new.page q.new.texts q.new.indent q.new.ent in
-    finished_drawn a.s.now a.b.now a.options a.rc a.scopes sized h.1.one h.1.most a.page.now a.texts.now a.indent.now a.ent.now (partial_rule a.b.now a.d a.p (At a.own) a.at a.before) (body_rule a.b.now a.d c.in-Fallback.t 0)
+    finished_drawn a.s.now a.b.now a.options a.rc a.scopes sized h.1.one h.1.most a.page.now a.texts.now a.indent.now a.ent.now (partial_rule a.b.now a.d a.p (Some a.own) a.at a.before) (body_rule a.b.now a.d c.in-Fallback.t 0)
     (λ (k : RenderContext). settled (with_template k a.rc.template) a.rc.writer) (λ (k : RenderContext). refl) (λ (k : RenderContext). refl)
     w₁ g.result.top q.result r.result q.new.page q.new.texts q.new.indent q.new.ent q.ensures (B.2.done w₂ q.ensures) r.ensures
 
@@ -1494,12 +1494,12 @@ render_partial_block-returns-in-Body t c = let a = c.args in
     let w : World = world (whole a.rc a.scopes) a.page.now a.texts.now a.indent.now a.ent.now in
     let g = c.begin-begun in
     let w₁ : World = world (topped g.result.rc a.scopes g.result.top) g.new.page g.new.texts g.new.indent g.new.ent in
-    let B = subst (PartialBegun a.s.now a.b.now a.options w w₁ a.d (partial_rule a.b.now a.d a.p (At a.own) a.at a.before) (At a.own) a.at) c.in-Body.is g.ensures.0 in
+    let B = subst (PartialBegun a.s.now a.b.now a.options w w₁ a.d (partial_rule a.b.now a.d a.p (Some a.own) a.at a.before) (Some a.own) a.at) c.in-Body.is g.ensures.0 in
     let q = c.render_elements-q-in-Body in
     let m = set a.scopes (g.result.rc.used - 1) g.result.top in
     let w₂ : World = world (whole q.result m) q.new.page q.new.texts q.new.indent q.new.ent in
-    subst (λ (x : RenderContext). Renders a.s.now a.b.now a.options w (over x w₂) (partial_rule a.b.now a.d a.p (At a.own) a.at a.before)) (sym (c.finish_partial-q.ensures a.scopes))
-    (concluded_any a.s.now a.b.now a.options w q.result a.scopes m q.new.page q.new.texts q.new.indent q.new.ent (partial_rule a.b.now a.d a.p (At a.own) a.at a.before) (whole a.rc a.scopes) (B.3.done w₂ q.ensures))
+    subst (λ (x : RenderContext). Renders a.s.now a.b.now a.options w (over x w₂) (partial_rule a.b.now a.d a.p (Some a.own) a.at a.before)) (sym (c.finish_partial-q.ensures a.scopes))
+    (concluded_any a.s.now a.b.now a.options w q.result a.scopes m q.new.page q.new.texts q.new.indent q.new.ent (partial_rule a.b.now a.d a.p (Some a.own) a.at a.before) (whole a.rc a.scopes) (B.3.done w₂ q.ensures))
 
 pub render_partial_block-shape_of-ent-in-Text : goal.render_partial_block-shape_of-ent-in-Text
 render_partial_block-shape_of-ent-in-Text t c = omega (arith, c.begin-begun.auto.ent, c.render_text-q.auto.ent)
@@ -1519,8 +1519,8 @@ render_partial_block-returns-in-Text t c = let a = c.args in
     let w : World = world (whole a.rc a.scopes) a.page.now a.texts.now a.indent.now a.ent.now in
     let g = c.begin-begun in
     let w₁ : World = world (topped g.result.rc a.scopes g.result.top) g.new.page g.new.texts g.new.indent g.new.ent in
-    let B = subst (PartialBegun a.s.now a.b.now a.options w w₁ a.d (partial_rule a.b.now a.d a.p (At a.own) a.at a.before) (At a.own) a.at) c.in-Text.is g.ensures.0 in
-    c.render_text-q.ensures.at a.page.now a.texts.now a.indent.now a.ent.now (partial_rule a.b.now a.d a.p (At a.own) a.at a.before) B.0
+    let B = subst (PartialBegun a.s.now a.b.now a.options w w₁ a.d (partial_rule a.b.now a.d a.p (Some a.own) a.at a.before) (Some a.own) a.at) c.in-Text.is g.ensures.0 in
+    c.render_text-q.ensures.at a.page.now a.texts.now a.indent.now a.ent.now (partial_rule a.b.now a.d a.p (Some a.own) a.at a.before) B.0
 
 pub render_text-render_elements-q-requires : goal.render_text-render_elements-q-requires
 render_text-render_elements-q-requires t c = let a = c.args in
@@ -1528,14 +1528,14 @@ render_text-render_elements-q-requires t c = let a = c.args in
     let B = h.3.begun in
     (omega (arith, h.2, c.decreases), (h.0, h.1, omega (arith, h.2), B.text, λ z. absurd (z refl), h.4))
 
-pub render_text-returns-then-q-ne0 : goal.render_text-returns-then-q-ne0
-render_text-returns-then-q-ne0 t c = let a = c.args in
+pub render_text-returns-then-is_some : goal.render_text-returns-then-is_some
+render_text-returns-then-is_some t c = let a = c.args in
     let h = c.requires in
     let B = h.3.begun in
     let q = c.render_elements-q in
     let m = set a.scopes (a.rc.used - 1) a.top in
     let w₂ : World = world (whole q.result m) q.new.page q.new.texts q.new.indent q.new.ent in
-    record { at = λ page texts indent ent rule D. refused_any a.s.now a.b.now a.options (world (whole a.around a.scopes) page texts indent ent) q.result a.scopes m q.new.page q.new.texts q.new.indent q.new.ent rule c.if-q-ne0.true (D.stop w₂ q.ensures c.if-q-ne0.true) }
+    record { at = λ page texts indent ent rule D. refused_any a.s.now a.b.now a.options (world (whole a.around a.scopes) page texts indent ent) q.result a.scopes m q.new.page q.new.texts q.new.indent q.new.ent rule (some_of _ (sym c.is_some.ensures ∙ c.if-is_some.true)) (D.stop w₂ q.ensures (some_of _ (sym c.is_some.ensures ∙ c.if-is_some.true))) }
 
 pub render_text-with_count-requires : goal.render_text-with_count-requires
 render_text-with_count-requires t c = let a = c.args in
@@ -1544,7 +1544,7 @@ render_text-with_count-requires t c = let a = c.args in
     let q = c.render_elements-q in
     let m = set a.scopes (a.rc.used - 1) a.top in
     let w₂ : World = world (whole q.result m) q.new.page q.new.texts q.new.indent q.new.ent in
-    let n = count_small a.s.now a.b.now q.result m q.new.page q.new.texts q.new.indent q.new.ent ((q.ensures.at 32 (omega arith)).fine c.if-q-ne0.false).goes.ready in
+    let n = count_small a.s.now a.b.now q.result m q.new.page q.new.texts q.new.indent q.new.ent ((q.ensures.at 32 (omega arith)).fine (none_of _ (sym c.is_some.ensures ∙ c.if-is_some.false))).goes.ready in
     omega (arith, n)
 
 pub render_text-overflow_sub-q : goal.render_text-overflow_sub-q
@@ -1554,7 +1554,7 @@ render_text-overflow_sub-q t c = let a = c.args in
     let q = c.render_elements-q in
     let m = set a.scopes (a.rc.used - 1) a.top in
     let w₂ : World = world (whole q.result m) q.new.page q.new.texts q.new.indent q.new.ent in
-    let n = (B.ends w₂ q.ensures c.if-q-ne0.false).from in
+    let n = (B.ends w₂ q.ensures (none_of _ (sym c.is_some.ensures ∙ c.if-is_some.false))).from in
     omega (arith, n)
 
 pub render_text-with_text-c-requires : goal.render_text-with_text-c-requires
@@ -1564,8 +1564,8 @@ render_text-with_text-c-requires t c = let a = c.args in
     let q = c.render_elements-q in
     let m = set a.scopes (a.rc.used - 1) a.top in
     let w₂ : World = world (whole q.result m) q.new.page q.new.texts q.new.indent q.new.ent in
-    let n = (B.ends w₂ q.ensures c.if-q-ne0.false).from in
-    let k = (B.ends w₂ q.ensures c.if-q-ne0.false).short in
+    let n = (B.ends w₂ q.ensures (none_of _ (sym c.is_some.ensures ∙ c.if-is_some.false))).from in
+    let k = (B.ends w₂ q.ensures (none_of _ (sym c.is_some.ensures ∙ c.if-is_some.false))).short in
     omega (arith, n, k)
 
 pub render_text-end_text-u-requires : goal.render_text-end_text-u-requires
@@ -1575,7 +1575,7 @@ render_text-end_text-u-requires t c = let a = c.args in
     let q = c.render_elements-q in
     let m = set a.scopes (a.rc.used - 1) a.top in
     let w₂ : World = world (whole q.result m) q.new.page q.new.texts q.new.indent q.new.ent in
-    (h.0.small, B.ends w₂ q.ensures c.if-q-ne0.false)
+    (h.0.small, B.ends w₂ q.ensures (none_of _ (sym c.is_some.ensures ∙ c.if-is_some.false)))
 
 pub render_text-render_elements-requires : goal.render_text-render_elements-requires
 render_text-render_elements-requires t c = let a = c.args in
@@ -1587,7 +1587,7 @@ render_text-render_elements-requires t c = let a = c.args in
     let sized = sym (length-set a.scopes (a.rc.used - 1) a.top) ∙ array_sized a.s.now a.b.now a.rc (set a.scopes (a.rc.used - 1) a.top) a.page.now a.texts.now a.indent.now a.ent.now h.1 in
     let u = c.end_text-u in
     let C = text_goes a.s.now a.b.now a.options a.around a.scopes sized a.d a.o a.p a.e a.name a.at
-    a.rc a.top a.page.now a.texts.now a.indent.now a.ent.now q.result q.new.page q.new.texts q.new.indent q.new.ent q.ensures c.if-q-ne0.false
+    a.rc a.top a.page.now a.texts.now a.indent.now a.ent.now q.result q.new.page q.new.texts q.new.indent q.new.ent q.ensures (none_of _ (sym c.is_some.ensures ∙ c.if-is_some.false))
     u.result u.new.texts u.new.indent u.ensures c.with_text-c.result (c.with_text-c.ensures ∙ ap (λ (k : Scope). with_block k 2 (q.result.writer.low - a.around.writer.low)) c.with_count.ensures) h.3.page h.3.texts h.3.indent h.3.ent h.3.rule B in
     let n = C.1 in
     let e = B.depth in
@@ -1621,7 +1621,7 @@ render_text-returns t c = let a = c.args in
     record {
       at = λ page texts indent ent rule D.
           let C = text_goes a.s.now a.b.now a.options a.around a.scopes sized a.d a.o a.p a.e a.name a.at
-          a.rc a.top a.page.now a.texts.now a.indent.now a.ent.now q.result q.new.page q.new.texts q.new.indent q.new.ent q.ensures c.if-q-ne0.false
+          a.rc a.top a.page.now a.texts.now a.indent.now a.ent.now q.result q.new.page q.new.texts q.new.indent q.new.ent q.ensures (none_of _ (sym c.is_some.ensures ∙ c.if-is_some.false))
           u.result u.new.texts u.new.indent u.ensures c.with_text-c.result (c.with_text-c.ensures ∙ ap (λ (k : Scope). with_block k 2 (q.result.writer.low - a.around.writer.low)) c.with_count.ensures) page texts indent ent rule D in
           subst (λ (x : RenderContext). Renders a.s.now a.b.now a.options (world (whole a.around a.scopes) page texts indent ent) (over x w₄) rule) (sym (c.finish_partial.ensures a.scopes))
           (concluded_any a.s.now a.b.now a.options (world (whole a.around a.scopes) page texts indent ent) v.result a.scopes m₂ v.new.page v.new.texts v.new.indent v.new.ent rule (whole a.around a.scopes) (C.0.done w₄ v.ensures));
@@ -1804,8 +1804,8 @@ render_turns-render_elements-q-requires t c = let a = c.args in
     let y = unnamed-used l.q q₁ N in
     (omega (arith, u, m, y, c.decreases), (h.0, subst (λ (z : RenderContext). Ready a.s.now a.b.now (over z lw)) (sym (unnamed-topped l.q q₁ N a.scopes x)) (array_ready a.s.now a.b.now a.options w a.d a.at a.p a.v h.1 h.5 h.0.plan.answers h.0.small h.3 a.scopes sized l.q l.c l.page l.texts l.indent l.ent l.k item key object last E x is), omega (arith, h.2), h.4, no_name a.b.now, turn-count l.q q₁ N i.going.within.ready.most x item key l.k object last l.c is))
 
-pub render_turns-shape_of-ent-then-q-ne0 : goal.render_turns-shape_of-ent-then-q-ne0
-render_turns-shape_of-ent-then-q-ne0 t c = let a = c.args in
+pub render_turns-shape_of-ent-then-is_some : goal.render_turns-shape_of-ent-then-is_some
+render_turns-shape_of-ent-then-is_some t c = let a = c.args in
     let h = c.requires in
     let w : World = world (whole a.rc a.scopes) a.page.now a.texts.now a.indent.now a.ent.now in
     let sized : length a.scopes ≡ 32 = array_sized a.s.now a.b.now a.rc a.scopes a.page.now a.texts.now a.indent.now a.ent.now h.1 in
@@ -1820,8 +1820,8 @@ render_turns-shape_of-ent-then-q-ne0 t c = let a = c.args in
     let i = l.invariant h.1 h.5 h.0.plan.answers h.0.small h.3 H in
     omega (arith, (each_sizes a.s.now a.b.now a.options w a.d a.at a.p a.v h.1 h.5 h.0.plan.answers h.0.small h.3 lw l.k l.turn i).ent, c.render_elements-q.auto.ent)
 
-pub render_turns-shape_of-page-then-q-ne0 : goal.render_turns-shape_of-page-then-q-ne0
-render_turns-shape_of-page-then-q-ne0 t c = let a = c.args in
+pub render_turns-shape_of-page-then-is_some : goal.render_turns-shape_of-page-then-is_some
+render_turns-shape_of-page-then-is_some t c = let a = c.args in
     let h = c.requires in
     let w : World = world (whole a.rc a.scopes) a.page.now a.texts.now a.indent.now a.ent.now in
     let sized : length a.scopes ≡ 32 = array_sized a.s.now a.b.now a.rc a.scopes a.page.now a.texts.now a.indent.now a.ent.now h.1 in
@@ -1836,8 +1836,8 @@ render_turns-shape_of-page-then-q-ne0 t c = let a = c.args in
     let i = l.invariant h.1 h.5 h.0.plan.answers h.0.small h.3 H in
     omega (arith, (each_sizes a.s.now a.b.now a.options w a.d a.at a.p a.v h.1 h.5 h.0.plan.answers h.0.small h.3 lw l.k l.turn i).page, c.render_elements-q.auto.page)
 
-pub render_turns-shape_of-texts-then-q-ne0 : goal.render_turns-shape_of-texts-then-q-ne0
-render_turns-shape_of-texts-then-q-ne0 t c = let a = c.args in
+pub render_turns-shape_of-texts-then-is_some : goal.render_turns-shape_of-texts-then-is_some
+render_turns-shape_of-texts-then-is_some t c = let a = c.args in
     let h = c.requires in
     let w : World = world (whole a.rc a.scopes) a.page.now a.texts.now a.indent.now a.ent.now in
     let sized : length a.scopes ≡ 32 = array_sized a.s.now a.b.now a.rc a.scopes a.page.now a.texts.now a.indent.now a.ent.now h.1 in
@@ -1852,8 +1852,8 @@ render_turns-shape_of-texts-then-q-ne0 t c = let a = c.args in
     let i = l.invariant h.1 h.5 h.0.plan.answers h.0.small h.3 H in
     omega (arith, (each_sizes a.s.now a.b.now a.options w a.d a.at a.p a.v h.1 h.5 h.0.plan.answers h.0.small h.3 lw l.k l.turn i).texts, c.render_elements-q.auto.texts)
 
-pub render_turns-shape_of-indent-then-q-ne0 : goal.render_turns-shape_of-indent-then-q-ne0
-render_turns-shape_of-indent-then-q-ne0 t c = let a = c.args in
+pub render_turns-shape_of-indent-then-is_some : goal.render_turns-shape_of-indent-then-is_some
+render_turns-shape_of-indent-then-is_some t c = let a = c.args in
     let h = c.requires in
     let w : World = world (whole a.rc a.scopes) a.page.now a.texts.now a.indent.now a.ent.now in
     let sized : length a.scopes ≡ 32 = array_sized a.s.now a.b.now a.rc a.scopes a.page.now a.texts.now a.indent.now a.ent.now h.1 in
@@ -1868,8 +1868,8 @@ render_turns-shape_of-indent-then-q-ne0 t c = let a = c.args in
     let i = l.invariant h.1 h.5 h.0.plan.answers h.0.small h.3 H in
     omega (arith, (each_sizes a.s.now a.b.now a.options w a.d a.at a.p a.v h.1 h.5 h.0.plan.answers h.0.small h.3 lw l.k l.turn i).indent, c.render_elements-q.auto.indent)
 
-pub render_turns-returns-then-q-ne0 : goal.render_turns-returns-then-q-ne0
-render_turns-returns-then-q-ne0 t c = let a = c.args in
+pub render_turns-returns-then-is_some : goal.render_turns-returns-then-is_some
+render_turns-returns-then-is_some t c = let a = c.args in
     let h = c.requires in
     let w : World = world (whole a.rc a.scopes) a.page.now a.texts.now a.indent.now a.ent.now in
     let sized : length a.scopes ≡ 32 = array_sized a.s.now a.b.now a.rc a.scopes a.page.now a.texts.now a.indent.now a.ent.now h.1 in
@@ -1892,7 +1892,7 @@ render_turns-returns-then-q-ne0 t c = let a = c.args in
     let q₁ = c.set_current_template_name-q.result in
     let N = c.set_current_template_name-q.ensures in
     let D = unnamed-drawn a.s.now a.b.now a.options l.q q₁ N a.scopes x l.page l.texts l.indent l.ent c.render_elements-q.result c.render_elements-q.new.page c.render_elements-q.new.texts c.render_elements-q.new.indent c.render_elements-q.new.ent (body_rule a.b.now a.d a.p 0) c.render_elements-q.ensures in
-    array_stopped a.s.now a.b.now a.options w a.d a.at a.p a.v h.1 h.5 h.0.plan.answers h.0.small h.3 a.scopes sized l.q l.c l.page l.texts l.indent l.ent l.k item key object last E x is c.render_elements-q.result c.render_elements-q.new.page c.render_elements-q.new.texts c.render_elements-q.new.indent c.render_elements-q.new.ent D c.if-q-ne0.true
+    array_stopped a.s.now a.b.now a.options w a.d a.at a.p a.v h.1 h.5 h.0.plan.answers h.0.small h.3 a.scopes sized l.q l.c l.page l.texts l.indent l.ent l.k item key object last E x is c.render_elements-q.result c.render_elements-q.new.page c.render_elements-q.new.texts c.render_elements-q.new.indent c.render_elements-q.new.ent D (some_of _ (sym c.is_some.ensures ∙ c.if-is_some.true))
 
 pub render_turns-overflow_add-k : goal.render_turns-overflow_add-k
 render_turns-overflow_add-k t c = let a = c.args in
@@ -1940,7 +1940,7 @@ render_turns-next_turn-turn-requires t c = let a = c.args in
     let q₁ = c.set_current_template_name-q.result in
     let N = c.set_current_template_name-q.ensures in
     let D = unnamed-drawn a.s.now a.b.now a.options l.q q₁ N a.scopes x l.page l.texts l.indent l.ent c.render_elements-q.result c.render_elements-q.new.page c.render_elements-q.new.texts c.render_elements-q.new.indent c.render_elements-q.new.ent (body_rule a.b.now a.d a.p 0) c.render_elements-q.ensures in
-    (h.0.plan, h.0.small, array_before a.s.now a.b.now a.options w a.d a.at a.p a.v h.1 h.5 h.0.plan.answers h.0.small h.3 a.scopes sized l.q l.c l.page l.texts l.indent l.ent l.k item key object last E x is c.render_elements-q.result c.render_elements-q.new.page c.render_elements-q.new.texts c.render_elements-q.new.indent c.render_elements-q.new.ent D c.if-q-ne0.false)
+    (h.0.plan, h.0.small, array_before a.s.now a.b.now a.options w a.d a.at a.p a.v h.1 h.5 h.0.plan.answers h.0.small h.3 a.scopes sized l.q l.c l.page l.texts l.indent l.ent l.k item key object last E x is c.render_elements-q.result c.render_elements-q.new.page c.render_elements-q.new.texts c.render_elements-q.new.indent c.render_elements-q.new.ent D (none_of _ (sym c.is_some.ensures ∙ c.if-is_some.false)))
 
 pub render_turns-loop-turn-smaller : goal.render_turns-loop-turn-smaller
 render_turns-loop-turn-smaller t c = let a = c.args in
@@ -1981,4 +1981,4 @@ render_turns-loop-turn-preserved t c = let a = c.args in
     let q₁ = c.set_current_template_name-q.result in
     let N = c.set_current_template_name-q.ensures in
     let D = unnamed-drawn a.s.now a.b.now a.options l.q q₁ N a.scopes x l.page l.texts l.indent l.ent c.render_elements-q.result c.render_elements-q.new.page c.render_elements-q.new.texts c.render_elements-q.new.indent c.render_elements-q.new.ent (body_rule a.b.now a.d a.p 0) c.render_elements-q.ensures in
-    array_again a.s.now a.b.now a.options w a.d a.at a.p a.v r z ok small held a.scopes sized l.q l.c l.page l.texts l.indent l.ent l.k item key object last E x is c.render_elements-q.result c.render_elements-q.new.page c.render_elements-q.new.texts c.render_elements-q.new.indent c.render_elements-q.new.ent D c.if-q-ne0.false c.next_turn-turn.result c.next_turn-turn.ensures
+    array_again a.s.now a.b.now a.options w a.d a.at a.p a.v r z ok small held a.scopes sized l.q l.c l.page l.texts l.indent l.ent l.k item key object last E x is c.render_elements-q.result c.render_elements-q.new.page c.render_elements-q.new.texts c.render_elements-q.new.indent c.render_elements-q.new.ent D (none_of _ (sym c.is_some.ensures ∙ c.if-is_some.false)) c.next_turn-turn.result c.next_turn-turn.ensures

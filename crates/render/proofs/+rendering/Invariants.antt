@@ -1,3 +1,4 @@
+use Rattle.std.specs.Prelude.{Some, None}
 use Prim.Native.Nat.{ℕ, ◌+◌, ◌*◌, ◌-◌, ◌<◌}
 use borrow.Author.Rules.{rules}
 use Prim.Native.Nat.{ℕ}
@@ -46,7 +47,7 @@ use Rattle.helpers.specs.declared.Shows.TheVariants as shows
 use Rattle.state.specs.declared.RenderContext as code
 use Rattle.state.specs.Setters.{wrote}
 use Rattle.plain.specs.Plain.{TextIs, OneDrawn, ShowsAt, LookupAt, ShownIs}
-use Rattle.plain.specs.Laws.{text_here, value_known, value_here, nothing_here, refused_here, refusal_number, wrote_all}
+use Rattle.plain.specs.Laws.{text_here, value_known, value_here, nothing_here, refused_here, wrote_all}
 use Rattle.plain.specs.Put.{fed_same, value_same, value_by}
 use Rattle.rules.specs.BundleLaws.{bits_size, bits_binary}
 use Rattle.rules.specs.LayoutLaws.{field_lt}
@@ -65,11 +66,9 @@ use Rattle.helping.specs.Begun.{HelperBegun, opened}
 use Rattle.helping.specs.Decided.{helper_rule}
 use Rattle.render.specs.Laws.{left_drawn, finished_drawn, top_front}
 use mathlib.Core.Path.{refl, sym, subst}
-use Rattle.parts.specs.declared.Maybe.TheVariants.{Nothing}
 use Rattle.drawing.specs.Arrays.{array_sized, concluded_any}
 use Rattle.beginning.specs.Opened.{PartialBegun, partial_rule}
 use Rattle.render.specs.Laws.{no_own, left_drawn}
-use Rattle.parts.specs.declared.Maybe.TheVariants.{At}
 use Rattle.state.specs.Setters.{with_template, settled}
 use Rattle.render.specs.Laws.{left_drawn, finished_drawn}
 use mathlib.Core.Path.{refl, sym, ap, ◌∙◌, subst}

@@ -44,14 +44,14 @@ pub begin-requires-2 : goal.begin-requires-2
 begin-requires-2 c = let a = c.args in
     let h = c.requires in
     let cur = front_current a.scopes a.rc a.front h.7 in
-    let does = c.in-Is.does in
-    let D = decided_whole a.s.now a.b.now a.ent.now a.rc a.scopes a.page.now a.texts.now a.indent.now h.2 a.options a.d a.p a.template a.inverse does cur (subst (DecidedNear a.s.now a.b.now a.ent.now a.front a.rc.names a.rc.used a.options a.d a.p (is_at a.template) (is_at a.inverse)) c.in-Is.is c.decide_near-near.ensures a.scopes (array_newest a.s.now a.b.now a.rc a.scopes a.page.now a.texts.now a.indent.now a.ent.now h.2 a.front h.7)) in
+    let does = c.in-Some.does in
+    let D = decided_whole a.s.now a.b.now a.ent.now a.rc a.scopes a.page.now a.texts.now a.indent.now h.2 a.options a.d a.p a.template a.inverse does cur (subst (DecidedNear a.s.now a.b.now a.ent.now a.front a.rc.names a.rc.used a.options a.d a.p (is_at a.template) (is_at a.inverse)) c.in-Some.is c.decide_near-near.ensures a.scopes (array_newest a.s.now a.b.now a.rc a.scopes a.page.now a.texts.now a.indent.now a.ent.now h.2 a.front h.7)) in
     (h.0, h.1, doable a.s.now a.b.now a.ent.now a.rc a.scopes a.page.now a.texts.now a.indent.now h.2 a.front a.options a.d a.p a.template a.inverse does h.7 D, h.4)
 
 pub returns : goal.returns
 returns c = let a = c.args in
     let h = c.requires in
     let cur = front_current a.scopes a.rc a.front h.7 in
-    let does = c.in-Is.does in
-    let D = decided_whole a.s.now a.b.now a.ent.now a.rc a.scopes a.page.now a.texts.now a.indent.now h.2 a.options a.d a.p a.template a.inverse does cur (subst (DecidedNear a.s.now a.b.now a.ent.now a.front a.rc.names a.rc.used a.options a.d a.p (is_at a.template) (is_at a.inverse)) c.in-Is.is c.decide_near-near.ensures a.scopes (array_newest a.s.now a.b.now a.rc a.scopes a.page.now a.texts.now a.indent.now a.ent.now h.2 a.front h.7)) in
+    let does = c.in-Some.does in
+    let D = decided_whole a.s.now a.b.now a.ent.now a.rc a.scopes a.page.now a.texts.now a.indent.now h.2 a.options a.d a.p a.template a.inverse does cur (subst (DecidedNear a.s.now a.b.now a.ent.now a.front a.rc.names a.rc.used a.options a.d a.p (is_at a.template) (is_at a.inverse)) c.in-Some.is c.decide_near-near.ensures a.scopes (array_newest a.s.now a.b.now a.rc a.scopes a.page.now a.texts.now a.indent.now a.ent.now h.2 a.front h.7)) in
     (c.begin-2.ensures.helper_begun a.scopes a.options a.d a.p h.7 h.2 D h.5 h.6, c.begin-2.ensures.top_is.count, c.begin-2.ensures.top_is)

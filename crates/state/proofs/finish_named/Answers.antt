@@ -1,13 +1,13 @@
+use mathlib.Core.Bool.{not}
 use Rattle.state.specs.Setters as set
 use Rattle.state.specs.Context.{whole}
 use Rattle.output.specs.declared.Writer.{Writer}
-use mathlib.Core.Path.{◌∙◌, ap}
-use borrow.Author.Tests.{eq-eqb, ne_eqb}
+use mathlib.Core.Path.{◌∙◌, ap, sym}
 use borrow.Author.Rules.{rules}
 use Rattle.state.proofs.finish_named.Goals as goal
 
-pub returns-then-q-eq0 : goal.returns-then-q-eq0
-returns-then-q-eq0 c = λ l. ap (λ (w : Writer). set.with_writer (set.with_template (whole c.args.rc l) c.args.name) w) c.settle_marks-q.ensures ∙ rw (eq-eqb c.args.rc.bad 0 c.if-q-eq0.true)
+pub returns-then-is_none : goal.returns-then-is_none
+returns-then-is_none c = λ l. ap (λ (w : Writer). set.with_writer (set.with_template (whole c.args.rc l) c.args.name) w) c.settle_marks-q.ensures ∙ rw (c.is_none.ensures ∙ ap not c.if-is_none.true)
 
-pub returns-else-q-eq0 : goal.returns-else-q-eq0
-returns-else-q-eq0 c = λ l. rw (ne_eqb c.args.rc.bad 0 c.if-q-eq0.false)
+pub returns-else-is_none : goal.returns-else-is_none
+returns-else-is_none c = λ l. rw (c.is_none.ensures ∙ ap not c.if-is_none.false)

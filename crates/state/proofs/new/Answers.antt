@@ -1,3 +1,4 @@
+use Rattle.std.specs.Prelude.{None}
 use mathlib.Core.Bool.{false}
 use mathlib.Core.Path.{ap}
 use lib.ListN.{replicate}
@@ -8,7 +9,7 @@ use borrow.Author.Rules.{rules}
 use Rattle.state.proofs.new.Goals as goal
 
 abbrev started : Writer → RenderContext
-started w = record { scopes = replicate 32 blank; used = 1; writer = w; total = 0; template = 0; named = 0; line = 0; column = 0; names = 0; bad = 0; placed = false; disable_escape = false }
+started w = record { scopes = replicate 32 blank; used = 1; writer = w; total = 0; template = 0; named = 0; line = 0; column = 0; names = 0; bad = None; placed = false; disable_escape = false }
 
 pub returns : goal.returns
 returns c = ap started c.new.ensures

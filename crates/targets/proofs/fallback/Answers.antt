@@ -3,8 +3,8 @@ use mathlib.Core.Path.{◌∙◌, ap, sym}
 use borrow.Author.Rules.{rules}
 use Rattle.targets.proofs.fallback.Goals as goal
 
-pub returns-in-At : goal.returns-in-At
-returns-in-At c = sym (ap fallback c.in-At.is)
+pub returns-in-Some : goal.returns-in-Some
+returns-in-Some c = sym (ap fallback c.in-Some.is)
 
-pub returns-in-Nothing : goal.returns-in-Nothing
-returns-in-Nothing c = sym (ap fallback c.in-Nothing.is)
+pub returns-in-None : goal.returns-in-None
+returns-in-None c = sym (ap fallback c.in-None.is)

@@ -12,7 +12,4 @@ use borrow.Author.Rules.{rules}
 use Rattle.texts.proofs.peek_partial_block.Given as goal
 
 abbrev pub invariant-loop-i : goal.invariant-loop-i
-invariant-loop-i l = (l.i ≤ l.initial.i) × (l.from + sizes_of l.scopes l.i ≡ l.initial.from + sizes_of l.scopes l.initial.i) × (peeked l.scopes l.i l.from ≡ peeked l.scopes l.initial.i l.initial.from)
-
-abbrev pub decreases-loop-i : goal.decreases-loop-i
-decreases-loop-i l = l.i
+invariant-loop-i l = (l.from + sizes_of l.scopes l.i ≡ l.initial.from + sizes_of l.scopes l.initial.i) × (peeked l.scopes l.i l.from ≡ peeked l.scopes l.initial.i l.initial.from)

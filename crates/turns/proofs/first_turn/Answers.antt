@@ -28,8 +28,8 @@ returns-in_default-place_of c = λ t st.
 pub place_turn-requires : goal.place_turn-requires
 place_turn-requires c = let a = c.args in
     let p = c.requires in
-    let e = sym c.place_of.ensures ∙ ap found c.in-At.is in
-    (p.0, place_within a.s.now a.b.now a.ent.now p.2.used c.in-At.i a.v e p.2.stands, e, first_behind a.s.now c.in-At.i)
+    let e = sym c.place_of.ensures ∙ ap found c.in-Some.is in
+    (p.0, place_within a.s.now a.b.now a.ent.now p.2.used c.in-Some.i a.v e p.2.stands, e, first_behind a.s.now c.in-Some.i)
 
 pub returns : goal.returns
 returns c = c.place_turn.ensures c.args.b.now c.args.ent.now

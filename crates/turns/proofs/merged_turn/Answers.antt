@@ -22,16 +22,16 @@ pub next_member-requires-2 : goal.next_member-requires-2
 next_member-requires-2 c = let a = c.args in
     let p = c.requires in
     let m = is_merged a.v p.3 in
-    (p.0, p.1, p.2, merged_key a.s.now a.b.now a.ent.now a.tab.now p.0 a.v p.2 m.0 m.1 m.2 a.k (first_of (above (after_name a.s.now a.b.now a.after) (base_map (json_of a.s.now a.b.now a.ent.now a.v)))) p.5 c.next_member.result c.next_member.ensures.0 c.next_member.ensures.1 c.in-Is.key c.in-Is.item c.in-Is.is)
+    (p.0, p.1, p.2, merged_key a.s.now a.b.now a.ent.now a.tab.now p.0 a.v p.2 m.0 m.1 m.2 a.k (first_of (above (after_name a.s.now a.b.now a.after) (base_map (json_of a.s.now a.b.now a.ent.now a.v)))) p.5 c.next_member.result c.next_member.ensures.0 c.next_member.ensures.1 c.in-Some.key c.in-Some.item c.in-Some.is)
 
-pub returns-in-Is-next_member : goal.returns-in-Is-next_member
-returns-in-Is-next_member c = let a = c.args in
+pub returns-in-Some-next_member : goal.returns-in-Some-next_member
+returns-in-Some-next_member c = let a = c.args in
     let p = c.requires in
     let m = is_merged a.v p.3 in
-    merged_is a.s.now a.b.now a.ent.now a.tab.now p.0 a.v p.2 m.0 m.1 m.2 a.k (first_of (above (after_name a.s.now a.b.now a.after) (base_map (json_of a.s.now a.b.now a.ent.now a.v)))) p.5 c.next_member.result c.next_member.ensures.0 c.next_member.ensures.1 c.in-Is.key c.in-Is.item c.in-Is.is c.next_member-2.result c.next_member-2.ensures.0 _ (sym (ap (λ r. is_end (shown a.s.now a.b.now (json_of a.s.now a.b.now a.ent.now) r)) c.in-Is-next_member.is))
+    merged_is a.s.now a.b.now a.ent.now a.tab.now p.0 a.v p.2 m.0 m.1 m.2 a.k (first_of (above (after_name a.s.now a.b.now a.after) (base_map (json_of a.s.now a.b.now a.ent.now a.v)))) p.5 c.next_member.result c.next_member.ensures.0 c.next_member.ensures.1 c.in-Some.key c.in-Some.item c.in-Some.is c.next_member-2.result c.next_member-2.ensures.0 _ (sym (ap (λ r. is_end (shown a.s.now a.b.now (json_of a.s.now a.b.now a.ent.now) r)) c.in-Some-next_member.is))
 
-pub returns-in-Nothing : goal.returns-in-Nothing
-returns-in-Nothing c = let a = c.args in
+pub returns-in-None : goal.returns-in-None
+returns-in-None c = let a = c.args in
     let p = c.requires in
     let m = is_merged a.v p.3 in
-    merged_is a.s.now a.b.now a.ent.now a.tab.now p.0 a.v p.2 m.0 m.1 m.2 a.k (first_of (above (after_name a.s.now a.b.now a.after) (base_map (json_of a.s.now a.b.now a.ent.now a.v)))) p.5 c.next_member.result c.next_member.ensures.0 c.next_member.ensures.1 c.in-Is.key c.in-Is.item c.in-Is.is c.next_member-2.result c.next_member-2.ensures.0 _ (sym (ap (λ r. is_end (shown a.s.now a.b.now (json_of a.s.now a.b.now a.ent.now) r)) c.in-Nothing.is))
+    merged_is a.s.now a.b.now a.ent.now a.tab.now p.0 a.v p.2 m.0 m.1 m.2 a.k (first_of (above (after_name a.s.now a.b.now a.after) (base_map (json_of a.s.now a.b.now a.ent.now a.v)))) p.5 c.next_member.result c.next_member.ensures.0 c.next_member.ensures.1 c.in-Some.key c.in-Some.item c.in-Some.is c.next_member-2.result c.next_member-2.ensures.0 _ (sym (ap (λ r. is_end (shown a.s.now a.b.now (json_of a.s.now a.b.now a.ent.now) r)) c.in-None.is))

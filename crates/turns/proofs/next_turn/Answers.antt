@@ -38,9 +38,9 @@ pub place_turn-requires : goal.place_turn-requires
 place_turn-requires c = let a = c.args in
     let p = c.requires in
     let w = p.2 in
-    let e = sym c.place_of.ensures ∙ ap found c.in-At.is in
+    let e = sym c.place_of.ensures ∙ ap found c.in-Some.is in
     let u = subst (TurnAt a.s.now a.b.now a.ent.now w.used a.v w.number) c.in-Item.is w.turn in
-    (p.0, place_within a.s.now a.b.now a.ent.now w.used c.in-At.i a.v e w.stands, e, next_behind a.s.now a.b.now a.ent.now a.tab.now p.0 w.used a.v w.stands a.k w.number w.next _ _ _ _ u c.in-At.i e c.place_of-2.result c.place_of-2.ensures)
+    (p.0, place_within a.s.now a.b.now a.ent.now w.used c.in-Some.i a.v e w.stands, e, next_behind a.s.now a.b.now a.ent.now a.tab.now p.0 w.used a.v w.stands a.k w.number w.next _ _ _ _ u c.in-Some.i e c.place_of-2.result c.place_of-2.ensures)
 
 pub returns : goal.returns
 returns c = c.place_turn.ensures c.args.b.now c.args.ent.now

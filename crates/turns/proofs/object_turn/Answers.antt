@@ -13,14 +13,14 @@ returns-in_default c = let a = c.args in
 pub next_member-requires : goal.next_member-requires
 next_member-requires c = let a = c.args in
     let p = c.requires in
-    (p.0, p.1, (object_latest a.s.now a.tab.now p.0 a.i p.1 a.v p.2 a.k p.3 a.after p.4 c.next_member-at.result c.next_member-at.ensures c.in-At.c c.in-At.is).child.within)
+    (p.0, p.1, (object_latest a.s.now a.tab.now p.0 a.i p.1 a.v p.2 a.k p.3 a.after p.4 c.next_member-at.result c.next_member-at.ensures c.in-Some.c c.in-Some.is).child.within)
 
 pub name-requires : goal.name-requires
 name-requires c = let a = c.args in
     let p = c.requires in
-    (p.0, (object_latest a.s.now a.tab.now p.0 a.i p.1 a.v p.2 a.k p.3 a.after p.4 c.next_member-at.result c.next_member-at.ensures c.in-At.c c.in-At.is).child.within)
+    (p.0, (object_latest a.s.now a.tab.now p.0 a.i p.1 a.v p.2 a.k p.3 a.after p.4 c.next_member-at.result c.next_member-at.ensures c.in-Some.c c.in-Some.is).child.within)
 
 pub returns : goal.returns
 returns c = let a = c.args in
     let p = c.requires in
-    object_is a.s.now a.tab.now p.0 a.i p.1 a.v p.2 a.k p.3 a.after p.4 c.next_member-at.result c.next_member-at.ensures c.in-At.c c.in-At.is c.next_member.result c.next_member.ensures c.is_end-last.result c.is_end-last.ensures c.inner.result c.inner.ensures c.name.result c.name.ensures.0 c.name.ensures.1
+    object_is a.s.now a.tab.now p.0 a.i p.1 a.v p.2 a.k p.3 a.after p.4 c.next_member-at.result c.next_member-at.ensures c.in-Some.c c.in-Some.is c.next_member.result c.next_member.ensures c.is_end-last.result c.is_end-last.ensures c.inner.result c.inner.ensures c.name.result c.name.ensures.0 c.name.ensures.1
