@@ -1,5 +1,7 @@
 -- The answer that a drawing leaves.
-use Rattle.std.specs.Prelude.{ℕ, zero, suc, ◌<◌, Bool, ◌&&◌, List, ◌≡◌, ltb, take}
+use Rattle.std.specs.Prelude.{ℕ, zero, suc, ◌<◌, Bool, ◌&&◌, List, ◌≡◌, ltb, take, Option as RustOption, Some, None}
+use Rattle.error.specs.Reasons.{number_of, number_is, not_none}
+use Rattle.std.specs.Option.{is_some}
 use Rattle.std.proofs.Math.Bool.{true, false}
 use Rattle.std.proofs.Common.{⊎_elim, sym, ap, ap₂, ◌∙◌, eq-or-lt_of_le, le_of_suc-le-suc, arith, length-take-le, eqb-true}
 use Rattle.std.proofs.Math.Option.{none, some}
@@ -18,6 +20,7 @@ use Rattle.state.specs.Setters.{fresh}
 use Rattle.state.specs.World.{world, outputs_of, name_at, reason_of, position_of, error_of, Drawn, Draws}
 use Rattle.handlebars.specs.declared.Answer.{Answer}
 use Rattle.rules.specs.Call as rules
+use Rattle.error.specs.declared.RenderErrorReason.{RenderErrorReason as Reason}
 
 -- a refusal by one of the first ten checks
 abbrev pub refusal : ℕ → Answer
@@ -31,7 +34,7 @@ abbrev pub failure : RenderContext → Answer
 failure c = record { number = number (reason_of c.bad); template = c.named; line = line_of (position_of c); column = column_of (position_of c); length = 0 }
 
 abbrev pub answer_of : RenderContext → Answer
-answer_of c = pick (eqb c.bad 0) (success c.writer.written) (failure c)
+answer_of c = pick (is_some c.bad) (failure c) (success c.writer.written)
 
 placed : RenderContext → ℕ → Bool → Answer
 placed c n p = record { number = n; template = c.named; line = line_of (pick p (some (record { line = c.line; column = c.column })) none); column = column_of (pick p (some (record { line = c.line; column = c.column })) none); length = 0 }
@@ -45,6 +48,10 @@ pub failure_nowhere : (c : RenderContext) (n : ℕ) → n ≡ number (reason_of 
 unfolding placed
 failure_nowhere c n e h = ap₂ (placed c) e (sym h)
 
+-- the number of the reason that it holds
+pub number_so : {c : RustOption Reason} (e : Reason) {n : ℕ} → c ≡ Some e → n ≡ number_of e → n ≡ number (reason_of c)
+number_so e q z = z ∙ sym (number_is e) ∙ ap (λ (o : RustOption Reason). number (reason_of o)) (sym q)
+
 -- r says what the rules' answer a has: b is the bundle, p the page
 pub record Shown (b : Bytes) (r : Answer) (p : Bytes) (a : rules.Answer) : Type 0 where
   pub number : r.number ≡ a.number
@@ -54,30 +61,9 @@ pub record Shown (b : Bytes) (r : Answer) (p : Bytes) (a : rules.Answer) : Type 
   pub length : r.length ≡ length a.text
   pub text : take r.length p ≡ a.text
 
--- The numbers of the refusals that a drawing meets: a test that is computed at each byte
-
-as_given : ℕ → Bool
-as_given n = eqb (number (reason_of n)) (pick (ltb n 11) 25 (pick (ltb 24 n) 25 n))
-
-all_below : ℕ → Bool
-all_below zero = true
-all_below (suc n) = as_given n && all_below n
-
 pub both_are : (t u : Bool) → (t && u) ≡ true → (t ≡ true) × (u ≡ true)
 both_are true u e = (refl, e)
 both_are false u e = let z : ◌≡◌ {A = ℕ} 0 1 = cc in absurd (omega arith)
-
-below : (n : ℕ) → all_below n ≡ true → (k : ℕ) → k < n → as_given k ≡ true
-unfolding all_below
-below zero e k lt = absurd (omega arith)
-below (suc n) e k lt =
-    let x = both_are (as_given n) (all_below n) e in
-    ⊎_elim (λ (q : k ≡ n). ap as_given q ∙ x.0) (λ (l : k < n). below n x.1 k l) (eq-or-lt_of_le (le_of_suc-le-suc lt))
-
--- those of a byte are as the context has them, or 25
-pub number_is : (n : ℕ) → n < 256 → number (reason_of n) ≡ pick (ltb n 11) 25 (pick (ltb 24 n) 25 n)
-unfolding as_given all_below
-number_is n lt = eqb-true _ _ (below 256 refl n lt)
 
 -- What a drawing from a fresh context leaves
 
@@ -93,10 +79,10 @@ module _ (s b p t i : Bytes) (e : List ℕ) (r : RenderContext) (p' t' i' : Byte
 
   pub shown : (a : Answer) → a ≡ answer_of r → Shown b a p' (answer x)
   unfolding error_of
-  shown a q = subst (λ (a : Answer). Shown b a p' (answer x)) (sym q) (go (eqb r.bad 0) refl)
+  shown a q = subst (λ (a : Answer). Shown b a p' (answer x)) (sym q) (go r.bad refl)
     where
-      go : (y : Bool) → eqb r.bad 0 ≡ y → Shown b (pick y (success r.writer.written) (failure r)) p' (answer x)
-      go true q = drawn (d.fine (eqb-true _ _ q))
-      go false q =
-          subst (λ (y : Res). Shown b (failure r) p' (answer y)) (sym (d.refused (eqb-false _ _ q)))
+      go : (y : RustOption Reason) → r.bad ≡ y → Shown b (pick (is_some y) (failure r) (success r.writer.written)) p' (answer x)
+      go None q = drawn (d.fine q)
+      go (Some e) q =
+          subst (λ (y : Res). Shown b (failure r) p' (answer y)) (sym (d.refused (not_none e q)))
           (record { number = refl; template = refl; line = refl; column = refl; length = refl; text = refl })

@@ -1,5 +1,5 @@
 -- What the first six checks find, and how the rules go on from there.
-use Rattle.std.specs.Prelude.{ℕ, ◌≤◌, ◌<◌, Bool, true, false, ◌&&◌, not, List, [], ◌∷◌, ◌≡◌, refl, leb, length, replicate}
+use Rattle.std.specs.Prelude.{ℕ, ◌≤◌, ◌<◌, Bool, true, false, Err, ◌&&◌, not, List, [], ◌∷◌, ◌≡◌, refl, leb, length, replicate, Option as RustOption, Some, None}
 use Rattle.std.proofs.Math.Option.{Option, none, some}
 use Rattle.std.proofs.Common.{sym, ap, ◌∙◌, subst, arith, le-leb, leb-true}
 use Rattle.rules.specs.Bytes.{Bytes, pick}
@@ -9,16 +9,14 @@ use Rattle.rules.specs.Bundle.{string, body, template, templates, templates_allo
 use Rattle.rules.specs.Plan.{plan, answer}
 use Rattle.rules.specs.Registry.{Limits, get_template}
 use Rattle.rules.specs.Call.{Answer, Inputs, refused, check, checked, long_enough, scratch_lengths, render_call, render_bytes}
-use Rattle.layout.specs.declared.Verdict.{Verdict}
-use Rattle.layout.specs.declared.Verdict.TheVariants.{Accepted, TooLong, PartialContext}
+use Rattle.layout.specs.declared.BundleError.{BundleError}
+use Rattle.layout.specs.declared.BundleError.TheVariants.{TooLong, PartialContext}
 use Rattle.layout.specs.Listed.{BundleListed}
 use Rattle.layout.specs.Text.{text_at}
-use Rattle.layout.specs.Verdict.{verdict, read_verdict, verdict_number}
+use Rattle.layout.specs.Verdict.{Verdict, accepted as all_passed, error_number, verdict, read_verdict, verdict_number}
 use Rattle.parts.specs.Holds.{Holds}
 use Rattle.parts.specs.HoldsLaws.{value_is, tested_holds}
 use Rattle.template.specs.Views.{template_at}
-use Rattle.registry.specs.declared.Found.{Found}
-use Rattle.registry.specs.declared.Found.TheVariants.{Template as Is, Missing}
 use Rattle.registry.specs.Index.{Indexed, listed_indexed}
 use Rattle.registry.specs.Templates.{Standing, accepted_holds, templates_at, templates_count, found_view, found_says, FoundHolds, found_stands}
 use Rattle.expand.specs.declared.Options.{Options}
@@ -55,20 +53,20 @@ Tabled b l = (length l ≡ 64) × Indexed (body 16 16) (bits b) (field (bits b) 
 
 -- it has them where the bundle is accepted, else zeros
 pub record Filled (b : Bytes) (l : List ℕ) : Type 0 where
-  pub accepted : verdict b ≡ Accepted → Tabled b l
-  pub refused : (verdict b ≡ Accepted → ⊥) → l ≡ replicate 64 0
+  pub accepted : verdict b ≡ all_passed → Tabled b l
+  pub refused : (verdict b ≡ all_passed → ⊥) → l ≡ replicate 64 0
 
-pub filled : (b : Bytes) (k : List ℕ) → length k ≡ 64 → (l : List ℕ) → length l ≡ length k → (r : Verdict) → r ≡ verdict b → (r ≡ Accepted → BundleListed (bits b) l) → ((r ≡ Accepted → ⊥) → l ≡ replicate (length k) 0) → Filled b l
+pub filled : (b : Bytes) (k : List ℕ) → length k ≡ 64 → (l : List ℕ) → length l ≡ length k → (r : Verdict) → r ≡ verdict b → (r ≡ all_passed → BundleListed (bits b) l) → ((r ≡ all_passed → ⊥) → l ≡ replicate (length k) 0) → Filled b l
 filled b k e l f r g x y =
     record {
       accepted = λ h. (f ∙ e, listed_indexed (bits b) (accepted_holds b h).templates l (x (g ∙ h)));
       refused = λ h. y (λ q. h (sym g ∙ q)) ∙ ap (λ (n : ℕ). replicate n 0) e;
     }
 
-pub standing_accepted : (b : Bytes) → Standing b → verdict b ≡ Accepted
+pub standing_accepted : (b : Bytes) → Standing b → verdict b ≡ all_passed
 unfolding verdict
 standing_accepted b h =
-    ap (λ (t : Bool). pick t (read_verdict (bundle b)) TooLong) (le-leb (length b) 65536 h.small) ∙ ap read_verdict h.are ∙ ap (λ (t : Bool). pick t PartialContext Accepted) h.plain
+    ap (λ (t : Bool). pick t (read_verdict (bundle b)) (Err TooLong)) (le-leb (length b) 65536 h.small) ∙ ap read_verdict h.are ∙ ap (λ (t : Bool). pick t (Err PartialContext) all_passed) h.plain
 
 -- r is what the checks 2 to 6 find
 pub record Begins (b n : Bytes) (o : Options) (r : Start) : Type 0 where
@@ -104,15 +102,15 @@ unfolding render_bytes
 passed_one x e = ap (λ (t : Bool). check 1 t (λ _. from_two x.bundle_bytes (from_five x.plan_text x.start x.options x.limits))) e
 
 -- 2, 3 and 4
-bundle_refused : (b : Bytes) (f : Templates → Answer) → (verdict b ≡ Accepted → ⊥) → from_two b f ≡ refused (verdict_number (verdict b))
+bundle_refused : (b : Bytes) (f : Templates → Answer) → (verdict b ≡ all_passed → ⊥) → from_two b f ≡ refused (verdict_number (verdict b))
 unfolding verdict
 bundle_refused b f h = go (leb (length b) 65536) (bundle b) h
   where
-    context : (ts : Templates) (t : Bool) → (pick t PartialContext Accepted ≡ Accepted → ⊥) → check 4 (not t) (λ _. f ts) ≡ refused (verdict_number (pick t PartialContext Accepted))
+    context : (ts : Templates) (t : Bool) → (pick t (Err PartialContext) all_passed ≡ all_passed → ⊥) → check 4 (not t) (λ _. f ts) ≡ refused (verdict_number (pick t (Err PartialContext) all_passed))
     context ts true h = refl
     context ts false h = absurd (h refl)
 
-    go : (t : Bool) (m : Option Templates) → (pick t (read_verdict m) TooLong ≡ Accepted → ⊥) → check 2 t (λ _. checked 3 m (λ ts. check 4 (not (partial_context ts)) (λ _. f ts))) ≡ refused (verdict_number (pick t (read_verdict m) TooLong))
+    go : (t : Bool) (m : Option Templates) → (pick t (read_verdict m) (Err TooLong) ≡ all_passed → ⊥) → check 2 t (λ _. checked 3 m (λ ts. check 4 (not (partial_context ts)) (λ _. f ts))) ≡ refused (verdict_number (pick t (read_verdict m) (Err TooLong)))
     go false m h = refl
     go true none h = refl
     go true (some ts) h = context ts (partial_context ts) h
@@ -123,9 +121,9 @@ bundle_passed b f h =
     ∙ ap (λ (m : Option Templates). checked 3 m (λ ts. check 4 (not (partial_context ts)) (λ _. f ts))) h.are
     ∙ ap (λ (t : Bool). check 4 (not t) (λ _. f (templates_at 16 (bits b)))) h.plain
 
-pub refused_at : (b n : Bytes) (o : Options) (v : Verdict) → verdict b ≡ v → 0 < verdict_number v → Begins b n o (Refused (verdict_number v))
-refused_at b n o v e h = record {
-  is = λ s l c q. passed_one (given b s n (options_of o) l c) q ∙ bundle_refused b _ (λ a. let z : verdict_number v ≡ 0 = ap verdict_number (sym e ∙ a) in omega arith) ∙ ap (λ (v : Verdict). refused (verdict_number v)) e;
+pub refused_at : (b n : Bytes) (o : Options) (e : BundleError) → verdict b ≡ Err e → (k : ℕ) → k ≡ error_number e → Begins b n o (Refused k)
+refused_at b n o e h k f = record {
+  is = λ s l c q. passed_one (given b s n (options_of o) l c) q ∙ bundle_refused b _ (λ a. let z : ◌≡◌ {A = Verdict} (Err e) all_passed = sym h ∙ a in cc) ∙ ap (λ (v : Verdict). refused (verdict_number v)) h ∙ ap refused (sym f);
   parts = tt;
 }
 
@@ -142,7 +140,7 @@ module _ (b n : Bytes) (o : Options) (h : Standing b) where
 
   -- 6
   module _ (e : (o.strict && o.guide_truth) ≡ false) where
-    to_six : (v : Found) → found_view (body 16 16) (bits b) (find_template (templates_at 16 (bits b)) n) ≡ v → (s : Bytes) (l : Limits) (c : List ℕ) → long_enough scratch_lengths c ≡ true
+    to_six : (v : RustOption (ℕ × ℕ × ℕ)) → found_view (body 16 16) (bits b) (find_template (templates_at 16 (bits b)) n) ≡ v → (s : Bytes) (l : Limits) (c : List ℕ) → long_enough scratch_lengths c ≡ true
         → render_bytes (given b s n (options_of o) l c) ≡ checked 6 (found_says (body 16 16) (bits b) v) (λ t. checked (answer s) (plan s) (λ json. render_call (record { templates = templates_at 16 (bits b); plan = json; options = options_of o; limits = l }) n t))
     to_six v f s l c q =
         to_five s l c q
@@ -150,14 +148,14 @@ module _ (b n : Bytes) (o : Options) (h : Standing b) where
         ∙ ap (λ (m : Option rule.Template). checked 6 m (λ t. checked (answer s) (plan s) (λ json. render_call (record { templates = templates_at 16 (bits b); plan = json; options = options_of o; limits = l }) n t)))
         ((found_stands 16 (bits b) h.templates n).is ∙ ap (found_says (body 16 16) (bits b)) f)
 
-    pub missing : found_view (body 16 16) (bits b) (find_template (templates_at 16 (bits b)) n) ≡ Missing → Begins b n o (Refused 6)
-    missing f = record { is = to_six Missing f; parts = tt }
+    pub missing : found_view (body 16 16) (bits b) (find_template (templates_at 16 (bits b)) n) ≡ None → Begins b n o (Refused 6)
+    missing f = record { is = to_six None f; parts = tt }
 
-    pub found_at : (k p q : ℕ) → found_view (body 16 16) (bits b) (find_template (templates_at 16 (bits b)) n) ≡ Is k p q → Begins b n o (At p q)
+    pub found_at : (k p q : ℕ) → found_view (body 16 16) (bits b) (find_template (templates_at 16 (bits b)) n) ≡ Some (k, p, q) → Begins b n o (At p q)
     found_at k p q f =
         let x = subst (FoundHolds (body 16 16) (bits b) _ n) f (found_stands 16 (bits b) h.templates n).parts in
         record {
-          is = λ s l c y. to_six (Is k p q) f s l c y
+          is = λ s l c y. to_six (Some (k, p, q)) f s l c y
               ∙ ap (λ (m : Bytes). checked (answer s) (plan s) (λ json. render_call (record { templates = templates_at 16 (bits b); plan = json; options = options_of o; limits = l }) m (template_at 16 16 (bits b) q))) (sym x.2);
           parts = (h, x.1, x.3);
         }

@@ -58,7 +58,7 @@ predicted x = settled x.limits.page x.scratch (render_bytes x)
 
 -- cleared: the page from the place k on, and all but the places
 pub record Emptied (k : ℕ) (p : Bytes) (e : List ℕ) (t i p' : Bytes) (e' : List ℕ) (t' i' : Bytes) : Type 0 where
-  pub page : p' ≡ cleared k p
+  pub page : p' ≡ cleared k 0 p
   pub entries : e' ≡ replicate (length e) 0
   pub texts : t' ≡ replicate (length t) 0
   pub indent : i' ≡ replicate (length i) 0
@@ -81,7 +81,7 @@ same_answer a n t l c x e f g h i =
     ∙ ap (λ (x : Bytes). record { number = a.number; template_name = a.template_name; line = a.line; column = a.column; text = x }) i
 
 -- what was drawn on p, where all behind it is cleared
-pub shown_left : (b : Bytes) (r : Answer) (k : ℕ) (o : rules.Answer) (p p' : Bytes) (a e t i : ℕ) (a' e' : List ℕ) (t' i' : Bytes) → Shown b r p o → length p ≡ k → p' ≡ cleared r.length p → a' ≡ replicate a 0 → e' ≡ replicate e 0 → t' ≡ replicate t 0 → i' ≡ replicate i 0
+pub shown_left : (b : Bytes) (r : Answer) (k : ℕ) (o : rules.Answer) (p p' : Bytes) (a e t i : ℕ) (a' e' : List ℕ) (t' i' : Bytes) → Shown b r p o → length p ≡ k → p' ≡ cleared r.length 0 p → a' ≡ replicate a 0 → e' ≡ replicate e 0 → t' ≡ replicate t 0 → i' ≡ replicate i 0
     → left b r p' (a' ∷ e' ∷ t' ∷ i' ∷ []) ≡ settled k (a ∷ e ∷ t ∷ i ∷ []) o
 shown_left b r k o p p' a e t i a' e' t' i' s n h x y z w =
     let q : p' ≡ page_of k o = h ∙ ap₂ (λ (u : Bytes) (m : ℕ). u ++ replicate m 0) s.text (ap₂ (λ (u v : ℕ). u - v) n s.length) in

@@ -37,10 +37,10 @@ fn clear_lent(
 )
     ensures { Emptied from page.old entries.old texts.old indent.old page.new entries.new texts.new indent.new }
 {
-    clear::clear_u8_from(page, from);
-    clear::clear_u64(entries);
-    clear::clear_u8(texts);
-    clear::clear_u8(indent);
+    clear::clear_from(page, from, 0);
+    clear::clear(entries, 0);
+    clear::clear(texts, 0);
+    clear::clear(indent, 0);
 }
 
 // Checks 7 to 10, then the drawing of the template whose name stands at the place name and whose body at p. The places are zero again at the end.
@@ -88,14 +88,14 @@ fn answer(
     ensures places_after { places.new ≡ replicate (length places.old) 0 }
 {
     if !long_enough(places.len(), entries.len(), texts.len(), indent.len()) {
-        clear::clear_u64(places);
+        clear::clear(places, 0);
         return refused(SCRATCH_TOO_SHORT);
     }
     let mut index: [u32; 64] = [0; 64];
     let from = begin(bundle, start, options, &mut index);
     match from {
         Start::Refused(number) => {
-            clear::clear_u64(places);
+            clear::clear(places, 0);
             refused(number)
         }
         Start::At(name, p) => go_on(

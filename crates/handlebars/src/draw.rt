@@ -3,7 +3,6 @@ ghost use Rattle.std.specs.Prelude.{List, [], ◌≡◌, ℕ, ◌≤◌, length}
 ghost use Rattle.rules.specs.Bits.{bits};
 ghost use Rattle.rules.specs.Bundle.{string, body};
 ghost use Rattle.rules.specs.Call.{render_call};
-ghost use Rattle.rules.specs.Error.{number};
 ghost use Rattle.registry.specs.Templates.{Standing};
 ghost use Rattle.layout.specs.Text.{text_at};
 ghost use Rattle.parts.specs.Holds.{Holds};
@@ -11,36 +10,20 @@ ghost use Rattle.places.specs.Accepted.{Accepted};
 ghost use Rattle.template.specs.Views.{template_at};
 ghost use Rattle.scope.specs.declared.Scope.{Scope};
 ghost use Rattle.state.specs.Context.{whole};
-ghost use Rattle.state.specs.World.{reason_of};
 ghost use Rattle.drawing.specs.Renders.{registry_of};
 ghost use Rattle.handlebars.specs.Answers.{answer_of, Shown};
 ghost use Rattle.handlebars.specs.Begins.{Tabled};
 
 use crate::Answer;
-use crate::numbers::PAGE_LIMIT;
-use error::{BLOCK_TEXTS_LIMIT, MISSING_VARIABLE};
 use expand::Options;
 use render::render_template;
 use state::RenderContext;
-
-// The number of a refusal that a drawing met.
-fn number_of(bad: u8) -> u32
-    ensures { result ≡ number (reason_of bad) }
-{
-    if bad < MISSING_VARIABLE {
-        return PAGE_LIMIT;
-    }
-    if BLOCK_TEXTS_LIMIT < bad {
-        return PAGE_LIMIT;
-    }
-    bad as u32
-}
 
 // The answer that a context stands for. (A context holds a position only where one was met.)
 fn answered(rc: RenderContext) -> Answer
     ensures { (l : List Scope) → result ≡ answer_of (whole rc l) }
 {
-    if rc.bad == 0 {
+    let Some(reason) = rc.bad else {
         let w = rc.writer;
         return Answer {
             number: 0,
@@ -49,8 +32,8 @@ fn answered(rc: RenderContext) -> Answer
             column: 0,
             length: w.written,
         };
-    }
-    let number = number_of(rc.bad);
+    };
+    let number = reason.number();
     if rc.placed {
         return Answer {
             number: number,

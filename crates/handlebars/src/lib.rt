@@ -8,7 +8,6 @@ ghost use Rattle.handlebars.specs.Calls.{inputs, options_from, left, predicted};
 ghost use Rattle.rules.specs.Call.{render_bytes};
 
 use expand::Options;
-use layout::Verdict;
 
 mod call;
 mod draw;
@@ -18,7 +17,7 @@ mod start;
 
 pub use call::render;
 pub use naming::handlebars_template_name;
-use numbers::{BUNDLE_LAYOUT, BUNDLE_TOO_LARGE, PARTIAL_PARAMETER, SCRATCH_TOO_SHORT};
+use numbers::SCRATCH_TOO_SHORT;
 
 // The entries that a table of the plan's values has; include/handlebars.h has the same number.
 pub const VALUES: usize = 4096;
@@ -41,12 +40,9 @@ pub struct Answer {
 pub fn handlebars_check_bundle(bundle: &[u8]) -> u32
     ensures { result ≡ verdict_number (verdict bundle.now) }
 {
-    let v = layout::check_bundle(bundle);
-    match v {
-        Verdict::Accepted => 0,
-        Verdict::TooLong => BUNDLE_TOO_LARGE,
-        Verdict::BadLayout => BUNDLE_LAYOUT,
-        Verdict::PartialContext => PARTIAL_PARAMETER,
+    match layout::check_bundle(bundle) {
+        Ok(()) => 0,
+        Err(e) => u8::from(e) as u32,
     }
 }
 
@@ -56,7 +52,7 @@ pub fn handlebars_check_plan(plan: &[u8], table: &mut [u64]) -> u32
     ensures { (result ≡ plan_number (length table.old) plan.now) × (table.new ≡ plan_table (length table.old) plan.now) }
 {
     if table.len() < VALUES {
-        clear::clear_u64(table);
+        clear::clear(table, 0);
         return SCRATCH_TOO_SHORT;
     }
     plan_read::read_plan(plan, table) as u32

@@ -25,7 +25,7 @@ fn fits(b: &[u8], p: usize, n: usize) -> bool
 pub fn handlebars_template_name(bundle: &[u8], template: usize, out: &mut [u8]) -> usize
     ensures { Filled (template_name bundle.now template (length out.old)) (length out.old) result out.new }
 {
-    clear::clear_u8(out);
+    clear::clear(out, 0);
     if template == 0 {
         return 0;
     }

@@ -1,14 +1,6 @@
 // The numbers of refusals, as wide as an answer has them.
 pub const SCRATCH_TOO_SHORT: u32 = error::SCRATCH_TOO_SHORT as u32;
 
-pub const BUNDLE_TOO_LARGE: u32 = error::BUNDLE_TOO_LARGE as u32;
-
-pub const BUNDLE_LAYOUT: u32 = error::BUNDLE_LAYOUT as u32;
-
-pub const PARTIAL_PARAMETER: u32 = error::PARTIAL_PARAMETER as u32;
-
 pub const STRICT_AND_GUIDE_TRUTH: u32 = error::STRICT_AND_GUIDE_TRUTH as u32;
 
 pub const TEMPLATE_NOT_FOUND: u32 = error::TEMPLATE_NOT_FOUND as u32;
-
-pub const PAGE_LIMIT: u32 = error::PAGE_LIMIT as u32;

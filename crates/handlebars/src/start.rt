@@ -4,12 +4,8 @@ ghost use Rattle.rules.specs.Call.{long_enough, scratch_lengths};
 ghost use Rattle.registry.specs.Templates.{Standing};
 ghost use Rattle.handlebars.specs.Begins.{Begins, Filled};
 
-use crate::numbers::{
-    BUNDLE_LAYOUT, BUNDLE_TOO_LARGE, PARTIAL_PARAMETER, STRICT_AND_GUIDE_TRUTH, TEMPLATE_NOT_FOUND,
-};
+use crate::numbers::{STRICT_AND_GUIDE_TRUTH, TEMPLATE_NOT_FOUND};
 use expand::Options;
-use layout::Verdict;
-use registry::Found;
 
 // The lengths of the scratch buffers (docs/BUFFERS.md); include/handlebars.h has the same numbers.
 const PLACES: usize = 4096;
@@ -57,8 +53,8 @@ fn find(b: &[u8], start: &[u8], options: Options) -> Start
     }
     let f = registry::get_template(b, 16, start);
     match f {
-        Found::Template(_, name, body) => Start::At(name, body),
-        Found::Missing => Start::Refused(TEMPLATE_NOT_FOUND),
+        Some((_, name, body)) => Start::At(name, body),
+        None => Start::Refused(TEMPLATE_NOT_FOUND),
     }
 }
 
@@ -67,11 +63,8 @@ pub fn begin(b: &[u8], start: &[u8], options: Options, index: &mut [u32]) -> Sta
     requires { length index.old ≡ 64 }
     ensures { Begins b.now start.now options result × Filled b.now index.new }
 {
-    let v = layout::check_indexed(b, index);
-    match v {
-        Verdict::Accepted => find(b, start, options),
-        Verdict::TooLong => Start::Refused(BUNDLE_TOO_LARGE),
-        Verdict::BadLayout => Start::Refused(BUNDLE_LAYOUT),
-        Verdict::PartialContext => Start::Refused(PARTIAL_PARAMETER),
+    match layout::check_indexed(b, index) {
+        Ok(()) => find(b, start, options),
+        Err(e) => Start::Refused(u8::from(e) as u32),
     }
 }

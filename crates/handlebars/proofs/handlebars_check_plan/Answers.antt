@@ -7,7 +7,7 @@ use Rattle.handlebars.proofs.handlebars_check_plan.Goals as goal
 
 pub returns-then-table-lt-VALUES : goal.returns-then-table-lt-VALUES
 unfolding plan_number plan_table
-returns-then-table-lt-VALUES c = (yes _ _ _ _ (lt-ltb _ _ c.if-table-lt-VALUES.true) refl, c.clear_u64.ensures ∙ yes _ _ _ _ (lt-ltb _ _ c.if-table-lt-VALUES.true) refl)
+returns-then-table-lt-VALUES c = (yes _ _ _ _ (lt-ltb _ _ c.if-table-lt-VALUES.true) refl, c.clear.ensures ∙ yes _ _ _ _ (lt-ltb _ _ c.if-table-lt-VALUES.true) refl)
 
 pub returns : goal.returns
 unfolding plan_number plan_table

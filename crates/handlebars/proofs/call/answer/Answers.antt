@@ -10,7 +10,7 @@ use Rattle.handlebars.proofs.call.answer.Goals as goal
 pub returns-then-not-long_enough : goal.returns-then-not-long_enough
 returns-then-not-long_enough c = let z = c in
     let y = c.long_enough in
-    (record { shown = refused_shown z.args.bundle.now z.args.page.now 1 _ _ c.refused.ensures (short _ (sym y.ensures ∙ c.if-not-long_enough.true)); places_after = c.clear_u64.ensures })
+    (record { shown = refused_shown z.args.bundle.now z.args.page.now 1 _ _ c.refused.ensures (short _ (sym y.ensures ∙ c.if-not-long_enough.true)); places_after = c.clear.ensures })
 
 pub begin-from-requires : goal.begin-from-requires
 begin-from-requires c = refl
@@ -26,7 +26,7 @@ pub returns-in-Refused : goal.returns-in-Refused
 returns-in-Refused c = let z = c in
     let y = c.long_enough in
     let b = c.begin-from.ensures.0 in
-    (record { shown = refused_shown z.args.bundle.now z.args.page.now _ _ _ c.refused-in-Refused.ensures (b.is _ _ _ (sym y.ensures ∙ c.if-not-long_enough.false) ∙ ap (goes_on z.args.bundle.now z.args.plan.now _ _) c.in-Refused.is); places_after = c.clear_u64-in-Refused.ensures })
+    (record { shown = refused_shown z.args.bundle.now z.args.page.now _ _ _ c.refused-in-Refused.ensures (b.is _ _ _ (sym y.ensures ∙ c.if-not-long_enough.false) ∙ ap (goes_on z.args.bundle.now z.args.plan.now _ _) c.in-Refused.is); places_after = c.clear-in-Refused.ensures })
 
 pub returns-in-At : goal.returns-in-At
 returns-in-At c = let z = c in

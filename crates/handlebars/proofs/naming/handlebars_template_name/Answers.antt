@@ -8,10 +8,10 @@ use borrow.Author.Rules.{rules}
 use Rattle.handlebars.proofs.naming.handlebars_template_name.Goals as goal
 
 pub returns-then-template-eq0 : goal.returns-then-template-eq0
-returns-then-template-eq0 c = let z = c in none_filled _ _ _ (name_zero z.args.bundle.now _ z.args.template c.if-template-eq0.true) c.clear_u8.ensures
+returns-then-template-eq0 c = let z = c in none_filled _ _ _ (name_zero z.args.bundle.now _ z.args.template c.if-template-eq0.true) c.clear.ensures
 
 pub returns-then-not-fits : goal.returns-then-not-fits
-returns-then-not-fits c = let z = c in none_filled _ _ _ (name_none z.args.bundle.now _ z.args.template c.if-template-eq0.false (ap (fits z.args.bundle.now (z.args.template - 1)) (sym c.clear_u8.auto.b) ∙ sym c.fits.ensures ∙ c.if-not-fits.true)) c.clear_u8.ensures
+returns-then-not-fits c = let z = c in none_filled _ _ _ (name_none z.args.bundle.now _ z.args.template c.if-template-eq0.false (ap (fits z.args.bundle.now (z.args.template - 1)) (sym c.clear.auto.b) ∙ sym c.fits.ensures ∙ c.if-not-fits.true)) c.clear.ensures
 
 pub overflow_add-p : goal.overflow_add-p
 overflow_add-p c = let z = c in omega (arith, (fits_parts z.args.bundle.now _ (z.args.template - 1) (sym c.fits.ensures ∙ c.if-not-fits.false)).0, (fits_parts z.args.bundle.now _ (z.args.template - 1) (sym c.fits.ensures ∙ c.if-not-fits.false)).2)
@@ -22,4 +22,4 @@ copy_packed-requires c = let z = c in
     omega (arith, f.0, f.1, f.2, c.field-count.ensures)
 
 pub returns : goal.returns
-returns c = let z = c in found_filled z.args.bundle.now (length z.args.out.now) z.args.template _ _ _ c.if-template-eq0.false (ap (fits z.args.bundle.now (z.args.template - 1)) (sym c.clear_u8.auto.b) ∙ sym c.fits.ensures ∙ c.if-not-fits.false) c.field-count.ensures c.clear_u8.ensures c.copy_packed.ensures
+returns c = let z = c in found_filled z.args.bundle.now (length z.args.out.now) z.args.template _ _ _ c.if-template-eq0.false (ap (fits z.args.bundle.now (z.args.template - 1)) (sym c.clear.auto.b) ∙ sym c.fits.ensures ∙ c.if-not-fits.false) c.field-count.ensures c.clear.ensures c.copy_packed.ensures

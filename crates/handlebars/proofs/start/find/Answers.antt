@@ -6,8 +6,8 @@ use Rattle.handlebars.proofs.start.find.Goals as goal
 pub returns-then-options : goal.returns-then-options
 returns-then-options c = let z = c in both_set z.args.b.now z.args.start.now z.args.options z.requires c.if-options.true
 
-pub returns-in-Template : goal.returns-in-Template
-returns-in-Template c = let z = c in found_at z.args.b.now z.args.start.now z.args.options z.requires c.if-options.false _ _ _ (sym c.get_template-f.ensures ∙ c.in-Template.is)
+pub returns-in-Some : goal.returns-in-Some
+returns-in-Some c = let z = c in found_at z.args.b.now z.args.start.now z.args.options z.requires c.if-options.false _ _ _ (sym c.get_template-f.ensures ∙ c.in-Some.is)
 
-pub returns-in-Missing : goal.returns-in-Missing
-returns-in-Missing c = let z = c in missing z.args.b.now z.args.start.now z.args.options z.requires c.if-options.false (sym c.get_template-f.ensures ∙ c.in-Missing.is)
+pub returns-in-None : goal.returns-in-None
+returns-in-None c = let z = c in missing z.args.b.now z.args.start.now z.args.options z.requires c.if-options.false (sym c.get_template-f.ensures ∙ c.in-None.is)
