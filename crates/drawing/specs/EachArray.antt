@@ -1,5 +1,5 @@
 -- The loop of `each` by the code's context a and its array: x is the scope of the turn before, which knows of the inline partials up to its start.
-use Rattle.std.specs.Prelude.{ℕ, ◌+◌, ◌-◌, ◌≤◌, Bool, List, ◌≡◌, eqb, length, set, None}
+use Rattle.std.specs.Prelude.{ℕ, ◌+◌, ◌-◌, ◌≤◌, Bool, List, ◌≡◌, eqb, length, set, None, Option as RustOption, Some}
 use Rattle.std.proofs.Common.{sym, ap, ◌∙◌, subst, arith}
 use Rattle.rules.specs.Bytes.{Bytes}
 use Rattle.rules.specs.Bits.{bits}
@@ -15,7 +15,6 @@ use Rattle.scope.specs.Made as made
 use Rattle.scope.specs.NameBits.{Covers}
 use Rattle.turns.specs.Turning.{TurnAt, TurnBefore}
 use Rattle.turns.specs.declared.Turn.{Turn as Told}
-use Rattle.turns.specs.declared.Turn.TheVariants.{Item}
 use Rattle.expand.specs.declared.Options.{Options}
 use Rattle.state.specs.declared.RenderContext as code
 use Rattle.state.specs.Context.{RenderContext, whole, topped}
@@ -27,12 +26,12 @@ use Rattle.drawing.specs.Arrays.{topped_newest, topped_turned, pushed_topped, re
 use Rattle.drawing.specs.EachLoop.{EachGoing, each_rule, each_begun, each_turn_ready, each_stopped, each_before, each_again}
 
 module _ (s b : Bytes) (o : Options) (w : World) (d at p : ℕ) (v : Value) (r : Ready s b w) (q : Openable s b w v) (ok : answer s ≡ 0) (small : length b ≤ 65536) (held : Holds block_names (bits b) at) (scopes : List Scope) (sized : length scopes ≡ 32) where
-  abbrev Going : World → ℕ → Told → Type 0
+  abbrev Going : World → ℕ → RustOption Told → Type 0
   Going = EachGoing s b o w d at p v r q ok small held
 
   -- the scope is opened, and the array beside the context is still that of w
   pub array_begun : (a a' : code.RenderContext) (first : Scope) (m : ℕ) → w.rc ≡ whole a scopes → first ≡ each_scope v (names_view (bits b) at) (front w) → Covers m b w.ent first → whole a' (set scopes a.used first) ≡ set.pushed (whole a scopes) first m
-      → (turn : Told) → TurnAt s b w.ent (top w) v 0 turn → Going (over (topped a' scopes first) w) 0 turn
+      → (turn : RustOption Told) → TurnAt s b w.ent (top w) v 0 turn → Going (over (topped a' scopes first) w) 0 turn
   array_begun a a' first m same is covers e turn u =
       let f : topped a' scopes first ≡ set.pushed w.rc (each_scope v (names_view (bits b) at) (front w)) m =
       pushed_topped a' a scopes first m e ∙ ap (λ (c : RenderContext). set.pushed c first m) (sym same) ∙ ap (λ (c : Scope). set.pushed w.rc c m) is in
@@ -43,7 +42,7 @@ module _ (s b : Bytes) (o : Options) (w : World) (d at p : ℕ) (v : Value) (r :
     abbrev l : World
     l = world (topped a scopes x) page texts indent ent
 
-    module _ (item key : Value) (object last : Bool) (E : Going l k (Item item key object last)) (c : Scope)
+    module _ (item key : Value) (object last : Bool) (E : Going l k (Some (record { item = item; key = key; object = object; last = last }))) (c : Scope)
         (is : c ≡ made.turned (made.with_count x a.count) (encoded item) (encoded key) k (eqb k 0) last object) where
       one : 1 ≤ a.used
       one = E.going.within.ready.one
@@ -82,10 +81,10 @@ module _ (s b : Bytes) (o : Options) (w : World) (d at p : ℕ) (v : Value) (r :
             used : a₂.used ≡ a.used
             used = ((D.at 32 (omega arith)).fine e).goes.used
 
-            pub array_before : TurnBefore s b ent₂ v (k + 1) (Item item key object last)
+            pub array_before : TurnBefore s b ent₂ v (k + 1) (Some (record { item = item; key = key; object = object; last = last }))
             array_before = each_before s b o w d at p v r q ok small held l k item key object last E l₂ D' e
 
-            pub array_again : (turn' : Told) → ((t : ℕ) → Stands s b ent₂ t v → TurnAt s b ent₂ t v (k + 1) turn') → Going (world (topped a₂ scopes c) page₂ texts₂ indent₂ ent₂) (k + 1) turn'
+            pub array_again : (turn' : RustOption Told) → ((t : ℕ) → Stands s b ent₂ t v → TurnAt s b ent₂ t v (k + 1) turn') → Going (world (topped a₂ scopes c) page₂ texts₂ indent₂ ent₂) (k + 1) turn'
             array_again turn' u =
                 subst (λ (n : ℕ). Going (world (whole a₂ (set scopes (n - 1) c)) page₂ texts₂ indent₂ ent₂) (k + 1) turn') (sym used)
                 (each_again s b o w d at p v r q ok small held l k item key object last E l₂ D' e turn' u)

@@ -1,5 +1,5 @@
 -- The loop of `each`: k turns are drawn, and the next one is known.
-use Rattle.std.specs.Prelude.{None, ℕ, zero, suc, ◌+◌, ◌-◌, ◌≤◌, ◌<◌, Bool, false, [], ◌≡◌, refl, eqb, length, get_or}
+use Rattle.std.specs.Prelude.{None, ℕ, zero, suc, ◌+◌, ◌-◌, ◌≤◌, ◌<◌, Bool, false, [], ◌≡◌, refl, eqb, length, get_or, Option as RustOption, Some}
 use Rattle.std.proofs.Math.Option.{none}
 use Rattle.std.proofs.Common.{sym, ◌∙◌, arith, add-one, get_or-set_same}
 use Rattle.std.proofs.Math.Path.{ap, subst}
@@ -44,7 +44,6 @@ use Rattle.scope.proofs.MadeLaws.{child_is, child_stands, with_names_stands, nam
 use Rattle.turns.specs.Listed.{before_end}
 use Rattle.turns.specs.Turning.{is_map, TurnAt, TurnBefore}
 use Rattle.turns.specs.declared.Turn.{Turn as Told}
-use Rattle.turns.specs.declared.Turn.TheVariants.{Item, End}
 use Rattle.turns.proofs.Laws.{base_first, base_next, turn_kept, turn_below}
 use Rattle.including.specs.ValuesLaws.{stands_fits}
 use Rattle.expand.specs.declared.Options.{Options}
@@ -176,7 +175,7 @@ module _ (s b : Bytes) (o : Options) (w : World) (d at p : ℕ) (v : Value) (r :
   F = turn_block Z (names_says (bits b) ns)
 
   -- k turns are drawn, l is left, and `turn` comes next
-  pub record EachGoing (l : World) (k : ℕ) (turn : Told) : Type 0 where
+  pub record EachGoing (l : World) (k : ℕ) (turn : RustOption Told) : Type 0 where
     pub going : Turning s b o w r F (each_turns J) (create_block Z) T l k
     pub anew : (u : Turn) → F u going.block ≡ F u (context_of s b l.ent (front l))
     pub scope : EachScope s b v ns J k (front l)
@@ -208,7 +207,7 @@ module _ (s b : Bytes) (o : Options) (w : World) (d at p : ℕ) (v : Value) (r :
   each_empty = (each_bare s b w v r q each_fits ns).none_yet
 
   -- its names are in the set m
-  pub each_begun : (m : ℕ) → Covers m b w.ent (each_scope v ns (front w)) → (turn : Told) → TurnAt s b w.ent (top w) v 0 turn → EachGoing (over (set.pushed w.rc (each_scope v ns (front w)) m) w) 0 turn
+  pub each_begun : (m : ℕ) → Covers m b w.ent (each_scope v ns (front w)) → (turn : RustOption Told) → TurnAt s b w.ent (top w) v 0 turn → EachGoing (over (set.pushed w.rc (each_scope v ns (front w)) m) w) 0 turn
   unfolding turning_start
   each_begun m covers turn u =
       let e = newest s b w v r q each_fits ns parts follow m covers in
@@ -232,17 +231,17 @@ module _ (s b : Bytes) (o : Options) (w : World) (d at p : ℕ) (v : Value) (r :
   }
 
   module _ (l : World) (k : ℕ) where
-    means_same : (turn : Told) → EachGoing l k turn → J ≡ json_of s b l.ent v
+    means_same : (turn : RustOption Told) → EachGoing l k turn → J ≡ json_of s b l.ent v
     means_same turn E = (kept s b w.ent l.ent (top w) v E.going.within.agree q.stands).means
 
-    pub each_ended : EachGoing l k End → Renders s b o w (over (set.closed w.rc l.rc) l) (each_rule s b w d at p v)
+    pub each_ended : EachGoing l k None → Renders s b o w (over (set.closed w.rc l.rc) l) (each_rule s b w d at p v)
     each_ended E =
         renders_named (over (set.closed w.rc l.rc) l)
-        (turning_end s b o w r F (each_turns J) (create_block Z) T l k E.going (subst (λ (j : Json). length (each_turns j) ≤ k) (sym (means_same End E)) E.next))
+        (turning_end s b o w r F (each_turns J) (create_block Z) T l k E.going (subst (λ (j : Json). length (each_turns j) ≤ k) (sym (means_same None E)) E.next))
 
     -- behind it the marks are settled: w₀ is in front of the element, and has the same open scopes as w
     pub each_finished : (w₀ : World) (rule : Registry → Rendering → Draw) → Continues s b o w₀ w 0 (each_rule s b w d at p v) rule (set.finished w₀.rc.writer)
-        → ((c : RenderContext) → set.closed w.rc c ≡ set.closed w₀.rc c) → EachGoing l k End → Renders s b o w₀ (over (set.finished_within w₀.rc l.rc) l) rule
+        → ((c : RenderContext) → set.closed w.rc c ≡ set.closed w₀.rc c) → EachGoing l k None → Renders s b o w₀ (over (set.finished_within w₀.rc l.rc) l) rule
     each_finished w₀ rule C same E =
         let e : l.rc.bad ≡ None = E.going.within.ready.fine in
         let m = w₀.rc.writer in
@@ -250,15 +249,15 @@ module _ (s b : Bytes) (o : Options) (w : World) (d at p : ℕ) (v : Value) (r :
         unless_fine (λ c. set.settled c m) (set.closed w.rc l.rc) e ∙ ap (λ (c : RenderContext). set.settled c m) (same l.rc) ∙ sym (unless_fine (λ c. set.settled (set.closed w₀.rc c) m) l.rc e) in
         subst (λ (c : RenderContext). Renders s b o w₀ (over c l) rule) f (C.done (over (set.closed w.rc l.rc) l) (each_ended E))
 
-    pub each_used : (turn : Told) → EachGoing l k turn → l.rc.used ≡ suc w.rc.used
+    pub each_used : (turn : RustOption Told) → EachGoing l k turn → l.rc.used ≡ suc w.rc.used
     each_used turn E = E.going.within.used
 
-    pub each_sizes : (turn : Told) → EachGoing l k turn → Sizes w l
+    pub each_sizes : (turn : RustOption Told) → EachGoing l k turn → Sizes w l
     each_sizes turn E = E.going.within.sizes
 
     -- One more turn
 
-    module _ (item key : Value) (object last : Bool) (E : EachGoing l k (Item item key object last)) where
+    module _ (item key : Value) (object last : Bool) (E : EachGoing l k (Some (record { item = item; key = key; object = object; last = last }))) where
       there : Stands s b l.ent (top w) v
       there = (kept s b w.ent l.ent (top w) v E.going.within.agree q.stands).stands
 
@@ -280,7 +279,7 @@ module _ (s b : Bytes) (o : Options) (w : World) (d at p : ℕ) (v : Value) (r :
       pub each_less : length (each_turns J) - (k + 1) < length (each_turns J) - k
       each_less =
           let h = before_end (each_turns (json_of s b l.ent v)) k E.next.turn E.next.is in
-          let n : length (each_turns J) ≡ length (each_turns (json_of s b l.ent v)) = ap (λ (j : Json). length (each_turns j)) (means_same (Item item key object last) E) in
+          let n : length (each_turns J) ≡ length (each_turns (json_of s b l.ent v)) = ap (λ (j : Json). length (each_turns j)) (means_same (Some (record { item = item; key = key; object = object; last = last })) E) in
           omega arith
 
       abbrev c : Scope
@@ -324,14 +323,14 @@ module _ (s b : Bytes) (o : Options) (w : World) (d at p : ℕ) (v : Value) (r :
           still : Stands s b l₂.ent (top w) v
           still = (kept s b l.ent l₂.ent (top w) v agree there).stands
 
-          pub each_before : TurnBefore s b l₂.ent v (k + 1) (Item item key object last)
+          pub each_before : TurnBefore s b l₂.ent v (k + 1) (Some (record { item = item; key = key; object = object; last = last }))
           each_before = record {
             used = top w;
             room = omega (arith, near, goes.ready.table);
             stands = still;
             number = k;
             next = add-one k;
-            turn = turn_kept s b l.ent l₂.ent (top w) v k (Item item key object last) agree there E.next;
+            turn = turn_kept s b l.ent l₂.ent (top w) v k (Some (record { item = item; key = key; object = object; last = last })) agree there E.next;
           }
 
           scope_again : EachScope s b v ns J (suc k) (made.with_count c (front l₂).count)
@@ -339,10 +338,10 @@ module _ (s b : Bytes) (o : Options) (w : World) (d at p : ℕ) (v : Value) (r :
             few = E.scope.few;
             names = names_alike b (made.with_count c (front l₂).count) (front l) (front l).kind refl ∙ E.scope.names;
             base = base_next s b l.ent (top w) v k item key object last E.next (decoded (encoded item)) (decoded_encoded item item_fits);
-            fresh = λ z. turn_object (front l) (encoded item) (encoded key) k (eqb k 0) last object ∙ E.next.over ∙ ap is_map (sym (means_same (Item item key object last) E)) ∙ z;
+            fresh = λ z. turn_object (front l) (encoded item) (encoded key) k (eqb k 0) last object ∙ E.next.over ∙ ap is_map (sym (means_same (Some (record { item = item; key = key; object = object; last = last })) E)) ∙ z;
           }
 
-          pub each_again : (turn' : Told) → ((t : ℕ) → Stands s b l₂.ent t v → TurnAt s b l₂.ent t v (k + 1) turn') → EachGoing l₂ (k + 1) turn'
+          pub each_again : (turn' : RustOption Told) → ((t : ℕ) → Stands s b l₂.ent t v → TurnAt s b l₂.ent t v (k + 1) turn') → EachGoing l₂ (k + 1) turn'
           each_again turn' u =
               let n : k + 1 ≡ suc k = add-one k in
               subst (λ (i : ℕ). EachGoing l₂ i turn') (sym n)

@@ -1,5 +1,5 @@
 -- What the first six checks find, and how the rules go on from there.
-use Rattle.std.specs.Prelude.{ℕ, ◌≤◌, ◌<◌, Bool, true, false, Err, ◌&&◌, not, List, [], ◌∷◌, ◌≡◌, refl, leb, length, replicate, Option as RustOption, Some, None}
+use Rattle.std.specs.Prelude.{ℕ, ◌≤◌, ◌<◌, Bool, true, false, Err, ◌&&◌, not, List, [], ◌∷◌, ◌≡◌, refl, leb, length, replicate, Option as RustOption, Some, None, Result, Ok}
 use Rattle.std.proofs.Math.Option.{Option, none, some}
 use Rattle.std.proofs.Common.{sym, ap, ◌∙◌, subst, arith, le-leb, leb-true}
 use Rattle.rules.specs.Bytes.{Bytes, pick}
@@ -22,8 +22,6 @@ use Rattle.registry.specs.Templates.{Standing, accepted_holds, templates_at, tem
 use Rattle.expand.specs.declared.Options.{Options}
 use Rattle.drawing.specs.Renders.{options_of}
 use Rattle.handlebars.specs.Answers.{both_are}
-use Rattle.handlebars.specs.declared.start.Start.{Start}
-use Rattle.handlebars.specs.declared.start.Start.TheVariants.{At, Refused}
 use Rattle.rules.specs.Template as rule
 use Rattle.rules.specs.Registry as registry
 
@@ -39,13 +37,13 @@ abbrev pub given : Bytes → Bytes → Bytes → registry.Options → Limits →
 given b s n o l c = record { scratch = c; bundle_bytes = b; options = o; start = n; plan_text = s; limits = l }
 
 -- how a call goes on behind the first six checks: p and q are the places of the template's name and of its body
-abbrev pub goes_on : Bytes → Bytes → registry.Options → Limits → Start → Answer
-goes_on b s o l (Refused k) = refused k
-goes_on b s o l (At p q) = checked (answer s) (plan s) (λ json. render_call (record { templates = templates_at 16 (bits b); plan = json; options = o; limits = l }) (text_at (bits b) p) (template_at 16 16 (bits b) q))
+abbrev pub goes_on : Bytes → Bytes → registry.Options → Limits → Result (ℕ × ℕ) ℕ → Answer
+goes_on b s o l (Err k) = refused k
+goes_on b s o l (Ok (p, q)) = checked (answer s) (plan s) (λ json. render_call (record { templates = templates_at 16 (bits b); plan = json; options = o; limits = l }) (text_at (bits b) p) (template_at 16 16 (bits b) q))
 
-abbrev pub StartHolds : Bytes → Start → Type 0
-StartHolds b (At p q) = Standing b × Holds string (bits b) p × Holds (body 16 16) (bits b) q
-StartHolds b (Refused k) = Unit {0}
+abbrev pub StartHolds : Bytes → Result (ℕ × ℕ) ℕ → Type 0
+StartHolds b (Ok (p, q)) = Standing b × Holds string (bits b) p × Holds (body 16 16) (bits b) q
+StartHolds b (Err k) = Unit {0}
 
 -- a table has the places of a bundle's templates
 abbrev pub Tabled : Bytes → List ℕ → Type 0
@@ -69,7 +67,7 @@ standing_accepted b h =
     ap (λ (t : Bool). pick t (read_verdict (bundle b)) (Err TooLong)) (le-leb (length b) 65536 h.small) ∙ ap read_verdict h.are ∙ ap (λ (t : Bool). pick t (Err PartialContext) all_passed) h.plain
 
 -- r is what the checks 2 to 6 find
-pub record Begins (b n : Bytes) (o : Options) (r : Start) : Type 0 where
+pub record Begins (b n : Bytes) (o : Options) (r : Result (ℕ × ℕ) ℕ) : Type 0 where
   pub is : (s : Bytes) (l : Limits) (c : List ℕ) → long_enough scratch_lengths c ≡ true → render_bytes (given b s n (options_of o) l c) ≡ goes_on b s (options_of o) l r
   pub parts : StartHolds b r
 
@@ -121,7 +119,7 @@ bundle_passed b f h =
     ∙ ap (λ (m : Option Templates). checked 3 m (λ ts. check 4 (not (partial_context ts)) (λ _. f ts))) h.are
     ∙ ap (λ (t : Bool). check 4 (not t) (λ _. f (templates_at 16 (bits b)))) h.plain
 
-pub refused_at : (b n : Bytes) (o : Options) (e : BundleError) → verdict b ≡ Err e → (k : ℕ) → k ≡ error_number e → Begins b n o (Refused k)
+pub refused_at : (b n : Bytes) (o : Options) (e : BundleError) → verdict b ≡ Err e → (k : ℕ) → k ≡ error_number e → Begins b n o (Err k)
 refused_at b n o e h k f = record {
   is = λ s l c q. passed_one (given b s n (options_of o) l c) q ∙ bundle_refused b _ (λ a. let z : ◌≡◌ {A = Verdict} (Err e) all_passed = sym h ∙ a in cc) ∙ ap (λ (v : Verdict). refused (verdict_number v)) h ∙ ap refused (sym f);
   parts = tt;
@@ -132,7 +130,7 @@ module _ (b n : Bytes) (o : Options) (h : Standing b) where
   to_five : (s : Bytes) (l : Limits) (c : List ℕ) → long_enough scratch_lengths c ≡ true → render_bytes (given b s n (options_of o) l c) ≡ from_five s n (options_of o) l (templates_at 16 (bits b))
   to_five s l c q = passed_one (given b s n (options_of o) l c) q ∙ bundle_passed b _ h
 
-  pub both_set : (o.strict && o.guide_truth) ≡ true → Begins b n o (Refused 5)
+  pub both_set : (o.strict && o.guide_truth) ≡ true → Begins b n o (Err 5)
   both_set e = record {
     is = λ s l c q. to_five s l c q ∙ ap (λ (t : Bool). check 5 (not t) (λ _. checked 6 (get_template (templates_at 16 (bits b)) n) (λ t. checked (answer s) (plan s) (λ json. render_call (record { templates = templates_at 16 (bits b); plan = json; options = options_of o; limits = l }) n t)))) e;
     parts = tt;
@@ -148,10 +146,10 @@ module _ (b n : Bytes) (o : Options) (h : Standing b) where
         ∙ ap (λ (m : Option rule.Template). checked 6 m (λ t. checked (answer s) (plan s) (λ json. render_call (record { templates = templates_at 16 (bits b); plan = json; options = options_of o; limits = l }) n t)))
         ((found_stands 16 (bits b) h.templates n).is ∙ ap (found_says (body 16 16) (bits b)) f)
 
-    pub missing : found_view (body 16 16) (bits b) (find_template (templates_at 16 (bits b)) n) ≡ None → Begins b n o (Refused 6)
+    pub missing : found_view (body 16 16) (bits b) (find_template (templates_at 16 (bits b)) n) ≡ None → Begins b n o (Err 6)
     missing f = record { is = to_six None f; parts = tt }
 
-    pub found_at : (k p q : ℕ) → found_view (body 16 16) (bits b) (find_template (templates_at 16 (bits b)) n) ≡ Some (k, p, q) → Begins b n o (At p q)
+    pub found_at : (k p q : ℕ) → found_view (body 16 16) (bits b) (find_template (templates_at 16 (bits b)) n) ≡ Some (k, p, q) → Begins b n o (Ok (p, q))
     found_at k p q f =
         let x = subst (FoundHolds (body 16 16) (bits b) _ n) f (found_stands 16 (bits b) h.templates n).parts in
         record {

@@ -3,7 +3,6 @@ ghost use Rattle.std.specs.Prelude.{[], ◌∷◌, ◌≡◌, length, replicate}
 ghost use Rattle.rules.specs.Registry.{paper_limits};
 ghost use Rattle.rules.specs.Call.{render_bytes};
 ghost use Rattle.drawing.specs.Renders.{options_of};
-ghost use Rattle.handlebars.specs.declared.start.Start.TheVariants.{At};
 ghost use Rattle.handlebars.specs.Answers.{refusal, Shown};
 ghost use Rattle.handlebars.specs.Begins.{Roomy, StartHolds, Tabled, goes_on};
 ghost use Rattle.handlebars.specs.Calls.{inputs, left, predicted, Emptied};
@@ -11,7 +10,7 @@ ghost use Rattle.handlebars.specs.Calls.{inputs, left, predicted, Emptied};
 use crate::Answer;
 use crate::draw::draw;
 use crate::numbers::SCRATCH_TOO_SHORT;
-use crate::start::{Start, begin, long_enough};
+use crate::start::{begin, long_enough};
 use expand::Options;
 
 // A refusal by one of the first ten checks: no name, no position, no text.
@@ -57,8 +56,8 @@ fn go_on(
     texts: &mut [u8],
     indent: &mut [u8],
 ) -> Answer
-    requires { StartHolds bundle.now (At name p) × Tabled bundle.now index.now × Roomy places.old entries.old texts.old indent.old }
-    ensures shown { Shown bundle.now result page.new (goes_on bundle.now plan.now (options_of options) (paper_limits (length page.old)) (At name p)) }
+    requires { StartHolds bundle.now (Ok (name, p)) × Tabled bundle.now index.now × Roomy places.old entries.old texts.old indent.old }
+    ensures shown { Shown bundle.now result page.new (goes_on bundle.now plan.now (options_of options) (paper_limits (length page.old)) (Ok (name, p))) }
     ensures places_after { places.new ≡ replicate (length places.old) 0 }
 {
     let n = plan_read::read_plan(plan, places);
@@ -94,11 +93,11 @@ fn answer(
     let mut index: [u32; 64] = [0; 64];
     let from = begin(bundle, start, options, &mut index);
     match from {
-        Start::Refused(number) => {
+        Err(number) => {
             clear::clear(places, 0);
             refused(number)
         }
-        Start::At(name, p) => go_on(
+        Ok((name, p)) => go_on(
             bundle, &index, plan, options, name, p, page, places, entries, texts, indent,
         ),
     }

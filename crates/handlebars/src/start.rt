@@ -16,14 +16,6 @@ const TEXTS: usize = 16384;
 
 const INDENT: usize = 256;
 
-#[derive(Clone, Copy)]
-pub enum Start {
-    // the places of the template's name and of its body
-    At(usize, usize),
-    // the number of the refusal
-    Refused(u32),
-}
-
 // Check 1, of the lengths of the scratch buffers.
 pub fn long_enough(places: usize, entries: usize, texts: usize, indent: usize) -> bool
     ensures { result ≡ long_enough scratch_lengths (places ∷ entries ∷ texts ∷ indent ∷ []) }
@@ -43,28 +35,33 @@ pub fn long_enough(places: usize, entries: usize, texts: usize, indent: usize) -
     true
 }
 
-// Checks 5 and 6.
-fn find(b: &[u8], start: &[u8], options: Options) -> Start
+// Checks 5 and 6: the places of the template's name and of its body, or the number of the check that is not passed.
+fn find(b: &[u8], start: &[u8], options: Options) -> Result<(usize, usize), u32>
     requires { Standing b.now }
     ensures { Begins b.now start.now options result }
 {
     if options.strict & options.guide_truth {
-        return Start::Refused(STRICT_AND_GUIDE_TRUTH);
+        return Err(STRICT_AND_GUIDE_TRUTH);
     }
     let f = registry::get_template(b, 16, start);
     match f {
-        Some((_, name, body)) => Start::At(name, body),
-        None => Start::Refused(TEMPLATE_NOT_FOUND),
+        Some((_, name, body)) => Ok((name, body)),
+        None => Err(TEMPLATE_NOT_FOUND),
     }
 }
 
 // Checks 2 to 6. The table gets the places of the templates where 2, 3 and 4 are passed, else it is zero.
-pub fn begin(b: &[u8], start: &[u8], options: Options, index: &mut [u32]) -> Start
+pub fn begin(
+    b: &[u8],
+    start: &[u8],
+    options: Options,
+    index: &mut [u32],
+) -> Result<(usize, usize), u32>
     requires { length index.old ≡ 64 }
     ensures { Begins b.now start.now options result × Filled b.now index.new }
 {
     match layout::check_indexed(b, index) {
         Ok(()) => find(b, start, options),
-        Err(e) => Start::Refused(u8::from(e) as u32),
+        Err(e) => Err(u32::from(u8::from(e))),
     }
 }

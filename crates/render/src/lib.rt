@@ -37,7 +37,6 @@ use plain::Shown;
 use scope::Scope;
 use state::RenderContext;
 use template::Element;
-use turns::Turn;
 use value::Value;
 
 // The error of the element at p gets the line and column that stand there.
@@ -426,10 +425,17 @@ fn render_turns(
     let mut turn = turns::first_turn(s, tab, b, ent, v);
     let mut k: usize = 0;
     loop {
-        let Turn::Item(item, key, object, last) = turn else {
+        let Some(now) = turn else {
             return state::pop_block(q, rc);
         };
-        c = blocks::turn_scope(scope::with_count(c, q.count), item, key, k, object, last);
+        c = blocks::turn_scope(
+            scope::with_count(c, q.count),
+            now.item,
+            now.key,
+            k,
+            now.object,
+            now.last,
+        );
         q = state::set_current_template_name(q, 0);
         q = render_elements(
             s, tab, b, index, ent, page, texts, indent, scopes, c, options, p, d, 0, q,

@@ -1,4 +1,5 @@
 -- What the drawing of `each` cites of a turn.
+use Rattle.std.specs.Prelude.{Option as RustOption, Some, None}
 use Prim.Native.Nat.{ℕ, suc, ◌+◌, ◌≤◌, ◌<◌}
 use mathlib.Core.Bool.{Bool, true, false}
 use mathlib.Core.List.{List}
@@ -37,7 +38,6 @@ use Rattle.turns.proofs.Places.{place_json, place_within, no_turns}
 use Rattle.turns.specs.Listed.{is_end, turn_vars, before_end}
 use Rattle.turns.specs.Turning.{place_of, is_map, Leads, TurnIs, TurnAt}
 use Rattle.turns.specs.declared.Turn.{Turn as Told}
-use Rattle.turns.specs.declared.Turn.TheVariants.{Item, End}
 
 -- The base of the scope before the turn k over a value that has the place o if it has a path: the value itself, or the item of the turn before
 
@@ -127,18 +127,18 @@ module _ (s b : Bytes) (ent : List ℕ) where
 
 -- A turn stays what it is while entries behind come and go
 
-pub turn_kept : (s b : Bytes) (ent ent' : List ℕ) (t : ℕ) (v : Value) (k : ℕ) (r : Told) → Agree ent ent' t → Stands s b ent t v → TurnAt s b ent t v k r → TurnAt s b ent' t v k r
-turn_kept s b ent ent' t v k End a st u = let w = kept s b ent ent' t v a st in subst (λ (j : Json). length (each_turns j) ≤ k) w.means u
-turn_kept s b ent ent' t v k (Item item key object last) a st u =
+pub turn_kept : (s b : Bytes) (ent ent' : List ℕ) (t : ℕ) (v : Value) (k : ℕ) (r : RustOption Told) → Agree ent ent' t → Stands s b ent t v → TurnAt s b ent t v k r → TurnAt s b ent' t v k r
+turn_kept s b ent ent' t v k None a st u = let w = kept s b ent ent' t v a st in subst (λ (j : Json). length (each_turns j) ≤ k) w.means u
+turn_kept s b ent ent' t v k (Some r) a st u =
     let w = kept s b ent ent' t v a st in
-    let x = kept s b ent ent' t item a u.stands in
+    let x = kept s b ent ent' t r.item a u.stands in
     record {
       turn = u.turn;
       is = ap (λ (j : Json). get_elem? (each_turns j) k) (sym w.means) ∙ u.is;
-      ends = subst (λ (j : Json). last ≡ is_end (get_elem? (each_turns j) (suc k))) w.means u.ends;
+      ends = subst (λ (j : Json). r.last ≡ is_end (get_elem? (each_turns j) (suc k))) w.means u.ends;
       over = u.over ∙ ap is_map w.means;
       means = sym x.means ∙ u.means;
-      keyed = plain_is s b ent' key u.key_plain ∙ sym (plain_is s b ent key u.key_plain) ∙ u.keyed;
+      keyed = plain_is s b ent' r.key u.key_plain ∙ sym (plain_is s b ent r.key u.key_plain) ∙ u.keyed;
       numbered = u.numbered;
       first = u.first;
       locals = u.locals;

@@ -47,7 +47,6 @@ use Rattle.members.proofs.Stepping.{object_first}
 use Rattle.turns.proofs.Places.{place_json, inner_place, inner_json, inner_present, inner_stands, inner_leads}
 use Rattle.turns.specs.Listed.{is_end, member_nth, list_turn, map_turn, list_got, list_ends, map_got, map_ends, map_was, past_end, first_member, next_nth}
 use Rattle.turns.specs.Turning.{place_of, inner, is_map, Placed, PlaceIs, TurnIs, TurnAt, ItemBefore, Behind, PlaceTurn}
-use Rattle.turns.specs.declared.Turn.TheVariants.{Item, End}
 
 end_value : (s : Bytes) (o : Option ℕ) → is_end (value_at s o) ≡ is_end o
 end_value s none = refl
@@ -85,7 +84,7 @@ pub none_past : (l : List Turn) (k : ℕ) → l ≡ [] → length l ≤ k
 none_past l k e = let n = ap length e in omega arith
 
 module _ (s : Bytes) (tab : List ℕ) (a : Accepted s tab) (i : ℕ) (lt : i < places s) (v : Value) (p : place_of v ≡ some i) (k : ℕ) where
-  pub scalar_turn : (r q : Kind) → r ≡ kind_of (json_at s i) → r ≡ q → Scalar q → PlaceTurn s v k End
+  pub scalar_turn : (r q : Kind) → r ≡ kind_of (json_at s i) → r ≡ q → Scalar q → PlaceTurn s v k None
   scalar_turn r q e f n b ent t st =
       none_past (each_turns (json_of s b ent v)) k (ap each_turns (place_json s b ent i v p) ∙ scalar_turns (json_at s i) (subst Scalar (sym f ∙ e) n))
 
@@ -98,7 +97,7 @@ module _ (s : Bytes) (tab : List ℕ) (a : Accepted s tab) (i : ℕ) (lt : i < p
         ap (λ (j : Json). is_end (get_elem? (each_turns j) n)) (list_json b ent) ∙ list_ends 0 (items_of (json_at s i)) n
         ∙ ap is_end (list_item s a.answers i lt (items_of (json_at s i)) e n) ∙ end_value s (get_elem? (children s i) n)
 
-    pub list_past : (at : RustOption ℕ) → found at ≡ get_elem? (children s i) k → at ≡ None → PlaceTurn s v k End
+    pub list_past : (at : RustOption ℕ) → found at ≡ get_elem? (children s i) k → at ≡ None → PlaceTurn s v k None
     list_past at f g b ent t st = past_end (each_turns (json_of s b ent v)) k (item_ends b ent k ∙ ap is_end (sym f ∙ ap found g))
 
     module _ (at : RustOption ℕ) (f : found at ≡ get_elem? (children s i) k) (c : ℕ) (g : at ≡ Some c) where
@@ -106,7 +105,7 @@ module _ (s : Bytes) (tab : List ℕ) (a : Accepted s tab) (i : ℕ) (lt : i < p
       list_child = is_child s i k c a.answers lt (sym f ∙ ap found g)
 
       pub list_is : (next : RustOption ℕ) → ((j : ℕ) → get_elem? (children s i) j ≡ some c → found next ≡ get_elem? (children s i) (suc j)) → (last : Bool) → last ≡ is_end (found next)
-          → (w : Value) → w ≡ inner v c → PlaceTurn s v k (Item w (Index k) false last)
+          → (w : Value) → w ≡ inner v c → PlaceTurn s v k (Some (record { item = w; key = (Index k); object = false; last = last }))
       list_is next h last q w z b ent t st = subst (λ (x : Value). TurnIs s b ent t v k x (Index k) false last) (sym z) (record {
         turn = list_turn k (json_at s c) last;
         is =
@@ -150,7 +149,7 @@ module _ (s : Bytes) (tab : List ℕ) (a : Accepted s tab) (i : ℕ) (lt : i < p
       nth_is : (o : Option ℕ) → found at ≡ o → member_nth (members_of (json_at s i)) k ≡ maybe o none (λ c. some (name_at s c, json_at s c))
       nth_is o g = sym (w.name (members_of (json_at s i)) e) ∙ object_first s [] tab a i lt (found_name s after) e o (sym f ∙ g)
 
-      pub object_past : at ≡ None → PlaceTurn s v k End
+      pub object_past : at ≡ None → PlaceTurn s v k None
       object_past g b ent t st =
           past_end (each_turns (json_of s b ent v)) k
           (ap (λ (j : Json). is_end (get_elem? (each_turns j) k)) (map_json b ent) ∙ map_ends 0 (members_of (json_at s i)) k ∙ ap is_end (nth_is none (ap found g)))
@@ -160,7 +159,7 @@ module _ (s : Bytes) (tab : List ℕ) (a : Accepted s tab) (i : ℕ) (lt : i < p
         object_latest = member_latest s i (name_at s c) a.answers lt c (next_is_member s i (found_name s after) c (sym f ∙ ap found g))
 
         pub object_is : (next : RustOption ℕ) → found next ≡ next_member s i (some (name_at s c)) → (last : Bool) → last ≡ is_end (found next)
-            → (x : Value) → x ≡ inner v c → (o : ℕ) → o ≡ name_of (tree_at s c) → o < length s → PlaceTurn s v k (Item x (Name o) true last)
+            → (x : Value) → x ≡ inner v c → (o : ℕ) → o ≡ name_of (tree_at s c) → o < length s → PlaceTurn s v k (Some (record { item = x; key = (Name o); object = true; last = last }))
         unfolding name_at
         object_is next h last q x z o y near b ent t st = subst (λ (u : Value). TurnIs s b ent t v k u (Name o) true last) (sym z) (record {
           turn = map_turn k (name_at s c) (json_at s c) last;
@@ -224,7 +223,7 @@ module _ (s b : Bytes) (ent : List ℕ) (tab : List ℕ) (a : Accepted s tab) (v
       merged_ends : (c : ℕ) → is_end (get_elem? (each_turns (json_of s b ent v)) c) ≡ is_end (member_nth (base_map (json_of s b ent v)) c)
       merged_ends c = ap (λ (j : Json). is_end (get_elem? (each_turns j) c)) merged_json ∙ map_ends 0 (base_map (json_of s b ent v)) c
 
-      pub merged_past : (r : RustOption (Value × Value)) → shown s b (json_of s b ent) r ≡ o → r ≡ None → (t : ℕ) → Stands s b ent t v → TurnAt s b ent t v k End
+      pub merged_past : (r : RustOption (Value × Value)) → shown s b (json_of s b ent) r ≡ o → r ≡ None → (t : ℕ) → Stands s b ent t v → TurnAt s b ent t v k None
       merged_past r q z t st = past_end (each_turns (json_of s b ent v)) k (merged_ends k ∙ ap is_end (sym f ∙ sym q ∙ ap (shown s b (json_of s b ent)) z))
 
       module _ (r : RustOption (Value × Value)) (q : shown s b (json_of s b ent) r ≡ o) (m : MemberHeld s b ent v r) (key item : Value) (z : r ≡ Some (key, item)) where
@@ -238,7 +237,7 @@ module _ (s b : Bytes) (ent : List ℕ) (tab : List ℕ) (a : Accepted s tab) (v
         merged_nth = sym f ∙ sym q ∙ ap (shown s b (json_of s b ent)) z
 
         pub merged_is : (d : RustOption (Value × Value)) → shown s b (json_of s b ent) d ≡ first_of (above (some (key_name s b key)) (base_map (json_of s b ent v))) → (last : Bool)
-            → last ≡ is_end (shown s b (json_of s b ent) d) → (t : ℕ) → Stands s b ent t v → TurnAt s b ent t v k (Item item key true last)
+            → last ≡ is_end (shown s b (json_of s b ent) d) → (t : ℕ) → Stands s b ent t v → TurnAt s b ent t v k (Some (record { item = item; key = key; object = true; last = last }))
         merged_is d y last x t st = record {
           turn = map_turn k (key_name s b key) (json_of s b ent item) last;
           is =

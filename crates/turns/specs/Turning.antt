@@ -16,7 +16,6 @@ use Rattle.meaning.specs.Standing.{PlainStands, Stands}
 use Rattle.members.specs.Turns.{each_turns}
 use Rattle.turns.specs.Listed.{is_end, member_nth, turn_vars}
 use Rattle.turns.specs.declared.Turn.{Turn as Told}
-use Rattle.turns.specs.declared.Turn.TheVariants.{Item, End}
 
 -- the place of a value of the plan
 abbrev pub place_of : Value → Option ℕ
@@ -82,12 +81,12 @@ pub record TurnIs (s b : Bytes) (ent : List ℕ) (t : ℕ) (v : Value) (k : ℕ)
   pub key_stands : PlainStands s b key
   pub placed : (i : ℕ) → place_of v ≡ some i → Placed s i k turn.relative_path (place_of item)
 
-abbrev pub TurnAt : Bytes → Bytes → List ℕ → ℕ → Value → ℕ → Told → Type 0
-TurnAt s b ent t v k (Item item key object last) = TurnIs s b ent t v k item key object last
-TurnAt s b ent t v k End = length (each_turns (json_of s b ent v)) ≤ k
+abbrev pub TurnAt : Bytes → Bytes → List ℕ → ℕ → Value → ℕ → RustOption Told → Type 0
+TurnAt s b ent t v k (Some u) = TurnIs s b ent t v k u.item u.key u.object u.last
+TurnAt s b ent t v k None = length (each_turns (json_of s b ent v)) ≤ k
 
 -- u is the turn in front of the turn k
-pub record TurnBefore (s b : Bytes) (ent : List ℕ) (v : Value) (k : ℕ) (u : Told) : Type 0 where
+pub record TurnBefore (s b : Bytes) (ent : List ℕ) (v : Value) (k : ℕ) (u : RustOption Told) : Type 0 where
   pub used : ℕ
   pub room : 2 * used ≤ length ent
   pub stands : Stands s b ent used v
@@ -107,5 +106,5 @@ pub record Behind (s : Bytes) (i k : ℕ) (after : RustOption ℕ) : Type 0 wher
   pub name : (m : Map) → json_at s i ≡ jobj m → first_of (above (found_name s after) m) ≡ member_nth m k
 
 -- whatever bundle and entries there are
-abbrev pub PlaceTurn : Bytes → Value → ℕ → Told → Type 0
+abbrev pub PlaceTurn : Bytes → Value → ℕ → RustOption Told → Type 0
 PlaceTurn s v k r = (b : Bytes) (ent : List ℕ) (t : ℕ) → Stands s b ent t v → TurnAt s b ent t v k r

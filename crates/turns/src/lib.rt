@@ -21,10 +21,13 @@ use places::Kind;
 use value::Value;
 
 #[derive(Clone, Copy)]
-pub enum Turn {
-    // its item, its key, whether it is over an object, and whether no turn follows
-    Item(Value, Value, bool, bool),
-    End,
+pub struct Turn {
+    pub item: Value,
+    pub key: Value,
+    // whether it is over an object
+    pub object: bool,
+    // whether no turn follows
+    pub last: bool,
 }
 
 // The place of a value of the plan.
@@ -69,47 +72,66 @@ fn following(s: &[u8], tab: &[u64], i: usize, k: usize, after: Option<usize>) ->
 }
 
 // The turn k over the list v at i: its item stands at `at`.
-fn list_turn(s: &[u8], tab: &[u64], v: Value, i: usize, k: usize, at: Option<usize>) -> Turn
+fn list_turn(s: &[u8], tab: &[u64], v: Value, i: usize, k: usize, at: Option<usize>) -> Option<Turn>
     requires { Accepted s.now tab.now × (i < places s.now) × (place_of v ≡ some i) × (json_at s.now i ≡ jarr (items_of (json_at s.now i))) × (found at ≡ get_elem? (children s.now i) k) }
     ensures { PlaceTurn s.now v k result }
 {
     let Some(c) = at else {
-        return Turn::End;
+        return None;
     };
     let last = is_end(places::next(s, tab, i, c));
-    Turn::Item(inner(v, c), Value::Index(k), false, last)
+    Some(Turn {
+        item: inner(v, c),
+        key: Value::Index(k),
+        object: false,
+        last: last,
+    })
 }
 
 // The turn k over the object v at i, behind the turn of the place `after`.
-fn object_turn(s: &[u8], tab: &[u64], v: Value, i: usize, k: usize, after: Option<usize>) -> Turn
+fn object_turn(
+    s: &[u8],
+    tab: &[u64],
+    v: Value,
+    i: usize,
+    k: usize,
+    after: Option<usize>,
+) -> Option<Turn>
     requires { Accepted s.now tab.now × (i < places s.now) × (place_of v ≡ some i) × (json_at s.now i ≡ jobj (members_of (json_at s.now i))) × Behind s.now i k after }
     ensures { PlaceTurn s.now v k result }
 {
     let at = places::next_member(s, tab, i, after);
     let Some(c) = at else {
-        return Turn::End;
+        return None;
     };
     let last = is_end(places::next_member(s, tab, i, Some(c)));
-    Turn::Item(
-        inner(v, c),
-        Value::Name(places::name(s, tab, c)),
-        true,
-        last,
-    )
+    Some(Turn {
+        item: inner(v, c),
+        key: Value::Name(places::name(s, tab, c)),
+        object: true,
+        last: last,
+    })
 }
 
 // The turn k over the value v at i, behind the turn of the place `after`.
-fn place_turn(s: &[u8], tab: &[u64], v: Value, i: usize, k: usize, after: Option<usize>) -> Turn
+fn place_turn(
+    s: &[u8],
+    tab: &[u64],
+    v: Value,
+    i: usize,
+    k: usize,
+    after: Option<usize>,
+) -> Option<Turn>
     requires { Accepted s.now tab.now × (i < places s.now) × (place_of v ≡ some i) × Behind s.now i k after }
     ensures { PlaceTurn s.now v k result }
 {
     match places::kind_of(s, tab, i) {
-        Kind::Null => Turn::End,
-        Kind::False => Turn::End,
-        Kind::True => Turn::End,
-        Kind::Unsigned => Turn::End,
-        Kind::Negative => Turn::End,
-        Kind::Text => Turn::End,
+        Kind::Null => None,
+        Kind::False => None,
+        Kind::True => None,
+        Kind::Unsigned => None,
+        Kind::Negative => None,
+        Kind::Text => None,
         Kind::List => list_turn(s, tab, v, i, k, following(s, tab, i, k, after)),
         Kind::Object => object_turn(s, tab, v, i, k, after),
     }
@@ -124,21 +146,26 @@ fn merged_turn(
     v: Value,
     k: usize,
     after: Option<(Value, Value)>,
-) -> Turn
+) -> Option<Turn>
     requires { Accepted s.now tab.now × (length b.now ≤ 65536) × Held s.now b.now ent.now v × (merged_of v ≡ none → ⊥) × Keyed s.now b.now after × (first_of (above (after_name s.now b.now after) (base_map (json_of s.now b.now ent.now v))) ≡ member_nth (base_map (json_of s.now b.now ent.now v)) k) }
     ensures { (t : ℕ) → Stands s.now b.now ent.now t v → TurnAt s.now b.now ent.now t v k result }
 {
     let Some((key, item)) = members::next_member(s, tab, b, ent, v, after) else {
-        return Turn::End;
+        return None;
     };
     let last = match members::next_member(s, tab, b, ent, v, Some((key, item))) {
         Some((_, _)) => false,
         None => true,
     };
-    Turn::Item(item, key, true, last)
+    Some(Turn {
+        item: item,
+        key: key,
+        object: true,
+        last: last,
+    })
 }
 
-pub fn first_turn(s: &[u8], tab: &[u64], b: &[u8], ent: &[u64], v: Value) -> Turn
+pub fn first_turn(s: &[u8], tab: &[u64], b: &[u8], ent: &[u64], v: Value) -> Option<Turn>
     requires { Accepted s.now tab.now × (length b.now ≤ 65536) × Held s.now b.now ent.now v }
     ensures { (t : ℕ) → Stands s.now b.now ent.now t v → TurnAt s.now b.now ent.now t v 0 result }
 {
@@ -146,7 +173,7 @@ pub fn first_turn(s: &[u8], tab: &[u64], b: &[u8], ent: &[u64], v: Value) -> Tur
         return merged_turn(s, tab, b, ent, v, 0, None);
     }
     let Some(i) = place_of(v) else {
-        return Turn::End;
+        return None;
     };
     place_turn(s, tab, v, i, 0, None)
 }
@@ -159,19 +186,19 @@ pub fn next_turn(
     ent: &[u64],
     v: Value,
     k: usize,
-    before: Turn,
-) -> Turn
+    before: Option<Turn>,
+) -> Option<Turn>
     requires { Accepted s.now tab.now × (length b.now ≤ 65536) × TurnBefore s.now b.now ent.now v k before }
     ensures { (t : ℕ) → Stands s.now b.now ent.now t v → TurnAt s.now b.now ent.now t v k result }
 {
-    let Turn::Item(item, key, _, _) = before else {
-        return Turn::End;
+    let Some(turn) = before else {
+        return None;
     };
     if let Value::Merged(_, _) = v {
-        return merged_turn(s, tab, b, ent, v, k, Some((key, item)));
+        return merged_turn(s, tab, b, ent, v, k, Some((turn.key, turn.item)));
     }
     let Some(i) = place_of(v) else {
-        return Turn::End;
+        return None;
     };
-    place_turn(s, tab, v, i, k, place_of(item))
+    place_turn(s, tab, v, i, k, place_of(turn.item))
 }

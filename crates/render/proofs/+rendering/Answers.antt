@@ -1769,11 +1769,11 @@ render_turns-turn_scope-c-requires t c = let a = c.args in
     (c.deeper-q.ensures a.scopes c.open_each-first.result sized (front_current a.scopes a.rc a.front h.6) (ap (λ (x : Scope). x.count) first_is ∙ each_empty a.s.now a.b.now a.options w a.d a.at a.p a.v h.1 h.5 h.0.plan.answers h.0.small h.3))
     c.first_turn-turn.result (c.first_turn-turn.ensures (top w) h.5.stands) in
     let i = l.invariant h.1 h.5 h.0.plan.answers h.0.small h.3 H in
-    let item = c.in-Item.item in
-    let key = c.in-Item.key in
-    let object = c.in-Item.object in
-    let last = c.in-Item.last in
-    let E = subst (EachGoing a.s.now a.b.now a.options w a.d a.at a.p a.v h.1 h.5 h.0.plan.answers h.0.small h.3 lw l.k) c.in-Item.is i in
+    let item = c.in-Some.now.item in
+    let key = c.in-Some.now.key in
+    let object = c.in-Some.now.object in
+    let last = c.in-Some.now.last in
+    let E = subst (EachGoing a.s.now a.b.now a.options w a.d a.at a.p a.v h.1 h.5 h.0.plan.answers h.0.small h.3 lw l.k) c.in-Some.is i in
     each_item_fits a.s.now a.b.now a.options w a.d a.at a.p a.v h.1 h.5 h.0.plan.answers h.0.small h.3 lw l.k item key object last E
 
 pub render_turns-render_elements-q-requires : goal.render_turns-render_elements-q-requires
@@ -1790,11 +1790,11 @@ render_turns-render_elements-q-requires t c = let a = c.args in
     (c.deeper-q.ensures a.scopes c.open_each-first.result sized (front_current a.scopes a.rc a.front h.6) (ap (λ (x : Scope). x.count) first_is ∙ each_empty a.s.now a.b.now a.options w a.d a.at a.p a.v h.1 h.5 h.0.plan.answers h.0.small h.3))
     c.first_turn-turn.result (c.first_turn-turn.ensures (top w) h.5.stands) in
     let i = l.invariant h.1 h.5 h.0.plan.answers h.0.small h.3 H in
-    let item = c.in-Item.item in
-    let key = c.in-Item.key in
-    let object = c.in-Item.object in
-    let last = c.in-Item.last in
-    let E = subst (EachGoing a.s.now a.b.now a.options w a.d a.at a.p a.v h.1 h.5 h.0.plan.answers h.0.small h.3 lw l.k) c.in-Item.is i in
+    let item = c.in-Some.now.item in
+    let key = c.in-Some.now.key in
+    let object = c.in-Some.now.object in
+    let last = c.in-Some.now.last in
+    let E = subst (EachGoing a.s.now a.b.now a.options w a.d a.at a.p a.v h.1 h.5 h.0.plan.answers h.0.small h.3 lw l.k) c.in-Some.is i in
     let x = c.turn_scope-c.result in
     let is = turn_is l.c l.q.count item key l.k object last c.with_count.result x c.with_count.ensures c.turn_scope-c.ensures in
     let q₁ = c.set_current_template_name-q.result in
@@ -1882,11 +1882,11 @@ render_turns-returns-then-is_some t c = let a = c.args in
     (c.deeper-q.ensures a.scopes c.open_each-first.result sized (front_current a.scopes a.rc a.front h.6) (ap (λ (x : Scope). x.count) first_is ∙ each_empty a.s.now a.b.now a.options w a.d a.at a.p a.v h.1 h.5 h.0.plan.answers h.0.small h.3))
     c.first_turn-turn.result (c.first_turn-turn.ensures (top w) h.5.stands) in
     let i = l.invariant h.1 h.5 h.0.plan.answers h.0.small h.3 H in
-    let item = c.in-Item.item in
-    let key = c.in-Item.key in
-    let object = c.in-Item.object in
-    let last = c.in-Item.last in
-    let E = subst (EachGoing a.s.now a.b.now a.options w a.d a.at a.p a.v h.1 h.5 h.0.plan.answers h.0.small h.3 lw l.k) c.in-Item.is i in
+    let item = c.in-Some.now.item in
+    let key = c.in-Some.now.key in
+    let object = c.in-Some.now.object in
+    let last = c.in-Some.now.last in
+    let E = subst (EachGoing a.s.now a.b.now a.options w a.d a.at a.p a.v h.1 h.5 h.0.plan.answers h.0.small h.3 lw l.k) c.in-Some.is i in
     let x = c.turn_scope-c.result in
     let is = turn_is l.c l.q.count item key l.k object last c.with_count.result x c.with_count.ensures c.turn_scope-c.ensures in
     let q₁ = c.set_current_template_name-q.result in
@@ -1908,11 +1908,11 @@ render_turns-overflow_add-k t c = let a = c.args in
     (c.deeper-q.ensures a.scopes c.open_each-first.result sized (front_current a.scopes a.rc a.front h.6) (ap (λ (x : Scope). x.count) first_is ∙ each_empty a.s.now a.b.now a.options w a.d a.at a.p a.v h.1 h.5 h.0.plan.answers h.0.small h.3))
     c.first_turn-turn.result (c.first_turn-turn.ensures (top w) h.5.stands) in
     let i = l.invariant h.1 h.5 h.0.plan.answers h.0.small h.3 H in
-    let item = c.in-Item.item in
-    let key = c.in-Item.key in
-    let object = c.in-Item.object in
-    let last = c.in-Item.last in
-    let E = subst (EachGoing a.s.now a.b.now a.options w a.d a.at a.p a.v h.1 h.5 h.0.plan.answers h.0.small h.3 lw l.k) c.in-Item.is i in
+    let item = c.in-Some.now.item in
+    let key = c.in-Some.now.key in
+    let object = c.in-Some.now.object in
+    let last = c.in-Some.now.last in
+    let E = subst (EachGoing a.s.now a.b.now a.options w a.d a.at a.p a.v h.1 h.5 h.0.plan.answers h.0.small h.3 lw l.k) c.in-Some.is i in
     let f = (each_item_fits a.s.now a.b.now a.options w a.d a.at a.p a.v h.1 h.5 h.0.plan.answers h.0.small h.3 lw l.k item key object last E).2 in
     search rules
 
@@ -1930,11 +1930,11 @@ render_turns-next_turn-turn-requires t c = let a = c.args in
     (c.deeper-q.ensures a.scopes c.open_each-first.result sized (front_current a.scopes a.rc a.front h.6) (ap (λ (x : Scope). x.count) first_is ∙ each_empty a.s.now a.b.now a.options w a.d a.at a.p a.v h.1 h.5 h.0.plan.answers h.0.small h.3))
     c.first_turn-turn.result (c.first_turn-turn.ensures (top w) h.5.stands) in
     let i = l.invariant h.1 h.5 h.0.plan.answers h.0.small h.3 H in
-    let item = c.in-Item.item in
-    let key = c.in-Item.key in
-    let object = c.in-Item.object in
-    let last = c.in-Item.last in
-    let E = subst (EachGoing a.s.now a.b.now a.options w a.d a.at a.p a.v h.1 h.5 h.0.plan.answers h.0.small h.3 lw l.k) c.in-Item.is i in
+    let item = c.in-Some.now.item in
+    let key = c.in-Some.now.key in
+    let object = c.in-Some.now.object in
+    let last = c.in-Some.now.last in
+    let E = subst (EachGoing a.s.now a.b.now a.options w a.d a.at a.p a.v h.1 h.5 h.0.plan.answers h.0.small h.3 lw l.k) c.in-Some.is i in
     let x = c.turn_scope-c.result in
     let is = turn_is l.c l.q.count item key l.k object last c.with_count.result x c.with_count.ensures c.turn_scope-c.ensures in
     let q₁ = c.set_current_template_name-q.result in
@@ -1956,11 +1956,11 @@ render_turns-loop-turn-smaller t c = let a = c.args in
     (c.deeper-q.ensures a.scopes c.open_each-first.result sized (front_current a.scopes a.rc a.front h.6) (ap (λ (x : Scope). x.count) first_is ∙ each_empty a.s.now a.b.now a.options w a.d a.at a.p a.v h.1 h.5 h.0.plan.answers h.0.small h.3))
     c.first_turn-turn.result (c.first_turn-turn.ensures (top w) h.5.stands) in
     let i = l.invariant h.1 h.5 h.0.plan.answers h.0.small h.3 H in
-    let item = c.in-Item.item in
-    let key = c.in-Item.key in
-    let object = c.in-Item.object in
-    let last = c.in-Item.last in
-    let E = subst (EachGoing a.s.now a.b.now a.options w a.d a.at a.p a.v h.1 h.5 h.0.plan.answers h.0.small h.3 lw l.k) c.in-Item.is i in
+    let item = c.in-Some.now.item in
+    let key = c.in-Some.now.key in
+    let object = c.in-Some.now.object in
+    let last = c.in-Some.now.last in
+    let E = subst (EachGoing a.s.now a.b.now a.options w a.d a.at a.p a.v h.1 h.5 h.0.plan.answers h.0.small h.3 lw l.k) c.in-Some.is i in
     each_less a.s.now a.b.now a.options w a.d a.at a.p a.v h.1 h.5 h.0.plan.answers h.0.small h.3 lw l.k item key object last E
 
 pub render_turns-loop-turn-preserved : goal.render_turns-loop-turn-preserved
@@ -1971,11 +1971,11 @@ render_turns-loop-turn-preserved t c = let a = c.args in
     λ r z ok small held H.
     let sized : length a.scopes ≡ 32 = array_sized a.s.now a.b.now a.rc a.scopes a.page.now a.texts.now a.indent.now a.ent.now r in
     let i = l.invariant r z ok small held H in
-    let item = c.in-Item.item in
-    let key = c.in-Item.key in
-    let object = c.in-Item.object in
-    let last = c.in-Item.last in
-    let E = subst (EachGoing a.s.now a.b.now a.options w a.d a.at a.p a.v r z ok small held lw l.k) c.in-Item.is i in
+    let item = c.in-Some.now.item in
+    let key = c.in-Some.now.key in
+    let object = c.in-Some.now.object in
+    let last = c.in-Some.now.last in
+    let E = subst (EachGoing a.s.now a.b.now a.options w a.d a.at a.p a.v r z ok small held lw l.k) c.in-Some.is i in
     let x = c.turn_scope-c.result in
     let is = turn_is l.c l.q.count item key l.k object last c.with_count.result x c.with_count.ensures c.turn_scope-c.ensures in
     let q₁ = c.set_current_template_name-q.result in

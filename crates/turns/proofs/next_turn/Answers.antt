@@ -23,7 +23,7 @@ pub merged_turn-requires : goal.merged_turn-requires
 merged_turn-requires c = let a = c.args in
     let p = c.requires in
     let w = p.2 in
-    let u = subst (TurnAt a.s.now a.b.now a.ent.now w.used a.v w.number) c.in-Item.is w.turn in
+    let u = subst (TurnAt a.s.now a.b.now a.ent.now w.used a.v w.number) c.in-Some.is w.turn in
     (p.0, p.1, record { used = w.used; room = w.room; stands = w.stands }, λ f. none_some (sym f ∙ ap merged_of c.in-Merged.is), next_key a.s.now a.b.now a.ent.now a.tab.now p.0 w.used a.v w.stands a.k w.number w.next _ _ _ _ u c.in-Merged.field-0 c.in-Merged.field-1 c.in-Merged.is, next_merged a.s.now a.b.now a.ent.now a.tab.now p.0 w.used a.v w.stands a.k w.number w.next _ _ _ _ u c.in-Merged.field-0 c.in-Merged.field-1 c.in-Merged.is)
 
 pub returns-in-Merged : goal.returns-in-Merged
@@ -38,9 +38,9 @@ pub place_turn-requires : goal.place_turn-requires
 place_turn-requires c = let a = c.args in
     let p = c.requires in
     let w = p.2 in
-    let e = sym c.place_of.ensures ∙ ap found c.in-Some.is in
-    let u = subst (TurnAt a.s.now a.b.now a.ent.now w.used a.v w.number) c.in-Item.is w.turn in
-    (p.0, place_within a.s.now a.b.now a.ent.now w.used c.in-Some.i a.v e w.stands, e, next_behind a.s.now a.b.now a.ent.now a.tab.now p.0 w.used a.v w.stands a.k w.number w.next _ _ _ _ u c.in-Some.i e c.place_of-2.result c.place_of-2.ensures)
+    let e = sym c.place_of.ensures ∙ ap found c.in-Some-place_of.is in
+    let u = subst (TurnAt a.s.now a.b.now a.ent.now w.used a.v w.number) c.in-Some.is w.turn in
+    (p.0, place_within a.s.now a.b.now a.ent.now w.used c.in-Some-place_of.i a.v e w.stands, e, next_behind a.s.now a.b.now a.ent.now a.tab.now p.0 w.used a.v w.stands a.k w.number w.next _ _ _ _ u c.in-Some-place_of.i e c.place_of-2.result c.place_of-2.ensures)
 
 pub returns : goal.returns
 returns c = c.place_turn.ensures c.args.b.now c.args.ent.now

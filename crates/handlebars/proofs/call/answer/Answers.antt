@@ -1,4 +1,4 @@
-use Rattle.handlebars.specs.declared.start.Start.TheVariants.{At}
+use Rattle.std.specs.Prelude.{Ok}
 use borrow.Author.Tests.{not-true, not-false}
 use Rattle.handlebars.specs.Answers.{Shown}
 use Rattle.handlebars.specs.Begins.{StartHolds, standing_accepted, goes_on, short, roomy}
@@ -19,17 +19,17 @@ pub go_on-requires : goal.go_on-requires
 go_on-requires c = let z = c in
     let y = c.long_enough in
     let b = c.begin-from.ensures in
-    let h = subst (StartHolds z.args.bundle.now) c.in-At.is b.0.parts in
+    let h = subst (StartHolds z.args.bundle.now) c.in-Ok.is b.0.parts in
     (h, b.1.accepted (standing_accepted z.args.bundle.now h.0), roomy _ _ _ _ (sym y.ensures ∙ c.if-not-long_enough.false))
 
-pub returns-in-Refused : goal.returns-in-Refused
-returns-in-Refused c = let z = c in
+pub returns-in-Err : goal.returns-in-Err
+returns-in-Err c = let z = c in
     let y = c.long_enough in
     let b = c.begin-from.ensures.0 in
-    (record { shown = refused_shown z.args.bundle.now z.args.page.now _ _ _ c.refused-in-Refused.ensures (b.is _ _ _ (sym y.ensures ∙ c.if-not-long_enough.false) ∙ ap (goes_on z.args.bundle.now z.args.plan.now _ _) c.in-Refused.is); places_after = c.clear-in-Refused.ensures })
+    (record { shown = refused_shown z.args.bundle.now z.args.page.now _ _ _ c.refused-in-Err.ensures (b.is _ _ _ (sym y.ensures ∙ c.if-not-long_enough.false) ∙ ap (goes_on z.args.bundle.now z.args.plan.now _ _) c.in-Err.is); places_after = c.clear-in-Err.ensures })
 
-pub returns-in-At : goal.returns-in-At
-returns-in-At c = let z = c in
+pub returns-in-Ok : goal.returns-in-Ok
+returns-in-Ok c = let z = c in
     let y = c.long_enough in
     let b = c.begin-from.ensures.0 in
-    (record { shown = subst (Shown z.args.bundle.now _ _) (sym (b.is _ _ _ (sym y.ensures ∙ c.if-not-long_enough.false) ∙ ap (goes_on z.args.bundle.now z.args.plan.now _ _) c.in-At.is)) c.go_on.ensures.shown; places_after = c.go_on.ensures.places_after })
+    (record { shown = subst (Shown z.args.bundle.now _ _) (sym (b.is _ _ _ (sym y.ensures ∙ c.if-not-long_enough.false) ∙ ap (goes_on z.args.bundle.now z.args.plan.now _ _) c.in-Ok.is)) c.go_on.ensures.shown; places_after = c.go_on.ensures.places_after })

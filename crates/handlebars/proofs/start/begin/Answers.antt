@@ -22,4 +22,4 @@ pub shape_of-index-in-Err : goal.shape_of-index-in-Err
 shape_of-index-in-Err c = c.check_indexed.ensures.1
 
 pub returns-in-Err : goal.returns-in-Err
-returns-in-Err c = let z = c in (refused_at z.args.b.now z.args.start.now z.args.options c.in-Err.e (sym (verdict_is _ _ c.check_indexed.ensures.0) ∙ c.in-Err.is) _ c.from.ensures, filled z.args.b.now z.args.index.now z.requires _ c.check_indexed.ensures.1 _ (verdict_is _ _ c.check_indexed.ensures.0) c.check_indexed.ensures.2 c.check_indexed.ensures.3)
+returns-in-Err c = let z = c in (refused_at z.args.b.now z.args.start.now z.args.options c.in-Err.e (sym (verdict_is _ _ c.check_indexed.ensures.0) ∙ c.in-Err.is) _ (c.from-in-Err.ensures ∙ c.from.ensures), filled z.args.b.now z.args.index.now z.requires _ c.check_indexed.ensures.1 _ (verdict_is _ _ c.check_indexed.ensures.0) c.check_indexed.ensures.2 c.check_indexed.ensures.3)
