@@ -75,7 +75,7 @@ typedef struct {
 
 /* Draws the template `start` of the bundle over the plan, on the page. Any bytes may be given, and any lengths. No two of the lent buffers may
    overlap, nor one of them a bundle, plan or start name. All that is lent is overwritten: at the end the page holds the text and zeros behind it,
-   after a refusal zeros only; every scratch buffer is all zero. The deepest bundles took up to 3 MiB of stack when measured, so have 4
+   after a refusal zeros only; every scratch buffer is all zero. The deepest bundles took up to 3.1 MiB of stack when measured, so have 4
    (docs/BUFFERS.md). */
 handlebars_answer handlebars_render(const uint8_t *bundle, size_t bundle_len, const uint8_t *plan, size_t plan_len, const uint8_t *start,
                                     size_t start_len, uint32_t options, uint8_t *page, size_t page_len, uint64_t *places, size_t places_len,

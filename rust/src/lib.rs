@@ -19,7 +19,7 @@
 //!
 //! # Stack
 //!
-//! The core recurses as deeply as templates nest. The deepest bundles take 3,024 KiB of stack by measure (docs/BUFFERS.md, which
+//! The core recurses as deeply as templates nest. The deepest bundles take 3,120 KiB of stack by measure (docs/BUFFERS.md, which
 //! promises that 4 MiB do): more than the 2 MiB that a thread of Rust has by default. So every call here runs on a thread of its own
 //! with 8 MiB, which takes some ten microseconds. To spare them, make many calls inside [`with_stack`]: it starts such a thread once,
 //! and the calls inside it run right there.

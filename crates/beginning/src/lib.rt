@@ -223,8 +223,8 @@ pub fn begin(
         d,
         &mut values,
     );
-    if let Err(e) = hashed {
-        return done(state::failed(rc, e), front);
+    if let Err(reason) = hashed {
+        return done(state::failed(rc, reason), front);
     }
     let marks = rc.writer;
     if !decorators::indent_fits(b, marks.has_indent, marks.indent, at) {

@@ -46,7 +46,7 @@ fn element(b: &[u8], p: usize, w: usize, d: usize) -> usize
         6 => part::tail(b, call::partial_call(b, q, d)),
         7 => part::tail(b, body(b, call::partial_call(b, q, d), w, d)),
         8 => part::string(b, q),
-        _ => BROKEN,
+        _ => BROKEN, // no kind of element
     }
 }
 

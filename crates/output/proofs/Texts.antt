@@ -9,13 +9,21 @@ use native.Mathlib.Omega.{arith}
 use borrow.Author.Tests.{ltb-true}
 use lib.Dec.{ltb}
 use lib.ListN.{length, get_or, take, drop, set, length-append}
-use lib.Seq.{sets, sets-eq, paste, slice, slice_empty, take_all, length-slice, length-take-le, take-suc, take_at, drop-append-le, drop-set-lt, take-set-le}
+use lib.Seq.{sets, sets-eq, paste, slice, slice-cons, slice_empty, take_all, length-slice, length-take-le, take-suc, take_at, drop-append-le, set_comm, get_or-set_other, drop-set-lt, take-set-le}
 use borrow.Rule.Slice.PartMut.{put_mid}
 use Rattle.std.proofs.lemmas.Slice.{put_mid-paste}
 use Rattle.rules.specs.Bytes.{Bytes, pick}
 use Rattle.output.specs.Writer.{Output, over, stored, filled, place_of, limit_of, put}
 
 -- a run of stores, and what lies below it
+pub set_sets : (v l : Bytes) (i j x : ℕ) → i < j → set (sets l j v) i x ≡ sets (set l i x) j v
+set_sets [] l i j x h = refl
+set_sets (a ∷ v) l i j x h = set_sets v (set l j a) i (suc j) x (omega arith) ∙ ap (λ (m : Bytes). sets m (suc j) v) (set_comm l j i a x (λ e. omega (arith, e)))
+
+pub get_d_sets : (v l : Bytes) (i j : ℕ) → i < j → get_or (sets l j v) i 0 ≡ get_or l i 0
+get_d_sets [] l i j h = refl
+get_d_sets (a ∷ v) l i j h = get_d_sets v (set l j a) i (suc j) (omega arith) ∙ get_or-set_other l j i a 0 (λ e. omega (arith, e))
+
 pub drop_sets : (v l : Bytes) (i k : ℕ) → i + length v ≤ k → drop k (sets l i v) ≡ drop k l
 drop_sets [] l i k h = refl
 drop_sets (a ∷ v) l i k h = drop_sets v (set l i a) (suc i) k (omega arith) ∙ drop-set-lt k l i a (omega arith)
@@ -51,6 +59,11 @@ module _ (t : Bytes) (begin low high : ℕ) (bl : begin ≤ low) (lh : low ≤ h
 
   pub moved_beneath : take begin (sets t (high - (low - begin)) (slice begin low t)) ≡ take begin t
   moved_beneath = take_sets (slice begin low t) t (high - (low - begin)) begin (omega arith)
+
+-- one byte more is moved, from the last one down
+pub move_more : (t₀ t : Bytes) (i j i' j' low : ℕ) → suc i ≡ i' → suc j ≡ j' → i < low → low ≤ length t₀ → i ≤ j → t ≡ sets t₀ j' (slice i' low t₀) → set t j (get_or t i 0) ≡ sets t₀ j (slice i low t₀)
+move_more t₀ t i j i' j' low ei ej il lt ij e =
+    rw (e, ← ei, ← ej, slice-cons i low t₀ 0 il lt, get_d_sets (slice (suc i) low t₀) t₀ i (suc j) (omega arith)) (set_sets (slice (suc i) low t₀) t₀ j (suc j) (get_or t₀ i 0) (omega arith))
 
 -- a copy is a run of stores
 pub pasted : (l v : Bytes) (i n : ℕ) → i + n ≤ length l → n ≤ length v → paste l i v n ≡ sets l i (take n v)

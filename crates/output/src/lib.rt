@@ -201,7 +201,9 @@ pub fn move_text(texts: &mut [u8], begin: usize, low: usize, high: usize) -> usi
     ensures { (result ≡ high - (low - begin)) × (texts.new ≡ sets texts.old result (slice begin low texts.old)) }
 {
     let to = high - (low - begin);
-    texts.copy_within(begin..low, to);
+    for i in (begin..low).rev() {
+        texts[to + (i - begin)] = texts[i];
+    }
     to
 }
 

@@ -270,7 +270,7 @@ fn says_bytes(s: &[u8], i: usize, w: &[u8]) -> bool
     let mut k: usize = 0;
     for b in w {
         let Some((said, c)) = next_byte(s, at, k) else {
-            return false;
+            return false; // the string ends first
         };
         if *b != said {
             return false;

@@ -88,7 +88,7 @@ fn is_steps(s: &[u8], b: &[u8], t: Text, w: &[u8]) -> bool
     let mut u = t;
     for d in w {
         let Some((met, v)) = next(s, b, u) else {
-            return false;
+            return false; // the text ends first
         };
         if *d != met {
             return false;

@@ -44,7 +44,7 @@ returns-in-Err c = let z = c in
     let call = c.call_at-call in
     let hash = c.hash_all-hashed in
     let fail = c.failed-in-Err in
-    hash_stop a.s.now a.tab.now a.b.now a.index.now a.options a.scopes a.rc a.front a.page.now a.texts.now a.indent.now a.ent.now a.d a.p a.own a.at a.before z.requires names.result names.ensures.template c.in_default.is call.result call.ensures hash.new.values (refused hash.result) hash.ensures.0 c.in-Err.e (ap refused c.in-Err.is) fail.result fail.ensures c.done-in-Err.result c.done-in-Err.ensures
+    hash_stop a.s.now a.tab.now a.b.now a.index.now a.options a.scopes a.rc a.front a.page.now a.texts.now a.indent.now a.ent.now a.d a.p a.own a.at a.before z.requires names.result names.ensures.template c.in_default.is call.result call.ensures hash.new.values (refused hash.result) hash.ensures.0 c.in-Err.reason (ap refused c.in-Err.is) fail.result fail.ensures c.done-in-Err.result c.done-in-Err.ensures
 
 pub indent_fits-requires : goal.indent_fits-requires
 indent_fits-requires c = let z = c in
