@@ -9,9 +9,7 @@ use native.Mathlib.Omega.{arith}
 use borrow.Author.Tests.{ltb-true}
 use lib.Dec.{ltb}
 use lib.ListN.{length, get_or, take, drop, set, length-append}
-use lib.Seq.{sets, sets-eq, paste, slice, slice-cons, slice_empty, take_all, length-slice, length-take-le, take-suc, take_at, drop-append-le, set_comm, get_or-set_other, drop-set-lt, take-set-le}
-use borrow.Rule.Slice.PartMut.{put_mid}
-use Rattle.std.proofs.lemmas.Slice.{put_mid-paste}
+use lib.Seq.{sets, sets-eq, slice, slice-cons, slice_empty, length-slice, length-take-le, take-suc, take_at, drop-append-le, set_comm, get_or-set_other, drop-set-lt, take-set-le}
 use Rattle.rules.specs.Bytes.{Bytes, pick}
 use Rattle.output.specs.Writer.{Output, over, stored, filled, place_of, limit_of, put}
 
@@ -64,17 +62,6 @@ module _ (t : Bytes) (begin low high : ℕ) (bl : begin ≤ low) (lh : low ≤ h
 pub move_more : (t₀ t : Bytes) (i j i' j' low : ℕ) → suc i ≡ i' → suc j ≡ j' → i < low → low ≤ length t₀ → i ≤ j → t ≡ sets t₀ j' (slice i' low t₀) → set t j (get_or t i 0) ≡ sets t₀ j (slice i low t₀)
 move_more t₀ t i j i' j' low ei ej il lt ij e =
     rw (e, ← ei, ← ej, slice-cons i low t₀ 0 il lt, get_d_sets (slice (suc i) low t₀) t₀ i (suc j) (omega arith)) (set_sets (slice (suc i) low t₀) t₀ j (suc j) (get_or t₀ i 0) (omega arith))
-
--- a copy is a run of stores
-pub pasted : (l v : Bytes) (i n : ℕ) → i + n ≤ length l → n ≤ length v → paste l i v n ≡ sets l i (take n v)
-pasted l v i n h k =
-    let e = length-take-le n v k in
-    sym (sets-eq (take n v) l i (omega arith) ∙ ap (λ (m : ℕ). take i l ++ take n v ++ drop (i + m) l) e)
-
--- and so is a part that is written over
-pub written_over : (i k : ℕ) (l v : Bytes) → length v ≡ k → i + k ≤ length l → put_mid i k l v ≡ sets l i v
-written_over i k l v e h =
-    put_mid-paste i k l v v k refl refl (sym e) ∙ pasted l v i k h (omega arith) ∙ ap (sets l i) (take_all k v (omega arith))
 
 -- a run of stores behind another
 pub sets_behind : (u v l : Bytes) (i : ℕ) → sets (sets l i u) (i + length u) v ≡ sets l i (u ++ v)

@@ -126,13 +126,13 @@ pub fn put(out: &mut [u8], w: Writer, c: u8) -> Writer
     q
 }
 
-// The first n of lent bytes, stored from a place on. (Where n is 0, the place may lie past the end, where not even an empty part begins.)
+// The first n of lent bytes, stored from a place on. (`copy_from_slice`, here, and `copy_within` in `move_text` make the archive for C need `memmove` from outside.)
 pub fn copy(out: &mut [u8], at: usize, v: &[u8], n: usize)
     requires { (n ≤ length out.old - at) × (n ≤ length v.now) }
     ensures { out.new ≡ sets out.old at (take n v.now) }
 {
-    if 0 < n {
-        out[at..at + n].copy_from_slice(&v[..n]);
+    for i in 0..n {
+        out[at + i] = v[i];
     }
 }
 

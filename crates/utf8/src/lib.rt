@@ -14,18 +14,26 @@ pub enum Utf {
     Bad,
 }
 
-// What is wanted behind a first byte: Bad where no character starts with it.
+// What is wanted behind a first byte: Bad where no character starts with it. (Most bytes are told by the first tests. One match over all of them becomes a table of
+// jumps, which costs the check of a bundle a third more time where texts have many characters of three bytes.)
 fn lead(c: u8) -> Utf
     ensures { wanted result ≡ lead c }
 {
+    if c < 128 {
+        return Utf::Wants(0, 128, 191);
+    }
+    if c < 194 {
+        return Utf::Bad;
+    }
+    if c < 224 {
+        return Utf::Wants(1, 128, 191);
+    }
     match c {
-        0..=127 => Utf::Wants(0, 128, 191),
-        194..=223 => Utf::Wants(1, 128, 191),
         224 => Utf::Wants(2, 160, 191),
         237 => Utf::Wants(2, 128, 159),
-        225..=239 => Utf::Wants(2, 128, 191),
+        _ if c < 240 => Utf::Wants(2, 128, 191),
         240 => Utf::Wants(3, 144, 191),
-        241..=243 => Utf::Wants(3, 128, 191),
+        _ if c < 244 => Utf::Wants(3, 128, 191),
         244 => Utf::Wants(3, 128, 143),
         _ => Utf::Bad,
     }

@@ -1,14 +1,19 @@
+use Rattle.rules.specs.Bytes.{Bytes}
 use mathlib.Core.Path.{◌≡◌, ap, ◌∙◌}
-use Prim.Native.Nat.{◌+◌, ◌-◌}
+use Prim.Native.Nat.{ℕ, ◌+◌}
 use native.Mathlib.Omega.{arith}
-use lib.ListN.{length, take}
-use lib.Seq.{sets, length-take-le}
-use Rattle.output.proofs.Texts.{written_over}
+use lib.ListN.{get_or, take, set}
+use lib.Seq.{sets}
+use Rattle.output.proofs.Texts.{copy_more}
 use Rattle.output.proofs.copy.Goals as goal
 
-pub returns-then-n-gt0 : goal.returns-then-n-gt0
-returns-then-n-gt0 c = let a = c.args in
-    let v = c.copy_from_slice.new.self in
-    let e : v ≡ take a.n a.v.now = c.copy_from_slice.ensures.after in
-    let n = length-take-le a.n a.v.now (omega arith) in
-    written_over a.at (a.at + a.n - a.at) a.out.now v (omega (arith, ap length e)) (omega arith) ∙ ap (sets a.out.now a.at) e
+pub loop-i-preserved : goal.loop-i-preserved
+loop-i-preserved c = let a = c.args in
+    let l = c.loop-i in
+    ap (λ (x : Bytes). set x (a.at + l.i) (get_or a.v.now l.i 0)) l.invariant ∙ copy_more a.out.now a.v.now a.at l.i (omega arith)
+
+pub returns : goal.returns
+returns c = let a = c.args in
+    let l = c.loop-i in
+    let e : l.i ≡ a.n = omega arith in
+    l.invariant ∙ ap (λ (i : ℕ). sets a.out.now a.at (take i a.v.now)) e
