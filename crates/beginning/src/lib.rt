@@ -135,7 +135,7 @@ fn enter(
         s, tab, b, ent, front, base, r, n, values, d, rc.used, rc.total,
     );
     match opened {
-        Err(e) => done(state::failed(rc, e), front),
+        Err(e) => done(state::failed(rc, Some(e)), front),
         Ok((c, total)) => {
             let u = state::set_total(state::deeper(rc, scope::names_of(b, ent, c)), total);
             match own {
@@ -203,7 +203,7 @@ pub fn begin(
 {
     let w = expand::name_and_params(s, tab, b, ent, scopes, rc.used, options, p, d);
     if let Some(e) = w.bad {
-        return done(state::failed(rc, e), front);
+        return done(state::failed(rc, Some(e)), front);
     }
     let call = calls::call_at(b, p, d);
     let n = call.pairs as usize;
@@ -224,16 +224,19 @@ pub fn begin(
         &mut values,
     );
     if let Err(reason) = hashed {
-        return done(state::failed(rc, reason), front);
+        return done(state::failed(rc, Some(reason)), front);
     }
     let marks = rc.writer;
     if !decorators::indent_fits(b, marks.has_indent, marks.indent, at) {
-        return done(state::failed(rc, RenderErrorReason::IndentLimit), front);
+        return done(
+            state::failed(rc, Some(RenderErrorReason::IndentLimit)),
+            front,
+        );
     }
     let q = state::begin_aware(rc, before_partial(marks, at, before));
     let name = w.name;
     match targets::expand_partial(s, tab, b, index, ent, scopes, name, own, d, q) {
-        Target::Bad(e) => done(state::failed(q, e), front),
+        Target::Bad(e) => done(state::failed(q, Some(e)), front),
         Target::Text(from, len) => done(
             state::finish(
                 writing::partial_block_text(page, texts, q, from, len),

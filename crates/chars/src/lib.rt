@@ -11,7 +11,6 @@ ghost use Rattle.chars.specs.Leads.{lead_length};
 use text::Text;
 use value::Value;
 
-// The first character, and the text behind it.
 // How many bytes a character of UTF-8 has, by its first byte.
 fn lead_length(c: u8) -> usize
     ensures { result ≡ lead_length c }

@@ -81,10 +81,9 @@ pub fn append_indent(indent: &mut [u8], b: &[u8], len: usize, at: Option<usize>)
 
 // Inline partials
 
-// Among those of a scope.
 #[derive(Clone, Copy)]
 pub enum Inlined {
-    // the paper's number of the refusal
+    // why it is refused
     Bad(RenderErrorReason),
     // the scope has no inline partial of the name that the value says
     New(Value),

@@ -36,6 +36,7 @@ use Rattle.drawing.specs.Parts.{before_helper}
 use Rattle.drawing.specs.Renders.{registry_of, Renders, Possible, Helped}
 use Rattle.drawing.specs.Members.{alike, draws_failed}
 use Rattle.error.specs.declared.RenderErrorReason.TheVariants.{HelperNotFound}
+use Rattle.error.specs.Reasons.{listed, not_other}
 use Rattle.error.specs.declared.RenderErrorReason.{RenderErrorReason as Reason}
 
 pub has_body : (g : Registry) (R : Rendering) (d : ℕ) (b : Bytes) (m : RustOption ℕ) → is_at m ≡ has (render_body g R (body_says 16 d (bits b) m))
@@ -45,7 +46,7 @@ has_body g R d b None = refl
 
 -- what a helper was found to do can be done
 pub possible : (s b : Bytes) (w : World) (ns : template.BlockParam) (T I : Drawable) (st : rules.RenderContext) (x : Res) (a : Does) → Helps s b w.ent (top w) w.rc.used ns T I st x a → Possible s b w a
-possible s b w ns T I st x (does.Bad n) h = tt
+possible s b w ns T I st x (does.Bad e) h = not_other e 0 (listed h.reason e h.by_reason)
 possible s b w ns T I st x does.Nothing h = tt
 possible s b w ns T I st x does.Template h = tt
 possible s b w ns T I st x does.Inverse h = tt
@@ -103,7 +104,7 @@ module _ (s b : Bytes) (o : Options) (w : World) (r : Ready s b w) (c : template
     helper_possible = go (get_helper e.name) refl
       where
         go : (q : Option registry.HelperDef) → get_helper e.name ≡ q → Possible s b w₁ a
-        go none q = subst (Possible s b w₁) (sym (unknown q)) tt
+        go none q = subst (Possible s b w₁) (sym (unknown q)) (not_other HelperNotFound 0 refl)
         go (some k) q = possible s b w₁ ns (T 0) (I 0) (abs s b w₁) (call_helper g k e ns (T 0) (I 0) (abs s b w₁)) a (helps 0 k q)
 
     abbrev found : ℕ → Option registry.HelperDef → Res

@@ -38,6 +38,7 @@ use Rattle.state.specs.World.{World, over, front, top, name_at, abs, Ready, Draw
 use Rattle.state.specs.Steps as steps
 use Rattle.texts.specs.Setters.{cleaned}
 use Rattle.texts.specs.Included.{Included}
+use Rattle.error.specs.declared.RenderErrorReason.TheVariants.{Other}
 
 abbrev pub options_of : Options → registry.Options
 options_of o = record { strict_mode = o.strict; recursive_lookup = o.recursive_lookup; guide_truth = o.guide_truth }
@@ -72,7 +73,7 @@ pub record Openable (s b : Bytes) (w : World) (v : Value) : Type 0 where
   pub room : w.rc.used < 32
 
 abbrev pub Possible : Bytes → Bytes → World → Does → Type 0
-Possible s b w (Bad n) = Unit {0}
+Possible s b w (Bad e) = e ≡ Other 0 → ⊥
 Possible s b w Nothing = Unit {0}
 Possible s b w Template = Unit {0}
 Possible s b w Inverse = Unit {0}

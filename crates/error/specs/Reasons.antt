@@ -1,12 +1,13 @@
 -- The code's reasons are those of the rules.
 use Rattle.std.specs.Option.{is_some}
 use Rattle.std.specs.Prelude.{ℕ, true, false, ◌≡◌, refl, Option as RustOption, Some, None, Result, Ok, Err}
-use Rattle.std.proofs.Common.{sym, ◌∙◌, arith}
-use Rattle.std.proofs.lemmas.Option.{none-some}
+use Rattle.std.proofs.Common.{sym, ◌∙◌, subst, arith}
+use Rattle.std.proofs.Math.Path.{ap}
+use Rattle.std.proofs.lemmas.Option.{none-some, same_Some}
 use Rattle.rules.specs.Error as rule
 use Rattle.rules.specs.Error.{missing-variable, partial-not-found, partial-block-not-found, helper-not-found, param-not-found-for-index, decorator-not-found, cannot-include-self, invalid-param-type, block-content-required, invalid-json-index, indent-limit, entries-limit, scopes-limit, block-texts-limit, page-limit}
 use Rattle.error.specs.declared.RenderErrorReason.{RenderErrorReason as Reason}
-use Rattle.error.specs.declared.RenderErrorReason.TheVariants.{MissingVariable, PartialNotFound, PartialBlockNotFound, HelperNotFound, ParamNotFoundForIndex, DecoratorNotFound, CannotIncludeSelf, InvalidParamType, BlockContentRequired, InvalidJsonIndex, IndentLimit, EntriesLimit, ScopesLimit, BlockTextsLimit, PageLimit}
+use Rattle.error.specs.declared.RenderErrorReason.TheVariants.{MissingVariable, PartialNotFound, PartialBlockNotFound, HelperNotFound, ParamNotFoundForIndex, DecoratorNotFound, CannotIncludeSelf, InvalidParamType, BlockContentRequired, InvalidJsonIndex, IndentLimit, EntriesLimit, ScopesLimit, BlockTextsLimit, PageLimit, Other}
 
 -- which of the rules' reasons it is
 abbrev pub reason : Reason → rule.RenderErrorReason
@@ -25,6 +26,7 @@ reason EntriesLimit = entries-limit
 reason ScopesLimit = scopes-limit
 reason BlockTextsLimit = block-texts-limit
 reason PageLimit = page-limit
+reason (Other n) = page-limit
 
 -- the paper's number of it
 abbrev pub number_of : Reason → ℕ
@@ -43,6 +45,7 @@ number_of EntriesLimit = 22
 number_of ScopesLimit = 23
 number_of BlockTextsLimit = 24
 number_of PageLimit = 25
+number_of (Other n) = 25
 
 pub number_is : (e : Reason) → rule.number (reason e) ≡ number_of e
 number_is MissingVariable = refl
@@ -60,6 +63,7 @@ number_is EntriesLimit = refl
 number_is ScopesLimit = refl
 number_is BlockTextsLimit = refl
 number_is PageLimit = refl
+number_is (Other n) = refl
 
 -- which of the code's it is
 abbrev pub coded : rule.RenderErrorReason → Reason
@@ -102,6 +106,16 @@ reason_coded page-limit = refl
 
 pub refusal_some : (r : rule.RenderErrorReason) → refusal r ≡ None → ⊥
 refusal_some r e = cc
+
+-- it is one of the rules' reasons, and none of the other numbers
+abbrev pub Listed : Reason → Type 0
+Listed e = coded (reason e) ≡ e
+
+pub listed : (r : rule.RenderErrorReason) (e : Reason) → refusal r ≡ Some e → Listed e
+listed r e h = subst Listed (same_Some (coded r) e h) (ap coded (reason_coded r))
+
+pub not_other : (e : Reason) (n : ℕ) → Listed e → e ≡ Other n → ⊥
+not_other e n h z = let k : Listed (Other n) = subst Listed z h in cc
 
 -- the refusal of what may be refused, if there is one
 abbrev pub refused : {A : Type 0} → Result A Reason → RustOption Reason

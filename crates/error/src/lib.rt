@@ -43,6 +43,8 @@ pub enum RenderErrorReason {
     ScopesLimit,
     BlockTextsLimit,
     PageLimit,
+    // a number that is none of theirs, which no code gives: it is read as the page's limit
+    Other(u8),
 }
 
 impl RenderErrorReason {
@@ -66,6 +68,7 @@ impl RenderErrorReason {
             RenderErrorReason::ScopesLimit => 23,
             RenderErrorReason::BlockTextsLimit => 24,
             RenderErrorReason::PageLimit => 25,
+            RenderErrorReason::Other(_) => 25,
         }
     }
 }

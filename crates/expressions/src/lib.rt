@@ -38,7 +38,7 @@ fn draw_bare(
         indent.now page.new texts.new does }
 {
     match does {
-        Does::Bad(n) => state::failed(rc, n),
+        Does::Bad(n) => state::failed(rc, Some(n)),
         Does::Write(v) => writing::value(page, texts, indent, s, tab, b, v, rc),
         _ => rc,
     }
@@ -107,7 +107,7 @@ pub fn render_expression(
 {
     let shows = helpers::expression(s, tab, b, ent, scopes, rc.used, options, p, d);
     match shows {
-        Shows::Bad(n) => state::failed(rc, n),
+        Shows::Bad(n) => state::failed(rc, Some(n)),
         Shows::Helper => render_bare(
             s, tab, b, ent, page, texts, indent, scopes, options, p, before, d, rc,
         ),

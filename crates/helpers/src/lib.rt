@@ -40,7 +40,7 @@ use value::Value;
 // What a helper does.
 #[derive(Clone, Copy)]
 pub enum Does {
-    // the paper's number of the refusal
+    // why it is refused
     Bad(RenderErrorReason),
     Nothing,
     // draws its template or its inverse, if there is one
@@ -357,7 +357,7 @@ pub fn call_two(
 // What an expression does.
 #[derive(Clone, Copy)]
 pub enum Shows {
-    // the paper's number of the refusal
+    // why it is refused
     Bad(RenderErrorReason),
     // calls a helper with no bodies
     Helper,

@@ -1,6 +1,6 @@
 -- Laws of the beginning of a helper.
 use Rattle.std.proofs.lemmas.Option.{none-some}
-use Rattle.error.specs.Reasons.{not_none}
+use Rattle.error.specs.Reasons.{not_none, listed, not_other}
 use Rattle.std.specs.Prelude.{ℕ, ◌-◌, ◌*◌, ◌≤◌, Bool, List, [], refl, length, Option as RustOption, Some, None}
 use Rattle.std.proofs.Math.Bool.{true, false}
 use Rattle.std.proofs.Math.Option.{none}
@@ -82,7 +82,7 @@ module _ (s b : Bytes) (ent : List ℕ) (o : Options) (c : RenderContext) (d p :
         let w₀ : World = world c page texts indent ent in
         let z = (given page texts indent r).refused (not_none k q) in
         record {
-          possible = tt;
+          possible = not_other k 0 (listed z.reason k (z.by_reason ∙ q));
           done = λ w₂ D. record {
             at = λ f le.
                 let g : Registry = registry_of s b o (length page) in

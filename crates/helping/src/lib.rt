@@ -166,8 +166,7 @@ fn decide_two(
     )
 }
 
-// What a helper does, if the front tells.
-// What the helper of the call at p does, by the front alone.
+// What the helper of the call at p does, by the front alone; None where that does not tell.
 pub fn decide_near(
     s: &[u8],
     tab: &[u64],
@@ -403,7 +402,7 @@ pub fn begin(
     let marks = rc.writer;
     let q = begin_helper(rc, before);
     match does {
-        Does::Bad(n) => done(front, state::failed(q, n)),
+        Does::Bad(n) => done(front, state::failed(q, Some(n))),
         Does::Nothing => done(front, state::settle(q, marks)),
         Does::Template => body_next(template, front, q, marks),
         Does::Inverse => body_next(inverse, front, q, marks),

@@ -87,7 +87,7 @@ fn keep_partial(
         × (ent.new ≡ entries_after c ent.old d q x) }
 {
     match x {
-        Inlined::Bad(e) => state::failed(rc, e),
+        Inlined::Bad(e) => state::failed(rc, Some(e)),
         Inlined::New(v) => add_partial(ent, c, rc, v, d, q),
         Inlined::Again(k, _) => {
             // the entry keeps its name
@@ -124,18 +124,18 @@ pub fn eval_decorator(
 {
     let w = expand::try_from_template(s, tab, b, ent, scopes, rc.used, options, p, d);
     if let Some(e) = w.bad {
-        return state::failed(rc, e);
+        return state::failed(rc, Some(e));
     }
     let name = w.name;
     if !decorators::indent_fits(b, rc.writer.has_indent, rc.writer.indent, at) {
-        return state::failed(rc, RenderErrorReason::IndentLimit);
+        return state::failed(rc, Some(RenderErrorReason::IndentLimit));
     }
     if !decorators::is_inline(s, tab, b, name) {
-        return state::failed(rc, RenderErrorReason::DecoratorNotFound);
+        return state::failed(rc, Some(RenderErrorReason::DecoratorNotFound));
     }
     // it comes before the refusal of with_body
     if w.count == 0 {
-        return state::failed(rc, RenderErrorReason::ParamNotFoundForIndex);
+        return state::failed(rc, Some(RenderErrorReason::ParamNotFoundForIndex));
     }
     let has = is_at(body);
     let x = decorators::inline(s, tab, b, ent, front, rc.total, w, has);

@@ -28,7 +28,6 @@ use meaning::Form;
 use text::Text;
 use value::Value;
 
-// The name and the value of a member; the value has no path.
 // How many members a value has that is not merged.
 fn plain_count(s: &[u8], tab: &[u64], b: &[u8], v: Value) -> usize
     requires { Accepted s.now tab.now × (length b.now ≤ 65536) × PlainHeld s.now b.now v }
@@ -333,8 +332,8 @@ fn plain_next(
     }
 }
 
-// The member of a value taken as an object with the least name behind that of `after`; the least of all where there is none. In a merged
-// object a hash pair stands before a member of the same name of its base.
+// The member of a value taken as an object with the least name behind that of `after`, by its name and its value, which has no path;
+// the least of all where there is none. In a merged object a hash pair stands before a member of the same name of its base.
 // (A scan, so that walking n members takes n * n comparisons.)
 pub fn next_member(
     s: &[u8],

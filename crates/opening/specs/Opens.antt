@@ -32,6 +32,7 @@ use Rattle.state.specs.Setters.{failed, counted, pushed}
 use Rattle.opening.specs.Scoped.{Starts, SomeWorked, ScopeOpened, scope_base, scope_holds, scope_pairs, scope_parts, scope_full, scope_deep, scope_readable, scope_opened}
 use Rattle.error.specs.declared.RenderErrorReason.TheVariants.{EntriesLimit, ScopesLimit}
 use Rattle.error.specs.declared.RenderErrorReason.{RenderErrorReason as Reason}
+use Rattle.error.specs.Reasons.{Listed}
 
 -- the context has this newest scope, so many scopes, and so many entries in use
 pub record Tops (c : RenderContext) (front : Scope) (used total : ℕ) : Type 0 where
@@ -69,7 +70,7 @@ pub record Fresh (b : Bytes) (ent : List ℕ) (used : ℕ) (x : Scope) : Type 0 
   pub readable : Readable b ent x
 
 abbrev pub Answers : Bytes → List ℕ → ℕ → Result (Scope × ℕ) Reason → Type 0
-Answers b ent used (Err k) = Unit {0}
+Answers b ent used (Err k) = Listed k
 Answers b ent used (Ok (x, t)) = Fresh b ent used x
 
 -- what it makes of a context; the block names of the scope are in the set m
@@ -183,7 +184,7 @@ module _ (s : Bytes) (tab : List ℕ) (b : Bytes) (ent : List ℕ) (front : Scop
 
   pub open_many : 4096 < t + n → Opens s b ent ent front base d q n l used total (Err EntriesLimit)
   open_many lt = record {
-    well = tt;
+    well = refl;
     at = λ c o p x k T G y. given_many s b ent base d q n l o c p x ok P.small G front T.is lt;
   }
 
@@ -201,7 +202,7 @@ module _ (s : Bytes) (tab : List ℕ) (b : Bytes) (ent : List ℕ) (front : Scop
 
       pub open_full : 4096 < total + m → Opens s b ent ent' front base d q n l used total (Err EntriesLimit)
       open_full lt = record {
-        well = tt;
+        well = refl;
         at = λ c o p x k T G y.
             subst (λ (k : List ℕ). ScopeOpened s b ent k o c (failed c (Some EntriesLimit)) d p x) (sym is)
             (given_full s b ent base d q n l o c p x ok P.small G front T.is few (omega (arith, lt, T.taken, so_many)));
@@ -209,7 +210,7 @@ module _ (s : Bytes) (tab : List ℕ) (b : Bytes) (ent : List ℕ) (front : Scop
 
       pub open_deep : total + m ≤ 4096 → 32 ≤ used → Opens s b ent ent' front base d q n l used total (Err ScopesLimit)
       open_deep le ge = record {
-        well = tt;
+        well = refl;
         at = λ c o p x k T G y.
             subst (λ (k : List ℕ). ScopeOpened s b ent k o c (failed c (Some ScopesLimit)) d p x) (sym is)
             (given_deep s b ent base d q n l o c p x ok P.small G front T.is few (omega (arith, le, T.taken, so_many)) (omega (arith, ge, T.deep)));

@@ -126,7 +126,8 @@ pub fn put(out: &mut [u8], w: Writer, c: u8) -> Writer
     q
 }
 
-// The first n of lent bytes, stored from a place on. (`copy_from_slice`, here, and `copy_within` in `move_text` make the archive for C need `memmove` from outside.)
+// The first n of lent bytes, stored from a place on. (A `for`: `copy_from_slice` here, or `copy_within` in `move_text`,
+// would make the archive for C need `memmove` from outside.)
 pub fn copy(out: &mut [u8], at: usize, v: &[u8], n: usize)
     requires { (n ≤ length out.old - at) × (n ≤ length v.now) }
     ensures { out.new ≡ sets out.old at (take n v.now) }

@@ -22,7 +22,6 @@ ghost use Rattle.places.specs.Children.{is_object, end_at, behind, around};
 use saying::Name;
 use std::cmp::Ordering;
 
-// A place, or none.
 #[derive(Clone, Copy)]
 pub enum Kind {
     Null,

@@ -44,7 +44,7 @@ use Rattle.state.specs.World.{top, error_of}
 use Rattle.drawing.specs.Members.{setting}
 use Rattle.drawing.specs.Renders.{registry_of}
 use Rattle.plain.specs.Plain.{kept, full_refusal, expression_of, TextIs, ExpressionIs, PathIs, is_html, OneDrawn, ShowsAt}
-use Rattle.error.specs.Reasons.{refusal}
+use Rattle.error.specs.Reasons.{refusal, Listed, listed}
 use Rattle.error.specs.declared.RenderErrorReason.TheVariants.{BlockTextsLimit, PageLimit}
 use Rattle.error.specs.declared.RenderErrorReason.{RenderErrorReason as Reason}
 
@@ -141,6 +141,15 @@ module _ (s b : Bytes) (o : Options) (d p : ℕ) (c : RenderContext) (w : Writer
         by true k = outside (off k) k w (Some n) page texts (expression_refused s b o (over inside before) ready d (p + 16 + 16 + 4) P.before a l same E n h (with_escape (kept c w (Some n)) true) refl)
         by false k = drawn (world (kept c w (Some n)) page texts indent ent) (expression_refused s b o before r d (p + 16 + 16 + 4) P.before a l same E n h (kept c w (Some n)) refl) k
 
+    pub path_listed : (n : Reason) → a ≡ shows.Bad n → Listed n
+    path_listed n h =
+        let g = registry_of s b o (length page) in
+        let S : Setting s b ent l c.used o g (abs s b before) (top before) =
+        subst (λ (k : List Scope). Setting s b ent k c.used o g (abs s b before) (top before)) same (setting s b o before r (length page)) in
+        let f : Expresses s b ent (top before) g call P.before (abs s b before) (render_expression g call P.before (abs s b before)) (shows.Bad n) =
+        subst (Expresses s b ent (top before) g call P.before (abs s b before) (render_expression g call P.before (abs s b before))) h (E g (abs s b before) (top before) P.before S) in
+        listed f.reason n f.by_reason
+
     pub path_nothing : (html ≡ true → c.disable_escape ≡ false) → a ≡ shows.Nothing → OneDrawn s b o d p before (world (kept c w (full_refusal w)) page texts indent ent) next
     path_nothing off h = subst (λ (n : RustOption Reason). OneDrawn s b o d p before (world (kept c w n) page texts indent ent) next) (sym (full_none w r.sound.goes)) (by html refl)
       where
@@ -224,6 +233,9 @@ module _ (s b : Bytes) (o : Options) (d p : ℕ) (c : RenderContext) (page texts
     refused_here n h =
         from_here (world (failed c (Some n)) page texts indent ent) next
         (path_refused s b o d p c c.writer page texts indent ent ready_kept html A.path next A.is a l same-scopes (A.shows l c.used N) A.escapes n h)
+
+    pub refusal_listed : (n : Reason) → a ≡ shows.Bad n → Listed n
+    refusal_listed n h = path_listed s b o d p c c.writer page texts indent ent ready_kept html A.path next A.is a l same-scopes (A.shows l c.used N) n h
 
 -- a writer that is not full has written all
 pub wrote_all : (c : RenderContext) (u : Writer) → u.full ≡ false → wrote c u ≡ with_writer c u

@@ -36,7 +36,7 @@ use Rattle.error.specs.Reasons.{refusal}
 use Rattle.error.specs.declared.RenderErrorReason.TheVariants.{BlockTextsLimit, PageLimit}
 use Rattle.error.specs.declared.RenderErrorReason.{RenderErrorReason as Reason}
 
--- a context with another writer, and the number of a refusal
+-- a context with another writer, and why it is refused, if it is
 abbrev pub kept : RenderContext → Writer → RustOption Reason → RenderContext
 kept c w n = failed (with_writer c w) n
 

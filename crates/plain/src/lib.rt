@@ -114,7 +114,7 @@ pub enum Shown {
     Lookup(u32, bool, bool, usize),
     // an expression that writes nothing, and the place behind it
     Nothing(usize),
-    // the number of the refusal
+    // why it is refused
     Bad(RenderErrorReason),
     Other,
 }

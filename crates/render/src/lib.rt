@@ -153,7 +153,7 @@ fn render_elements(
                 continue;
             }
             Shown::Bad(reason) => {
-                return stopped(b, name, cur, state::failed(q, reason));
+                return stopped(b, name, cur, state::failed(q, Some(reason)));
             }
             Shown::Other => {}
         }

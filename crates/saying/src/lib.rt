@@ -70,7 +70,6 @@ pub struct Cursor {
     pub k: usize,
 }
 
-// The next byte of a string and the place behind it, or its end.
 // Where the bytes of a name are: they are all of the lent ones; or what the string of the text says that has its first quote there;
 // or so many bytes, the second number, packed into the lent ones from the bit place on that is the first.
 #[derive(Clone, Copy)]
@@ -80,7 +79,6 @@ pub enum Name {
     Packed(usize, usize),
 }
 
-// A character: how many bytes it has, and where the next one starts.
 // The byte k of four, 0 past the end.
 fn nth(k: usize, a: u8, b: u8, c: u8, d: u8) -> u8
     ensures { result ≡ get_or (a ∷ b ∷ c ∷ d ∷ []) k 0 }
@@ -193,7 +191,7 @@ fn said_count(s: &[u8], i: usize) -> usize
     encoded_count(code_point(s, i))
 }
 
-// The byte at a place of a string.
+// The byte at a place of a string, and the place behind it; None at its end.
 pub fn next_byte(s: &[u8], at: usize, k: usize) -> Option<(u8, Cursor)>
     requires { (length s.now ≤ 65536) × Inside s.now at k }
     ensures { Stepped s.now (remaining s.now at k) result }
@@ -242,7 +240,7 @@ pub fn own_end(s: &[u8], i: usize) -> usize
     i.max(s.len())
 }
 
-// The character at a place of a string.
+// The character at a place of a string: how many bytes it has, and where the next one starts; None at the string's end.
 pub fn next_char(s: &[u8], at: usize) -> Option<(usize, usize)>
     requires { (length s.now ≤ 65536) × (at ≤ 65548) }
     ensures { Charred s.now at result }

@@ -185,7 +185,6 @@ pub fn plain_number_end(s: &[u8], i: usize) -> usize
     w
 }
 
-// A number of 64 bits, or a larger one.
 // What a digit stands for.
 fn digit_value(c: u8) -> u64
     ensures { (result ≡ c - 48) × (result < 256) }
@@ -196,7 +195,7 @@ fn digit_value(c: u8) -> u64
     (c - 48) as u64
 }
 
-// The value of the digits from i up to e.
+// The value of the digits from i up to e; None where it takes more than 64 bits.
 pub fn decimal_value(s: &[u8], i: usize, e: usize) -> Option<u64>
     requires { e ≤ length s.now }
     ensures { result ≡ sized (decimal_value 0 (slice s.now i e)) }

@@ -42,7 +42,6 @@ pub struct Scope {
     pub block: u8,
 }
 
-// What a name stands for.
 // One place is changed: the stack is handed in and back.
 pub fn put_scope(scopes: [Scope; 32], i: usize, c: Scope) -> [Scope; 32]
     requires { i < 32 }

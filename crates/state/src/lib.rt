@@ -55,12 +55,12 @@ pub fn new() -> RenderContext
     }
 }
 
-// The drawing ends for that reason.
-pub fn failed(rc: RenderContext, reason: RenderErrorReason) -> RenderContext
-    ensures { (l : List Scope) → whole result l ≡ failed (whole rc l) (Some reason) }
+// The drawing ends for that reason; None takes a refusal back.
+pub fn failed(rc: RenderContext, bad: Option<RenderErrorReason>) -> RenderContext
+    ensures { (l : List Scope) → whole result l ≡ failed (whole rc l) bad }
 {
     let mut q = rc;
-    q.bad = Some(reason);
+    q.bad = bad;
     q
 }
 

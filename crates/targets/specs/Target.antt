@@ -22,6 +22,7 @@ use Rattle.drawing.specs.Renders.{Named, body_rule, Renders, PartialDrawn, Inclu
 use Rattle.targets.specs.declared.Target.{Target}
 use Rattle.targets.specs.declared.Target.TheVariants.{Bad, Text, Fallback, Body}
 use Rattle.error.specs.declared.RenderErrorReason.TheVariants.{PartialBlockNotFound, PartialNotFound}
+use Rattle.error.specs.Reasons.{Listed}
 
 abbrev pub fallback : RustOption ℕ → Target
 fallback (Some p) = Fallback p
@@ -47,7 +48,7 @@ nothing_at t e = differ (sym (ap is_at e))
 
 -- what is drawn from w for each target draws the partial; x is what its call was worked out to
 abbrev pub Leads : Bytes → Bytes → Options → World → ℕ → ℕ → Expanded → RustOption ℕ → RustOption ℕ → Target → Type 0
-Leads s b o w d p x own at (Bad e) = PartialDrawn s b o w (over (failed w.rc (Some e)) w) d p x own at
+Leads s b o w d p x own at (Bad e) = Listed e × PartialDrawn s b o w (over (failed w.rc (Some e)) w) d p x own at
 Leads s b o w d p x own at (Text from n) =
     (w.rc.writer.high ≤ from) × (from + n ≤ length w.texts) × ((w₂ : World) → Draws s b w w₂ (write (take n (drop from w.texts)) (abs s b w)) → PartialDrawn s b o w w₂ d p x own at)
 Leads s b o w d p x own at (Fallback q) =

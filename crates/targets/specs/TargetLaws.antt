@@ -117,7 +117,7 @@ module _ (s b : Bytes) (ent : List ℕ) (c : RenderContext) (d : ℕ) (name : Va
 
   pub decided_self : y ≡ true → Decided s b ent c d name own (Bad CannotIncludeSelf)
   decided_self q = record {
-    at = λ page texts indent o p x ind named r. includes_self s b o (w page texts indent o p x ind named r) r d p x own ind (λ e k. current page texts indent o p x ind named r e k ∙ q);
+    at = λ page texts indent o p x ind named r. (refl, includes_self s b o (w page texts indent o p x ind named r) r d p x own ind (λ e k. current page texts indent o p x ind named r e k ∙ q));
   }
 
   module _ (other : y ≡ false) (z : Bool) (block : Means s b name (λ j. z ≡ same (render j) (ascii "@partial-block"))) where
@@ -138,7 +138,7 @@ module _ (s b : Bytes) (ent : List ℕ) (c : RenderContext) (d : ℕ) (name : Va
         by_own : (page texts indent : Bytes) (o : Options) (p : ℕ) (x : Expanded) (ind : RustOption ℕ) (named : x.name ≡ name) (r : Ready s b (world c page texts indent ent)) → text_of texts (peeked c.scopes c.used c.writer.high) ≡ none
             → (m : RustOption ℕ) → own ≡ m → MaybeHolds (body 16 d) (bits b) m → Leads s b o (world c page texts indent ent) d p x own ind (fallback m)
         by_own page texts indent o p x ind named r n (Some t) e hm = (hm, e, λ w₂ R. drawn_so page texts indent o p x ind named r _ (fallback_done s b o (world c page texts indent ent) d own r n t e w₂ R))
-        by_own page texts indent o p x ind named r n None e hm = drawn_so page texts indent o p x ind named r _ (without s b o (world c page texts indent ent) d own r n e)
+        by_own page texts indent o p x ind named r n None e hm = (refl, drawn_so page texts indent o p x ind named r _ (without s b o (world c page texts indent ent) d own r n e))
 
         go : (page texts indent : Bytes) (o : Options) (p : ℕ) (x : Expanded) (ind : RustOption ℕ) (named : x.name ≡ name) (r : Ready s b (world c page texts indent ent)) (k : Peek) → peeked c.scopes c.used c.writer.high ≡ k → Leads s b o (world c page texts indent ent) d p x own ind (by_peek own k)
         go page texts indent o p x ind named r peek.Absent e = by_own page texts indent o p x ind named r (ap (text_of texts) e) own refl h
@@ -199,4 +199,4 @@ module _ (s b : Bytes) (ent : List ℕ) (c : RenderContext) (d : ℕ) (name : Va
           go page texts indent o p x ind named r (Some t) e hm =
               (below, hm, (λ n. absurd (n refl)), tt, λ w₂ I. found_own s b o (world c page texts indent ent) r d p x own ind (λ e k. not_self page texts indent o p x ind named r e k) (λ e k. not_block page texts indent o p x ind named r e k) v (λ e k. found_is page texts indent o p x ind named r e k) i t e w₂ I, λ j m. nothing_at j m)
           go page texts indent o p x ind named r None e hm =
-              found_nothing s b o (world c page texts indent ent) r d p x own ind (λ e k. not_self page texts indent o p x ind named r e k) (λ e k. not_block page texts indent o p x ind named r e k) v (λ e k. found_is page texts indent o p x ind named r e k) i e
+              (refl, found_nothing s b o (world c page texts indent ent) r d p x own ind (λ e k. not_self page texts indent o p x ind named r e k) (λ e k. not_block page texts indent o p x ind named r e k) v (λ e k. found_is page texts indent o p x ind named r e k) i e)

@@ -24,7 +24,7 @@ use value::Value;
 // What a partial's name stands for.
 #[derive(Clone, Copy)]
 pub enum Target {
-    // the paper's number of the refusal
+    // why it is refused
     Bad(RenderErrorReason),
     // a finished block text, by its place in the buffer and its length
     Text(usize, usize),

@@ -14,8 +14,9 @@ pub enum Utf {
     Bad,
 }
 
-// What is wanted behind a first byte: Bad where no character starts with it. (Most bytes are told by the first tests. One match over all of them becomes a table of
-// jumps, which costs the check of a bundle a third more time where texts have many characters of three bytes.)
+// What is wanted behind a first byte: Bad where no character starts with it. (Most bytes are told by the first tests.
+// One match over all of them becomes a table of jumps, which costs the check of a bundle a third more time where texts
+// have many characters of three bytes.)
 fn lead(c: u8) -> Utf
     ensures { wanted result ≡ lead c }
 {
