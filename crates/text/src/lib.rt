@@ -66,18 +66,20 @@ fn digits(s: &[u8], b: &[u8], n: u64, k: usize) -> Option<(u8, Text)>
     Some((decimal::digit(n, k), Text::Digits(n, k + 1)))
 }
 
-// The first byte of a text, and what comes behind it.
+// The first byte of a text, and what comes behind it. (One pair is made, at the end: those that the arms hand on would be
+// copied with the bytes between their two parts, in two steps, and read back in one that waits for both.)
 pub fn next(s: &[u8], b: &[u8], t: Text) -> Option<(u8, Text)>
     requires { (length s.now ≤ 65536) × Stands s.now b.now t }
     ensures { Stepped s.now b.now t result }
 {
-    match t {
-        Text::Said(at, k) => said(s, b, at, k),
-        Text::Part(at, k, n) => part(s, b, at, k, n),
-        Text::Packed(p, n) => packed(s, b, p, n),
-        Text::Digits(n, k) => digits(s, b, n, k),
-        Text::Minus(n) => Some((45, Text::Digits(n, 0))),
-    }
+    let (c, u) = match t {
+        Text::Said(at, k) => said(s, b, at, k)?,
+        Text::Part(at, k, n) => part(s, b, at, k, n)?,
+        Text::Packed(p, n) => packed(s, b, p, n)?,
+        Text::Digits(n, k) => digits(s, b, n, k)?,
+        Text::Minus(n) => (45, Text::Digits(n, 0)),
+    };
+    Some((c, u))
 }
 
 // Whether a text has just the bytes w, byte by byte.
