@@ -1,6 +1,7 @@
 -- The code's reasons are those of the rules.
 use Rattle.std.specs.Option.{is_some}
-use Rattle.std.specs.Prelude.{ℕ, true, false, ◌≡◌, refl, Option as RustOption, Some, None, Result, Ok, Err}
+use Rattle.std.specs.Prelude.{ℕ, true, false, ◌≡◌, refl, eqb, Option as RustOption, Some, None, Result, Ok, Err}
+use Rattle.rules.specs.Bytes.{pick}
 use Rattle.std.proofs.Common.{sym, ◌∙◌, subst, arith}
 use Rattle.std.proofs.Math.Path.{ap}
 use Rattle.std.proofs.lemmas.Option.{none-some, same_Some}
@@ -82,6 +83,44 @@ coded entries-limit = EntriesLimit
 coded scopes-limit = ScopesLimit
 coded block-texts-limit = BlockTextsLimit
 coded page-limit = PageLimit
+
+-- the reason of a number: one that is none of the rules' is kept as it is
+unfoldable pub numbered : ℕ → Reason
+numbered n =
+    pick (eqb n 11) MissingVariable
+    (pick (eqb n 12) PartialNotFound
+    (pick (eqb n 13) PartialBlockNotFound
+    (pick (eqb n 14) HelperNotFound
+    (pick (eqb n 15) ParamNotFoundForIndex
+    (pick (eqb n 16) DecoratorNotFound
+    (pick (eqb n 17) CannotIncludeSelf
+    (pick (eqb n 18) InvalidParamType
+    (pick (eqb n 19) BlockContentRequired
+    (pick (eqb n 20) InvalidJsonIndex
+    (pick (eqb n 21) IndentLimit
+    (pick (eqb n 22) EntriesLimit
+    (pick (eqb n 23) ScopesLimit
+    (pick (eqb n 24) BlockTextsLimit
+    (pick (eqb n 25) PageLimit
+    (Other n)))))))))))))))
+
+pub numbered_is : (r : rule.RenderErrorReason) → numbered (rule.number r) ≡ coded r
+unfolding numbered
+numbered_is missing-variable = refl
+numbered_is partial-not-found = refl
+numbered_is partial-block-not-found = refl
+numbered_is helper-not-found = refl
+numbered_is param-not-found-for-index = refl
+numbered_is decorator-not-found = refl
+numbered_is cannot-include-self = refl
+numbered_is invalid-param-type = refl
+numbered_is block-content-required = refl
+numbered_is invalid-json-index = refl
+numbered_is indent-limit = refl
+numbered_is entries-limit = refl
+numbered_is scopes-limit = refl
+numbered_is block-texts-limit = refl
+numbered_is page-limit = refl
 
 -- as the code keeps it: None where nothing is refused
 abbrev pub refusal : rule.RenderErrorReason → RustOption Reason

@@ -43,7 +43,7 @@ use Rattle.helpers.specs.declared.Shows.{Shows}
 use Rattle.helpers.specs.declared.Shows.TheVariants as shows
 use Rattle.error.specs.declared.RenderErrorReason.TheVariants.{HelperNotFound, MissingVariable, ScopesLimit, InvalidJsonIndex}
 use Rattle.error.specs.declared.RenderErrorReason.{RenderErrorReason as Reason}
-use Rattle.error.specs.Reasons.{refusal}
+use Rattle.error.specs.Reasons.{refusal, numbered}
 
 -- what of the registry and the state a helper depends on
 pub record Guided (used : ℕ) (o : Options) (g : Registry) (st : RenderContext) : Type 0 where
@@ -191,13 +191,12 @@ is_collection (jobj m) = true
 abbrev pub shown : Bool → Value → Shows
 shown strict v = pick (is_missing v) (pick strict (shows.Bad MissingVariable) shows.Nothing) (shows.Value v)
 
--- as one number: 0 where it is a helper's, a refusal by its own, 255 for nothing, else 256 more than the value's
+-- as one number: 0 where it is a helper's, below 255 a refusal by its own, 255 for nothing, else 256 more than the value's
 unfoldable pub shows_of : ℕ → Shows
 shows_of n =
     pick (eqb n 0) shows.Helper
-    (pick (eqb n 11) (shows.Bad MissingVariable)
-    (pick (eqb n 20) (shows.Bad InvalidJsonIndex)
-    (pick (eqb n 255) shows.Nothing (shows.Value (decoded (n - 256))))))
+    (pick (ltb n 255) (shows.Bad (numbered n))
+    (pick (eqb n 255) shows.Nothing (shows.Value (decoded (n - 256)))))
 
 pub shows_helper : shows_of 0 ≡ shows.Helper
 unfolding shows_of
@@ -208,16 +207,21 @@ unfolding shows_of
 shows_nothing = refl
 
 pub shows_missing : shows_of 11 ≡ shows.Bad MissingVariable
-unfolding shows_of
+unfolding shows_of numbered
 shows_missing = refl
 
 pub shows_bad_index : shows_of 20 ≡ shows.Bad InvalidJsonIndex
-unfolding shows_of
+unfolding shows_of numbered
 shows_bad_index = refl
 
-pub shows_value : (n : ℕ) → 255 < n → shows_of n ≡ shows.Value (decoded (n - 256))
-unfolding shows_of
-shows_value n lt = rw (ne_eqb n 0 (λ e. omega arith), ne_eqb n 11 (λ e. omega arith), ne_eqb n 20 (λ e. omega arith), ne_eqb n 255 (λ e. omega arith))
+module _ (n : ℕ) where
+  pub shows_bad : (n ≡ 0 → ⊥) → n < 255 → shows_of n ≡ shows.Bad (numbered n)
+  unfolding shows_of
+  shows_bad h lt = rw (ne_eqb n 0 h, lt-ltb n 255 lt)
+
+  pub shows_value : 255 < n → shows_of n ≡ shows.Value (decoded (n - 256))
+  unfolding shows_of
+  shows_value lt = rw (ne_eqb n 0 (λ e. omega arith), le-ltb n 255 (omega arith), ne_eqb n 255 (λ e. omega arith))
 
 abbrev pub rendered : Bool → Result Value Reason → Shows
 rendered strict (Ok v) = shown strict v
