@@ -110,8 +110,9 @@ module _ (s b : Bytes) (o : Options) (w : World) (d p : ℕ) (own at : RustOptio
       finishes_by : (g : RenderContext → RenderContext) → ((c : RenderContext) → (g c).bad ≡ c.bad) → (u : World) → PartialDrawn s b o w₁ (over (unless_bad g u.rc) u) d p x own at → Renders s b o w (over (unless_bad (λ c. settled (g c) m) u.rc) u) rule
       finishes_by g same u D = subst (λ (c : RenderContext). Renders s b o w (over c u) rule) (unless_both (λ c. settled c m) g same u.rc) (finishes (over (unless_bad g u.rc) u) D)
 
-      pub begun_bad : (n : Reason) → Leads s b o w₁ d p x own at (to.Bad n) → Renders s b o w (over (failed w₁.rc (Some n)) w₁) rule
-      begun_bad n L = refused (over (failed w₁.rc (Some n)) w₁) L.1 (λ z. none-some n (sym z))
+      -- (any number may be the reason: `Leads` also tells that it is one of the rules')
+      pub begun_bad : (n : Reason) → PartialDrawn s b o w₁ (over (failed w₁.rc (Some n)) w₁) d p x own at → Renders s b o w (over (failed w₁.rc (Some n)) w₁) rule
+      begun_bad n D = refused (over (failed w₁.rc (Some n)) w₁) D (λ z. none-some n (sym z))
 
       pub begun_text : (f n : ℕ) → Leads s b o w₁ d p x own at (to.Text f n) → (u : World) → Draws s b w₁ u (write (take n (drop f w.texts)) (abs s b w₁)) → Renders s b o w (over (finished m u.rc) u) rule
       begun_text f n L u D = finishes u (L.2 u D)
