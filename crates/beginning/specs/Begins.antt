@@ -182,7 +182,7 @@ module _ (s : Bytes) (tab : List ℕ) (b : Bytes) (index : List ℕ) (o : Option
         all = joined_any s b ent (top w) d p P.4 v view g (abs s b w) x₀ (head g (abs s b w) (top w) here) fine₀ (λ _. HashValuesIn s b ent (top w) d v.pair v.pairs g (abs s b w) (replicate 15 0) values) bad (hashed g (abs s b w) (top w) here)
 
         -- the whole call
-        pub x : Expanded
+        x : Expanded
         x = with_hash x₀ all.0 bad
 
         worked : IsTemplate s b ent (top w) (expand.try_from_template g (abs s b w) (call_at d (bits b) p)) x
@@ -267,19 +267,31 @@ module _ (s : Bytes) (tab : List ℕ) (b : Bytes) (index : List ℕ) (o : Option
               )
 
               -- it is refused, for whatever reason
-              pub target_refused : (n : Reason) → PartialDrawn s b o w₁ (over (failed w₁.rc (Some n)) w₁) d p x own at → (u : code.RenderContext) → ((k : List Scope) → whole u k ≡ failed (whole q k) (Some n)) → (y : Begun) → y ≡ done u front → Begins page texts indent ent y
+              pub target_refused : (n : Reason)
+                  → ((z : Expanded) → z.name ≡ x₀.name
+                  → PartialDrawn s b o w₁ (over (failed w₁.rc (Some n)) w₁) d p z own at)
+                  → (u : code.RenderContext)
+                  → ((k : List Scope) → whole u k ≡ failed (whole q k) (Some n))
+                  → (y : Begun) → y ≡ done u front
+                  → Begins page texts indent ent y
               target_refused n D u is =
                   done_by q u (λ z. failed z (Some n)) is (λ z. refl) (λ z. refl) q_front q_one q_most page texts
-                  (subst (λ (z : World). Renders s b o w (over (failed z.rc (Some n)) z) rule) w_is (begun_bad s b o w d p own at before r x worked so they_fit n D))
+                  (subst (λ (z : World). Renders s b o w (over (failed z.rc (Some n)) z) rule) w_is
+                  (begun_bad s b o w d p own at before r x worked so they_fit n (D x x_name)))
 
               module _ (t : Target) (D : Decided s b ent (whole q l) d x₀.name own t) where
+                leads_of : (z : Expanded) → z.name ≡ x₀.name
+                    → (u : Target) → t ≡ u
+                    → Leads s b o w₁ d p z own at u
+                leads_of z named u i =
+                    let E = subst (λ (k : RenderContext). Decided s b ent k d x₀.name own t) (aware l) D in
+                    subst (Leads s b o w₁ d p z own at) i (E.at page texts indent o p z at named ready₁)
+
                 leads : (u : Target) → t ≡ u → Leads s b o w₁ d p x own at u
-                leads u i =
-                    subst (Leads s b o w₁ d p x own at) i
-                    ((subst (λ (z : RenderContext). Decided s b ent z d x₀.name own t) (aware l) D).at page texts indent o p x at x_name ready₁)
+                leads = leads_of x x_name
 
                 pub target_bad : (n : Reason) → t ≡ to.Bad n → (u : code.RenderContext) → ((k : List Scope) → whole u k ≡ failed (whole q k) (Some n)) → (y : Begun) → y ≡ done u front → Begins page texts indent ent y
-                target_bad n i = target_refused n (leads (to.Bad n) i).1
+                target_bad n i = target_refused n (λ z named. (leads_of z named (to.Bad n) i).1)
 
                 -- a block text
                 module _ (from n : ℕ) (i : t ≡ to.Text from n) where

@@ -211,13 +211,17 @@ module _ (s : Bytes) (tab : List ℕ) (b : Bytes) (ent : List ℕ) (indent : Byt
   module _ (ent' : List ℕ) (q e name : ℕ) where
     -- the scope is refused, for whatever reason: `Opens` also tells that it is one of the rules'
     pub enter_bad : (own : RustOption ℕ) (k : Reason)
-        → ((c' : RenderContext) (o : Options) (p : ℕ) (x : Expanded) → Tops c' front c.used c.total → Given s b ent o c' d p x base r n l → ScopeOpened s b ent ent' o c' (failed c' (Some k)) d p x)
+        → ((c' : RenderContext) (o : Options) (p : ℕ) (x : Expanded)
+        → Tops c' front c.used c.total
+        → Given s b ent o c' d p x base r n l
+        → ScopeOpened s b ent ent' o c' (failed c' (Some k)) d p x)
         → (v : code.RenderContext) → ((z : List Scope) → whole v z ≡ failed (whole c z) (Some k))
         → Enters s b ent ent' indent indent c front base d r n l q e name own at (done v front)
     enter_bad own k O v is = record {
       at = λ z F o p x G nm page texts ready y W.
           let long : length z ≡ 32 = array_length c z ready.sized in
-          let E = (O (whole c z) o p x (front_tops c z front long ready.one ready.most F) G).at page texts indent ready y W q e name own at in
+          let T = front_tops c z front long ready.one ready.most F in
+          let E = (O (whole c z) o p x T G).at page texts indent ready y W q e name own at in
           let top : topped v z front ≡ failed (whole c z) (Some k) = front_made v c (λ w. failed w (Some k)) is (λ w. refl) (λ w. refl) ready.most z front long ready.one F in
           subst (λ (w : RenderContext). EnteredNext s b o (world (whole c z) page texts indent ent) (world w page texts indent ent') d p x q e name own at Done) (sym top) (E.refused (λ e. none-some k (sym e)), λ e. none-some k (sym e));
       counts = (front_by v c (λ w. failed w (Some k)) is (λ w. refl) (λ w. refl) P.ready.most P.scopes front P.newest).current;

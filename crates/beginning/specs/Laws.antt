@@ -111,7 +111,9 @@ module _ (s b : Bytes) (o : Options) (w : World) (d p : ℕ) (own at : RustOptio
       finishes_by g same u D = subst (λ (c : RenderContext). Renders s b o w (over c u) rule) (unless_both (λ c. settled c m) g same u.rc) (finishes (over (unless_bad g u.rc) u) D)
 
       -- (any number may be the reason: `Leads` also tells that it is one of the rules')
-      pub begun_bad : (n : Reason) → PartialDrawn s b o w₁ (over (failed w₁.rc (Some n)) w₁) d p x own at → Renders s b o w (over (failed w₁.rc (Some n)) w₁) rule
+      pub begun_bad : (n : Reason)
+          → PartialDrawn s b o w₁ (over (failed w₁.rc (Some n)) w₁) d p x own at
+          → Renders s b o w (over (failed w₁.rc (Some n)) w₁) rule
       begun_bad n D = refused (over (failed w₁.rc (Some n)) w₁) D (λ z. none-some n (sym z))
 
       pub begun_text : (f n : ℕ) → Leads s b o w₁ d p x own at (to.Text f n) → (u : World) → Draws s b w₁ u (write (take n (drop f w.texts)) (abs s b w₁)) → Renders s b o w (over (finished m u.rc) u) rule

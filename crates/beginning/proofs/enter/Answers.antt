@@ -36,7 +36,9 @@ returns-in-Err c = let z = c in
     let a = z.args in
     let O = subst (Opens a.s.now a.b.now a.ent.now c.open_scope-opened.new.ent a.front a.base a.d a.r a.n a.values.now a.rc.used a.rc.total) c.in-Err.is c.open_scope-opened.ensures in
     subst (Enters a.s.now a.b.now a.ent.now c.open_scope-opened.new.ent a.indent.now a.indent.now a.rc a.front a.base a.d a.r a.n a.values.now a.q a.e a.name a.own a.at) (sym c.done.ensures)
-    (enter_bad a.s.now a.tab.now a.b.now a.ent.now a.indent.now a.rc a.front a.base a.d a.r a.n a.values.now a.at z.requires c.open_scope-opened.new.ent a.q a.e a.name a.own c.in-Err.e (λ v o p x T G. O.at v o p x 0 T G tt) c.failed.result c.failed.ensures)
+    (enter_bad a.s.now a.tab.now a.b.now a.ent.now a.indent.now a.rc a.front a.base a.d a.r a.n a.values.now
+    a.at z.requires c.open_scope-opened.new.ent a.q a.e a.name a.own c.in-Err.e (λ v o p x T G. O.at v o p x 0 T G tt)
+    c.failed.result c.failed.ensures)
 
 pub shape_of-ent-in-Some : goal.shape_of-ent-in-Some
 shape_of-ent-in-Some c = let y = c.open_scope-opened in let z = c.ent-1 in let x = c.slice_known-1 in search rules
